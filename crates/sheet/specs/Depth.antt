@@ -1,0 +1,31 @@
+-- The number of values on the stack after an operation, or the rule that it breaks: what the code keeps of a stack of trees.
+use Prim.Native.Nat.{ℕ, _+_, _-_}
+use mathlib.Core.Bool.{cond}
+use mathlib.Core.List.{List, [], _∷_}
+use lib.Dec.{ltb, eqb}
+use Rattle.sheet.specs.Bytes.{opOf}
+use Rattle.sheet.specs.declared.StreamNo.{StreamNo}
+use Rattle.sheet.specs.declared.Op.{Op}
+use Rattle.sheet.specs.declared.Op.the-variants.{Const, Not, And, Or, Read, Rejected}
+use Rattle.sheet.specs.declared.Depth.{Depth}
+use Rattle.sheet.specs.declared.Depth.the-variants.{Is, Refused}
+use Rattle.refusal.specs.declared.Outcome.{Outcome}
+use Rattle.refusal.specs.declared.Outcome.the-variants as outcome
+use Rattle.refusal.specs.declared.Refusal.the-variants.{Byte, Values}
+
+unfoldable pub depthAfter : ℕ → Op → ℕ → Depth
+depthAfter s (Const v) d = Is (d + 1)
+depthAfter s Not d = cond (ltb d 1) (Refused Values) (Is d)
+depthAfter s And d = cond (ltb d 2) (Refused Values) (Is (d - 1))
+depthAfter s Or d = cond (ltb d 2) (Refused Values) (Is (d - 1))
+depthAfter s (Read q o v) d = cond (ltb (q .0) s) (Is (d + 1)) (Refused Byte)
+depthAfter s (Rejected r) d = Refused r
+
+abbrev pub onwards : Depth → (ℕ → Outcome) → Outcome
+onwards (Is d) f = f d
+onwards (Refused r) f = outcome.Refused r
+
+-- the check of an expression that keeps the number of values alone (the law `depth-check` of proofs/Depths.antt: it agrees with the trees)
+unfoldable pub depthCheck : ℕ → ℕ → List ℕ → Outcome
+depthCheck s d [] = cond (eqb d 1) outcome.Accepted (outcome.Refused Values)
+depthCheck s d (b ∷ bs) = onwards (depthAfter s (opOf b) d) (λ e. depthCheck s e bs)

@@ -1,0 +1,65 @@
+-- Expressions as trees, and how postfix bytes are read: a stack of trees, on which each byte works.
+use Prim.Native.Nat.{ℕ}
+use mathlib.Core.Bool.{Bool, true, false, cond}
+use mathlib.Core.List.{List, [], _∷_}
+use lib.Dec.{ltb}
+use Rattle.sheet.specs.Bytes.{opOf}
+use Rattle.sheet.specs.declared.StreamNo.{StreamNo}
+use Rattle.sheet.specs.declared.Offset.{Offset}
+use Rattle.sheet.specs.declared.Op.{Op}
+use Rattle.sheet.specs.declared.Op.the-variants.{Const, Not, And, Or, Read, Rejected}
+use Rattle.refusal.specs.declared.Refusal.{Refusal}
+use Rattle.refusal.specs.declared.Refusal.the-variants.{Byte, Values}
+use Rattle.refusal.specs.declared.Outcome.{Outcome}
+use Rattle.refusal.specs.declared.Outcome.the-variants.{Accepted, Refused}
+
+pub data Expr : Type 0 where
+  constant : Bool → Expr
+  negation : Expr → Expr
+  conjunction : Expr → Expr → Expr
+  disjunction : Expr → Expr → Expr
+  -- the stream's number, the round, and the value where there is no such round
+  read : ℕ → Offset → Bool → Expr
+
+-- the stack after a byte, or the rule that the byte breaks
+pub data Next : Type 0 where
+  stack : List Expr → Next
+  breaks : Refusal → Next
+
+-- what an operation does to the stack, its top first, in a sheet of s streams: 7 (Byte) before 8 (Values)
+unfoldable pub applyOp : ℕ → Op → List Expr → Next
+applyOp s (Const v) st = stack (constant v ∷ st)
+applyOp s Not [] = breaks Values
+applyOp s Not (a ∷ st) = stack (negation a ∷ st)
+applyOp s And [] = breaks Values
+applyOp s And (b ∷ []) = breaks Values
+applyOp s And (b ∷ (a ∷ st)) = stack (conjunction a b ∷ st)
+applyOp s Or [] = breaks Values
+applyOp s Or (b ∷ []) = breaks Values
+applyOp s Or (b ∷ (a ∷ st)) = stack (disjunction a b ∷ st)
+applyOp s (Read q o d) st = cond (ltb (q .0) s) (stack (read (q .0) o d ∷ st)) (breaks Byte)
+applyOp s (Rejected r) st = breaks r
+
+-- the tree of a whole expression, or the rule that it breaks first
+pub data Parsed : Type 0 where
+  tree : Expr → Parsed
+  broken : Refusal → Parsed
+
+-- the end must leave exactly one value
+unfoldable pub final : List Expr → Parsed
+final [] = broken Values
+final (t ∷ []) = tree t
+final (t ∷ (u ∷ st)) = broken Values
+
+abbrev pub go-on : Next → (List Expr → Parsed) → Parsed
+go-on (stack st) f = f st
+go-on (breaks r) f = broken r
+
+-- an expression's bytes, read from the stack st on
+unfoldable pub parse : ℕ → List Expr → List ℕ → Parsed
+parse s st [] = final st
+parse s st (b ∷ bs) = go-on (applyOp s (opOf b) st) (λ st′. parse s st′ bs)
+
+abbrev pub outcomeOf : Parsed → Outcome
+outcomeOf (tree t) = Accepted
+outcomeOf (broken r) = Refused r

@@ -1,0 +1,9 @@
+pub mod Bytes
+pub mod Expression
+pub mod Header
+pub mod RuleSheet
+pub mod Depth
+pub mod Answer
+pub mod Reading
+pub mod Checks
+pub mod Postfix

@@ -1,0 +1,40 @@
+-- How an expression is written in bytes, from the tree's side. An expression's bytes are read as a tree exactly if they are its
+-- writing and its reads are of the sheet's streams (the law `tree-exactly` of proofs/Postfixes.antt).
+use Prim.Native.Nat.{ℕ, _+_, _<_}
+use mathlib.Core.Path.{_≡_}
+use mathlib.Core.Bool.{Bool, true, false}
+use mathlib.Core.List.{List, [], _∷_, _++_}
+use Rattle.sheet.specs.Expression.{Expr, constant, negation, conjunction, disjunction, read}
+use Rattle.sheet.specs.declared.Offset.{Offset}
+use Rattle.sheet.specs.declared.Offset.the-variants.{Earlier, Now, Later}
+
+-- the byte of a read of stream q
+unfoldable pub readByte : ℕ → Offset → Bool → ℕ
+readByte q Now v = 0x40 + q
+readByte q Earlier false = 0x50 + q
+readByte q Earlier true = 0x58 + q
+readByte q Later false = 0x60 + q
+readByte q Later true = 0x68 + q
+
+-- postfix: an operator stands after its values
+unfoldable pub written : Expr → List ℕ
+written (constant false) = 0x00 ∷ []
+written (constant true) = 0x01 ∷ []
+written (negation a) = written a ++ (0x02 ∷ [])
+written (conjunction a b) = written a ++ (written b ++ (0x03 ∷ []))
+written (disjunction a b) = written a ++ (written b ++ (0x04 ∷ []))
+written (read q o v) = readByte q o v ∷ []
+
+-- a read of the current round has no value for a missing round; it is kept as false
+abbrev pub Kept : Offset → Bool → Type 0
+Kept Now v = v ≡ false
+Kept Earlier v = Unit {0}
+Kept Later v = Unit {0}
+
+-- every read is of one of the s streams, and of one of the 8 that a byte can name
+unfoldable pub InSheet : ℕ → Expr → Type 0
+InSheet s (constant v) = Unit {0}
+InSheet s (negation a) = InSheet s a
+InSheet s (conjunction a b) = InSheet s a × InSheet s b
+InSheet s (disjunction a b) = InSheet s a × InSheet s b
+InSheet s (read q o v) = (q < s) × (q < 8) × Kept o v

@@ -1,0 +1,11 @@
+pub mod Runs
+pub mod Tests
+pub mod Range
+pub mod Search
+pub mod Follow
+pub mod Reach
+pub mod Verdicts
+pub mod Steps
+pub mod Count
+pub mod Backward
+pub mod Letters

@@ -1,0 +1,4 @@
+pub mod Live
+pub mod Completion
+pub mod Judged
+pub mod Steps

@@ -1,3 +1,4 @@
 pub mod Value
 pub mod Equations
 pub mod Reads
+pub mod Slots

@@ -6,3 +6,4 @@ pub mod Headers
 pub mod Postfixes
 pub mod Packing
 pub mod First
+pub mod Formed

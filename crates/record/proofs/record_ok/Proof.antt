@@ -1,0 +1,75 @@
+use borrow.Author.Needs.{needs}
+use Prim.Native.Nat.{ℕ, _+_, _*_, _-_, _≤_, _<_}
+use mathlib.Core.Path.{_≡_, refl, sym, _∙_, ap}
+use mathlib.Core.Bool.{Bool, true, false}
+use denote.Ref.{now}
+use lib.ListN.{length, getD, length-set}
+use native.Mathlib.Omega.{arith}
+use Rattle.record.specs.Record.{addUp, sumAt}
+use Rattle.record.proofs.Tallies.{add-up-more, add-up-not, too-many, by-counts}
+use Rattle.record.proofs.record_ok.Statement.{statement}
+use Rattle.record.proofs.record_ok.Tie as tie
+use Rattle.record.proofs.record_ok.Reads as reads
+use Rattle.record.proofs.record_ok.Lts as lts
+use Rattle.record.proofs.sum_at.Reads as sum-at-reads
+use Rattle.record.proofs.wide.Reads as wide-reads
+
+abbrev Inv-loop : tie.InvT-loop
+Inv-loop n t counts k₀ k = (k ≤ n) × (addUp counts t k ≡ true)
+
+abbrev μ-loop : tie.MeasureT-loop
+μ-loop n t counts k₀ k = n - k
+
+returns : tie.Need-returns Inv-loop μ-loop
+returns c = sym (too-many (c .before .before .args .n) (c .before .before .args .r) (c .if1 .taken))
+
+wide-requires : tie.Need-wide-requires Inv-loop μ-loop
+wide-requires c κs = search needs
+
+loop-holds : tie.Need-loop-holds Inv-loop μ-loop
+unfolding addUp
+loop-holds c = (omega arith, refl)
+
+slice-aggregate-sum-at : tie.Need-slice-aggregate-sum-at Inv-loop μ-loop
+slice-aggregate-sum-at c = search needs
+
+sum-at-requires : tie.Need-sum-at-requires Inv-loop μ-loop
+sum-at-requires c κs = (omega arith, search needs)
+
+returns-2 : tie.Need-returns-2 Inv-loop μ-loop
+returns-2 c = 
+    sym (by-counts (c .before .before .before .before .before .before .before .before .before .args .n) (c .before .before .before .before .before .before .before .before .before .args .r) false (omega arith)
+    (add-up-not (c .before .before .before .before .before .before .before .before .before .args .r .counts) (c .before .before .before .before .before .before .before .before .before .args .r .rounds) (c .before .before .before .before .loop .k) (c .before .before .before .before .before .before .before .before .before .args .n) (omega arith)
+    (λ e. c .if2 .taken (c .before .sum-at .ensures ∙ e ∙ sym (c .before .before .before .before .before .before .wide .ensures)))))
+
+add-k : tie.Need-add-k Inv-loop μ-loop
+add-k c = omega arith
+
+loop-less : tie.Need-loop-less Inv-loop μ-loop
+loop-less c = omega arith
+
+loop-again : tie.Need-loop-again Inv-loop μ-loop
+loop-again c = (omega arith, add-up-more (c .before .before .before .before .before .before .before .before .before .args .r .counts) (c .before .before .before .before .before .before .wide .result) (c .before .before .before .before .loop .k) (sym (c .before .sum-at .ensures) ∙ c .if2 .left) (c .before .before .before .before .loop .inv .1))
+
+returns-3 : tie.Need-returns-3 Inv-loop μ-loop
+returns-3 c = 
+    let e : c .before .loop .k ≡ c .before .before .before .before .before .before .args .n = omega arith in
+    sym (by-counts (c .before .before .before .before .before .before .args .n) (c .before .before .before .before .before .before .args .r) true (omega arith)
+    (ap (addUp (c .before .before .before .before .before .before .args .r .counts) (c .before .before .before .before .before .before .args .r .rounds)) (sym e) ∙ rw (c .before .before .before .wide .ensures) at (c .before .loop .inv .1)))
+
+pub record-ok-spec : {M : Type 1} → statement M
+record-ok-spec =
+    tie.close
+    (tie.spec
+    Inv-loop
+    μ-loop
+    returns
+    wide-requires
+    loop-holds
+    slice-aggregate-sum-at
+    sum-at-requires
+    returns-2
+    add-k
+    loop-less
+    loop-again
+    returns-3)

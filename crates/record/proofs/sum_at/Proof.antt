@@ -1,0 +1,97 @@
+use Prim.Native.Nat.{ℕ, _+_, _*_, _-_, _≤_, _<_}
+use mathlib.Core.Path.{_≡_, refl, sym, _∙_, ap}
+use mathlib.Core.Bool.{Bool, true, false}
+use denote.Ref.{now}
+use lib.ListN.{length, getD, length-set}
+use native.Mathlib.Omega.{arith}
+use borrow.Author.Needs.{needs}
+use Rattle.record.proofs.sum_at.Statement.{statement}
+use Rattle.record.proofs.sum_at.Tie as tie
+use Rattle.record.proofs.sum_at.Reads as reads
+use Rattle.record.proofs.sum_at.Lts as lts
+use Rattle.record.proofs.wide.Reads as wide-reads
+
+mul-at : tie.Need-mul-at
+mul-at c = search needs
+
+mul-wide : tie.Need-mul-wide
+mul-wide c = search needs
+
+shared-slice-read-wide : tie.Need-shared-slice-read-wide
+shared-slice-read-wide c = search needs
+
+wide-requires : tie.Need-wide-requires
+wide-requires c κs = search needs
+
+add-wide : tie.Need-add-wide
+add-wide c = search needs
+
+mul-wide-2 : tie.Need-mul-wide-2
+mul-wide-2 c = search needs
+
+shared-slice-read-wide-2 : tie.Need-shared-slice-read-wide-2
+shared-slice-read-wide-2 c = search needs
+
+wide-requires-2 : tie.Need-wide-requires-2
+wide-requires-2 c κs = search needs
+
+add-result : tie.Need-add-result
+add-result c = omega (arith, c .wide2 .ensures, c .before .before .wide .ensures, c .before .shared-slice-known3 .given (4 * c .before .before .before .before .before .args .k + 1), c .before .before .before .shared-slice-known2 .given (4 * c .before .before .before .before .before .args .k))
+
+add-wide-2 : tie.Need-add-wide-2
+add-wide-2 c = search needs
+
+mul-wide-3 : tie.Need-mul-wide-3
+mul-wide-3 c = search needs
+
+shared-slice-read-wide-3 : tie.Need-shared-slice-read-wide-3
+shared-slice-read-wide-3 c = search needs
+
+wide-requires-3 : tie.Need-wide-requires-3
+wide-requires-3 c κs = search needs
+
+add-result-2 : tie.Need-add-result-2
+add-result-2 c = omega (arith, c .before .shared-slice-known4 .given (4 * c .before .before .before .before .before .before .before .args .k + 2), c .before .before .before .shared-slice-known3 .given (4 * c .before .before .before .before .before .before .before .args .k + 1), c .before .before .before .before .before .shared-slice-known2 .given (4 * c .before .before .before .before .before .before .before .args .k))
+
+add-wide-3 : tie.Need-add-wide-3
+add-wide-3 c = search needs
+
+mul-wide-4 : tie.Need-mul-wide-4
+mul-wide-4 c = search needs
+
+shared-slice-read-wide-4 : tie.Need-shared-slice-read-wide-4
+shared-slice-read-wide-4 c = search needs
+
+wide-requires-4 : tie.Need-wide-requires-4
+wide-requires-4 c κs = search needs
+
+add-result-3 : tie.Need-add-result-3
+add-result-3 c = omega (arith, c .before .shared-slice-known5 .given (4 * c .before .before .before .before .before .before .before .before .before .args .k + 3), c .before .before .before .shared-slice-known4 .given (4 * c .before .before .before .before .before .before .before .before .before .args .k + 2), c .before .before .before .before .before .shared-slice-known3 .given (4 * c .before .before .before .before .before .before .before .before .before .args .k + 1), c .before .before .before .before .before .before .before .shared-slice-known2 .given (4 * c .before .before .before .before .before .before .before .before .before .args .k))
+
+returns : tie.Need-returns
+returns c = rw (c .before .before .before .before .before .before .wide .ensures, c .before .before .before .before .wide2 .ensures, c .before .before .wide3 .ensures, c .wide4 .ensures) (ap (λ (z : ℕ). getD (now (c .before .before .before .before .before .before .before .before .before .args .counts)) z 0 + getD (now (c .before .before .before .before .before .before .before .before .before .args .counts)) (4 * c .before .before .before .before .before .before .before .before .before .args .k + 1) 0 + getD (now (c .before .before .before .before .before .before .before .before .before .args .counts)) (4 * c .before .before .before .before .before .before .before .before .before .args .k + 2) 0 + getD (now (c .before .before .before .before .before .before .before .before .before .args .counts)) (4 * c .before .before .before .before .before .before .before .before .before .args .k + 3) 0) (omega arith))
+
+pub sum-at-spec : {M : Type 1} → statement M
+sum-at-spec =
+    tie.close
+    (tie.spec
+    mul-at
+    mul-wide
+    shared-slice-read-wide
+    wide-requires
+    add-wide
+    mul-wide-2
+    shared-slice-read-wide-2
+    wide-requires-2
+    add-result
+    add-wide-2
+    mul-wide-3
+    shared-slice-read-wide-3
+    wide-requires-3
+    add-result-2
+    add-wide-3
+    mul-wide-4
+    shared-slice-read-wide-4
+    wide-requires-4
+    add-result-3
+    returns)

@@ -1,0 +1,80 @@
+-- What holds of every sheet that is read: its counts are in range, and its reads are of its own streams. Assumes nothing.
+use mathlib.Core.Path.{_≡_, refl, sym, ap, _∙_, subst}
+use Prim.Native.Nat.{ℕ, zero, suc, _+_, _≤_, _<_}
+use native.Mathlib.Omega.{arith}
+use mathlib.Core.Bool.{Bool, true, false, cond}
+use mathlib.Core.List.{List, [], _∷_}
+use lib.ListN.{length, getD, take, drop}
+use Rattle.refusal.specs.declared.Refusal.the-variants.{Length}
+use Rattle.sheet.specs.Expression.{Expr, constant, Parsed, tree, broken, parse}
+use Rattle.sheet.specs.Header.{headerOf}
+use Rattle.sheet.specs.RuleSheet.{RuleSheet, outputs, streams, Reading, refused, accepted, Outputs, trees, breaks, lengthOk, andThen, readOutputs, withOutputs, withHeader, readSheet, requiredOf}
+use Rattle.sheet.specs.Reading.{ruleSheet, treeOf, codeAt, Usable, Ranges}
+use Rattle.sheet.specs.Postfix.{InSheet}
+use Rattle.sheet.specs.declared.Sheet.{Sheet}
+use Rattle.sheet.specs.declared.Assumed.{Assumed}
+use Rattle.sheet.specs.declared.Header.{Header}
+use Rattle.sheet.specs.declared.Header.the-variants.{Fields, Refused}
+use Rattle.sheet.proofs.Sheets.{tree-at, length-trees}
+use Rattle.sheet.proofs.Headers.{fields}
+use Rattle.sheet.proofs.Postfixes.{tree-exactly}
+
+pub record Formed (x : RuleSheet) : Type 0 where
+  pub ranges : Ranges (x .inputs) (outputs x)
+  pub each : (s : ℕ) → s < outputs x → InSheet (streams x) (getD (x .expressions) s (constant false))
+
+-- the outputs that are read
+abbrev AllIn : ℕ → ℕ → List Expr → Type 0
+AllIn s k ts = (length ts ≡ k) × ((i : ℕ) → i < k → InSheet s (getD ts i (constant false)))
+
+all-in : (s k : ℕ) (bs : List ℕ) (ts : List Expr) → readOutputs s k bs ≡ trees ts → AllIn s k ts
+unfolding readOutputs
+all-in s zero [] ts h = let e : [] ≡ ts = cc in (ap length (sym e), λ i l. absurd (omega arith))
+all-in s zero (b ∷ bs) ts h = absurd (let y : _≡_ {A = ℕ} 0 1 = cc in omega arith)
+all-in s (suc k) [] ts h = absurd (let y : _≡_ {A = ℕ} 0 1 = cc in omega arith)
+all-in s (suc k) (l ∷ bs) ts h =
+    go (lengthOk l bs) (parse s [] (take l bs)) refl (readOutputs s k (drop l bs)) (λ us e. all-in s k (drop l bs) us e) h
+  where
+    at : (t : Expr) (us : List Expr) → InSheet s t → AllIn s k us → AllIn s (suc k) (t ∷ us)
+    at t us p q = (ap suc (q .0), λ i g. each i g)
+      where
+        each : (i : ℕ) → i < suc k → InSheet s (getD (t ∷ us) i (constant false))
+        each zero g = p
+        each (suc i) g = q .1 i (omega arith)
+
+    go : (b : Bool) (p : Parsed) → parse s [] (take l bs) ≡ p → (o : Outputs) → ((us : List Expr) → o ≡ trees us → AllIn s k us)
+        → cond b (andThen p o) (breaks Length) ≡ trees ts → AllIn s (suc k) ts
+    go true (tree t) e (trees us) r h =
+        let same : t ∷ us ≡ ts = cc in
+        subst (AllIn s (suc k)) same (at t us (tree-exactly s (take l bs) t .0 e .1) (r us refl))
+    go true (tree t) e (breaks x) r h = absurd (let y : _≡_ {A = ℕ} 0 1 = cc in omega arith)
+    go true (broken x) e o r h = absurd (let y : _≡_ {A = ℕ} 0 1 = cc in omega arith)
+    go false p e o r h = absurd (let y : _≡_ {A = ℕ} 0 1 = cc in omega arith)
+
+formed-of : (m n : ℕ) (a : Assumed) → Ranges m n → (bs : List ℕ) (o : Outputs) → readOutputs (m + n) n bs ≡ o → (x : RuleSheet) → withOutputs m n a o ≡ accepted x → Formed x
+formed-of m n a g bs (trees ts) e x h =
+    let r = all-in (m + n) n bs ts e in
+    let y : RuleSheet = record { inputs = m; expressions = ts; required = requiredOf a } in
+    let same : y ≡ x = cc in
+    subst Formed same (record { ranges = rw (r .0) g; each = λ s l. subst (λ (z : ℕ). InSheet (m + z) (getD ts s (constant false))) (sym (r .0)) (r .1 s (omega (arith, r .0))) })
+formed-of m n a g bs (breaks r) e x h = absurd (let y : _≡_ {A = ℕ} 0 1 = cc in omega arith)
+
+pub read-formed : (bs : List ℕ) (x : RuleSheet) → readSheet bs ≡ accepted x → Formed x
+unfolding readSheet
+read-formed bs x h = go (headerOf bs) refl h
+  where
+    go : (k : Header) → headerOf bs ≡ k → withHeader bs k ≡ accepted x → Formed x
+    go (Fields m n a) f e = formed-of m n a (fields bs m n a f .1) (drop 8 bs) (readOutputs (m + n) n (drop 8 bs)) refl x e
+    go (Refused r) f e = absurd (let y : _≡_ {A = ℕ} 0 1 = cc in omega arith)
+
+pub usable-formed : (x : Sheet) → Usable x → Formed (ruleSheet x)
+usable-formed x u =
+    let n : outputs (ruleSheet x) ≡ x .outputs = length-trees (x .inputs + x .outputs) (x .code) (x .len) (x .outputs) in
+    record {
+      ranges = rw n (u .ranges);
+      each = λ s l.
+          let h : s < x .outputs = omega arith in
+          rw (tree-at (x .inputs + x .outputs) (x .code) (x .len) (x .outputs) s (constant false) h)
+          (subst (λ (z : ℕ). InSheet (x .inputs + z) (treeOf (parse (x .inputs + x .outputs) [] (codeAt (x .code) (x .len) s)))) (sym n)
+          (tree-exactly (x .inputs + x .outputs) (codeAt (x .code) (x .len) s) _ .0 (u .parts s h .parses) .1));
+    }

@@ -1,0 +1,339 @@
+//! Inputs with answers worked out by hand: the marked examples, the example of each refusal, and
+//! the places where an order of checks or a definition is easily got wrong.
+
+use crate::sheet::{write, NO_ASSUMPTION};
+
+pub struct SheetCase {
+    pub name: &'static str,
+    pub sheet: Vec<u8>,
+    /// 0 for an accepted sheet.
+    pub number: u32,
+}
+
+pub struct TraceCase {
+    pub name: &'static str,
+    pub sheet: Vec<u8>,
+    pub letters: Vec<u8>,
+    pub outputs: Vec<u8>,
+}
+
+pub struct EvaluationRefusal {
+    pub name: &'static str,
+    pub sheet: Vec<u8>,
+    pub letters: Vec<u8>,
+    /// Length of the buffer.
+    pub room: usize,
+    pub number: u32,
+}
+
+/// Bytes from hex digits and blanks.
+pub fn bytes(hex: &str) -> Vec<u8> {
+    hex.split_whitespace().map(|pair| u8::from_str_radix(pair, 16).expect("two hex digits")).collect()
+}
+
+/// Input 0 is "sent", input 1 "acknowledged", and output 1 is the assumption.
+pub fn session_sheet() -> Vec<u8> {
+    bytes("53 4C 52 01 00 02 02 01 06 40 02 41 04 61 04 06 41 02 40 04 50 04")
+}
+
+/// A sheet without an assumption, its expressions in hex.
+pub fn plain(inputs: u8, expressions: &[&str]) -> Vec<u8> {
+    assuming(inputs, NO_ASSUMPTION, expressions)
+}
+
+pub fn assuming(inputs: u8, assumption: u8, expressions: &[&str]) -> Vec<u8> {
+    let parts: Vec<Vec<u8>> = expressions.iter().map(|expression| bytes(expression)).collect();
+    write(inputs, assumption, &parts)
+}
+
+/// A header with these counts and assumption, and the same one-byte expression for each output.
+pub fn counts(inputs: u8, outputs: u8, assumption: u8) -> Vec<u8> {
+    let mut sheet = write(inputs, assumption, &vec![vec![0x40]; outputs as usize]);
+    sheet[6] = outputs;
+    sheet
+}
+
+/// So many operands, then so many conjunctions, as the only expression of a sheet with one input.
+pub fn operands_first(operands: usize, operators: usize) -> Vec<u8> {
+    let mut expression = vec![0x40; operands];
+    expression.extend(vec![0x03; operators]);
+    write(1, NO_ASSUMPTION, &[expression])
+}
+
+/// Seven full expressions: the longest sheet there is.
+pub fn longest() -> Vec<u8> {
+    let mut expression = vec![0x02; 64];
+    expression[0] = 0x40;
+    write(1, 6, &vec![expression; 7])
+}
+
+/// The first `length` bytes of a sheet.
+fn cut(mut sheet: Vec<u8>, length: usize) -> Vec<u8> {
+    assert!(length < sheet.len());
+    sheet.truncate(length);
+    sheet
+}
+
+/// A sheet with one byte replaced.
+fn with(mut sheet: Vec<u8>, place: usize, byte: u8) -> Vec<u8> {
+    sheet[place] = byte;
+    sheet
+}
+
+/// A sheet with bytes after its end.
+fn then(mut sheet: Vec<u8>, more: &str) -> Vec<u8> {
+    sheet.extend(bytes(more));
+    sheet
+}
+
+pub fn sheets() -> Vec<SheetCase> {
+    let groups = [header_sheets(), length_sheets(), byte_sheets(), circular_sheets(), marked_sheets()];
+    let cases = groups.into_iter().flatten();
+    cases.map(|(name, sheet, number)| SheetCase { name, sheet, number }).collect()
+}
+
+type Named = (&'static str, Vec<u8>, u32);
+
+fn header_sheets() -> Vec<Named> {
+    let good = || plain(1, &["40"]);
+    vec![
+        ("empty", vec![], 1),
+        ("seven bytes", cut(good(), 7), 1),
+        ("three bytes with a wrong mark", b"SLX".to_vec(), 1),
+        ("seven bytes with a wrong mark", cut(with(good(), 0, 0), 7), 1),
+        ("wrong mark, last byte", with(good(), 2, b'X'), 2),
+        ("wrong mark, first byte", with(good(), 0, b's'), 2),
+        ("wrong mark, middle byte", with(good(), 1, b'R'), 2),
+        ("wrong mark before wrong version", with(with(good(), 2, b'X'), 3, 2), 2),
+        ("version 0", with(good(), 3, 0), 3),
+        ("version 2", with(good(), 3, 2), 3),
+        ("version 257", with(good(), 4, 1), 3),
+        ("version 1 with its bytes swapped", with(with(good(), 3, 0), 4, 1), 3),
+        ("wrong version before wrong counts", with(with(good(), 3, 2), 5, 0), 3),
+        ("no input", counts(0, 1, 255), 4),
+        ("seven inputs", counts(7, 1, 255), 4),
+        ("no output", counts(1, 0, 255), 4),
+        ("eight outputs", counts(1, 8, 255), 4),
+        ("six inputs and three outputs", counts(6, 3, 255), 4),
+        ("two inputs and seven outputs", counts(2, 7, 255), 4),
+        ("counts whose sum passes a byte", counts(1, 255, 255), 4),
+        ("counts that sum to 8 beyond a byte", counts(255, 9, 255), 4),
+        ("nine outputs and assumption 9", counts(1, 9, 9), 4),
+        ("six inputs and two outputs", counts(6, 2, 255), 0),
+        ("one input and seven outputs", counts(1, 7, 255), 0),
+        ("five inputs and three outputs", counts(5, 3, 255), 0),
+        ("two outputs and assumption 2", counts(1, 2, 2), 5),
+        ("one output and assumption 1", counts(1, 1, 1), 5),
+        ("seven outputs and assumption 7", counts(1, 7, 7), 5),
+        ("assumption 254", counts(1, 7, 254), 5),
+        ("assumption given as a stream number", counts(2, 2, 3), 5),
+        ("bad assumption before a missing length", cut(counts(1, 1, 1), 8), 5),
+        ("last output as assumption", counts(1, 7, 6), 0),
+        ("output 0 as assumption", counts(1, 7, 0), 0),
+    ]
+}
+
+fn length_sheets() -> Vec<Named> {
+    let full = |length: usize| write(1, 255, &[[vec![0x40], vec![0x02; length - 1]].concat()]);
+    vec![
+        ("header alone", cut(plain(1, &["40"]), 8), 6),
+        ("length 0", plain(1, &[""]), 6),
+        ("length 65", with(plain(1, &["40"]), 8, 65), 6),
+        ("length 65 with 65 bytes", full(65), 6),
+        ("length 64 with 64 bytes", full(64), 0),
+        ("length 64 with 63 bytes", cut(full(64), 8 + 64), 6),
+        ("length 255", with(plain(1, &["40"]), 8, 255), 6),
+        ("length past the end by one", with(plain(1, &["40"]), 8, 2), 6),
+        ("length without bytes", cut(plain(1, &["40"]), 9), 6),
+        ("length past the end before unknown bytes", with(plain(1, &["05 05"]), 8, 3), 6),
+        ("second length missing", cut(plain(1, &["40", "40"]), 10), 6),
+        ("second length 0", plain(1, &["40", ""]), 6),
+        ("last length past the end", cut(longest(), 462), 6),
+        ("longest sheet", longest(), 0),
+        ("longest sheet and a byte", then(longest(), "40"), 9),
+        ("one byte more", then(plain(1, &["40"]), "00"), 9),
+        ("one output more", then(plain(1, &["40"]), "01 40"), 9),
+        ("bytes left over before circular", then(plain(1, &["41"]), "00"), 9),
+    ]
+}
+
+fn byte_sheets() -> Vec<Named> {
+    vec![
+        ("05", plain(1, &["05"]), 7),
+        ("3F", plain(1, &["3F"]), 7),
+        ("48", plain(1, &["48"]), 7),
+        ("4F", plain(1, &["4F"]), 7),
+        ("70", plain(1, &["70"]), 7),
+        ("80", plain(1, &["80"]), 7),
+        ("C0", plain(1, &["C0"]), 7),
+        ("FF", plain(1, &["FF"]), 7),
+        ("stream m + n now", plain(1, &["42"]), 7),
+        ("stream m + n earlier, false", plain(1, &["52"]), 7),
+        ("stream m + n earlier, true", plain(1, &["5A"]), 7),
+        ("stream m + n later, false", plain(1, &["62"]), 7),
+        ("stream m + n later, true", plain(1, &["6A"]), 7),
+        ("stream 7 of 8", plain(1, &["47", "40", "40", "40", "40", "40", "40"]), 0),
+        ("stream 7 of 7", plain(1, &["47", "40", "40", "40", "40", "40"]), 7),
+        ("false", plain(1, &["00"]), 0),
+        ("true", plain(1, &["01"]), 0),
+        ("not alone", plain(1, &["02"]), 8),
+        ("and alone", plain(1, &["03"]), 8),
+        ("or alone", plain(1, &["04"]), 8),
+        ("and with one value", plain(1, &["40 03"]), 8),
+        ("or with one value", plain(1, &["40 04"]), 8),
+        ("two values at the end", plain(1, &["40 40"]), 8),
+        ("an operator lacks a value before an unknown byte", plain(1, &["03 05"]), 8),
+        ("an unknown byte before an operator that lacks a value", plain(1, &["05 03"]), 7),
+        ("an operator lacks a value before a stream too high", plain(1, &["02 42"]), 8),
+        ("an unknown byte before two values at the end", plain(1, &["40 40 05"]), 7),
+        ("and lacks a value, then a second value comes", plain(1, &["40 03 40"]), 8),
+        ("output 0 lacks a value and output 1 is missing", cut(plain(1, &["03", "40"]), 10), 8),
+        ("output 0 is unknown and output 1 is missing", cut(plain(1, &["05", "40"]), 10), 7),
+        ("output 0 leaves two values and output 1 has length 65", with(plain(1, &["40 40", "40"]), 11, 65), 8),
+        ("output 0 lacks a value and output 1 is unknown", plain(1, &["03", "05"]), 8),
+        ("output 0 is unknown and output 1 lacks a value", plain(1, &["05", "03"]), 7),
+        ("output 1 has length 0 and output 2 is unknown", plain(1, &["40", "", "05"]), 6),
+        ("values stay in their own expression", plain(1, &["40 40", "03"]), 8),
+        ("output 1 finds no value left by output 0", plain(1, &["40", "02"]), 8),
+        ("two values at the end before bytes left over", then(plain(1, &["40 40"]), "00"), 8),
+        ("32 operands and 31 operators", operands_first(32, 31), 0),
+        ("33 operands and 31 operators", operands_first(33, 31), 8),
+        ("32 operands and 32 operators", operands_first(32, 32), 8),
+        ("64 operands", operands_first(64, 0), 8),
+        ("64 operators", operands_first(0, 64), 8),
+    ]
+}
+
+fn circular_sheets() -> Vec<Named> {
+    let ring = |last: &'static str| plain(1, &["42", "43", "44", "45", "46", "47", last]);
+    let linked = |back: &'static str| plain(1, &["61 42 04", "43", "44 53 04", back]);
+    vec![
+        ("own value", plain(1, &["41"]), 10),
+        ("own value made irrelevant", plain(1, &["41 00 03"]), 10),
+        ("own value negated", plain(1, &["41 02"]), 10),
+        ("own value after others", plain(6, &["40 41 42 43 44 45 46 03 03 03 03 03 03", "40"]), 10),
+        ("own earlier value, true first", plain(1, &["59"]), 0),
+        ("both neighbours made irrelevant", plain(1, &["01 51 61 03 04"]), 10),
+        ("both neighbours with defaults true", plain(1, &["59 69 03"]), 10),
+        ("inputs in all three rounds", plain(1, &["50 40 60 03 03"]), 0),
+        ("two outputs read each other now", plain(1, &["42", "41"]), 10),
+        ("two outputs, one read earlier", plain(1, &["42", "51"]), 0),
+        ("two outputs, both reads earlier", plain(1, &["52", "51"]), 0),
+        ("two outputs, both reads later", plain(1, &["62", "61"]), 0),
+        ("three outputs, later once and earlier twice", plain(1, &["62", "53", "51"]), 0),
+        ("three outputs, later twice and earlier once", plain(1, &["62", "63", "51"]), 0),
+        ("three outputs, later, earlier, now", plain(1, &["62", "53", "41"]), 10),
+        ("four outputs, cycles +2 and -3", plain(1, &["62 53 03", "61", "54", "51"]), 10),
+        ("four outputs, cycles +2 and +1", plain(1, &["62 53 03", "61", "64", "61"]), 0),
+        ("six outputs, cycles +3 and -4", plain(1, &["62 54 03", "63", "61", "55", "56", "51"]), 10),
+        ("seven outputs, cycles +3 and -5", plain(1, &["62 54 03", "63", "61", "55", "56", "57", "51"]), 10),
+        ("seven outputs, cycles -3 and -5", plain(1, &["52 54 03", "53", "51", "55", "56", "57", "51"]), 0),
+        ("earlier alone and later alone", plain(1, &["51", "62 41 04"]), 0),
+        ("earlier alone reads later alone", plain(1, &["51 62 04", "62"]), 0),
+        ("own earlier value and an output that looks back to another", plain(1, &["51 62 04", "52"]), 0),
+        ("the same with a read back", plain(1, &["51 62 04", "52 51 04"]), 10),
+        ("seven outputs in a ring now", ring("41"), 10),
+        ("seven outputs in a ring, one read earlier", ring("51"), 0),
+        ("seven outputs in a ring, one read later", ring("69"), 0),
+        ("opposite self reads joined both ways", linked("41"), 10),
+        ("opposite self reads joined one way", linked("40"), 0),
+        ("circular only in the last output", plain(1, &["40", "41", "42 43 03"]), 10),
+        ("circular in the assumption", assuming(1, 1, &["40", "42"]), 10),
+    ]
+}
+
+fn marked_sheets() -> Vec<Named> {
+    vec![
+        ("session sheet", session_sheet(), 0),
+        ("example a", plain(1, &["69"]), 0),
+        ("example b", plain(1, &["61"]), 0),
+        ("example c", plain(1, &["51"]), 0),
+        ("example d", plain(1, &["68 60 02 03"]), 0),
+        ("example e", plain(1, &["52", "61"]), 10),
+        ("example f", plain(1, &["51 61 03"]), 10),
+        ("example g", plain(1, &["40 40 02 04"]), 0),
+        ("example h", assuming(1, 1, &["40", "40 02 60 04"]), 0),
+        ("example i", assuming(1, 1, &["40", "40 02 68 04"]), 0),
+        ("example j", assuming(1, 0, &["00"]), 0),
+        ("example k", plain(1, &["40"]), 0),
+        ("example k as the assumption", assuming(1, 0, &["40"]), 0),
+    ]
+}
+
+pub fn traces() -> Vec<TraceCase> {
+    let h = || assuming(1, 1, &["40", "40 02 60 04"]);
+    let i = || assuming(1, 1, &["40", "40 02 68 04"]);
+    let differs = |neighbour: &str| plain(1, &[&format!("{neighbour} 40 02 03 {neighbour} 02 40 03 04")]);
+    let case = |name, sheet, letters: &[u8], outputs: &[u8]| TraceCase {
+        name,
+        sheet,
+        letters: letters.to_vec(),
+        outputs: outputs.to_vec(),
+    };
+    vec![
+        case("session sheet", session_sheet(), &[1, 2, 0], &[3, 3, 3]),
+        case("session sheet, one letter", session_sheet(), &[1], &[2]),
+        case("example a", plain(1, &["69"]), &[0, 1, 0], &[1, 1, 1]),
+        case("example b", plain(1, &["61"]), &[0, 1, 0], &[0, 0, 0]),
+        case("example c", plain(1, &["51"]), &[0, 1, 0], &[0, 0, 0]),
+        case("own earlier value, true first", plain(1, &["59"]), &[0, 1, 0], &[1, 1, 1]),
+        case("example d is true in the last round only", plain(1, &["68 60 02 03"]), &[1, 0, 1], &[0, 0, 1]),
+        case("example d, one letter", plain(1, &["68 60 02 03"]), &[0], &[1]),
+        case("example g", plain(1, &["40 40 02 04"]), &[1, 0], &[1, 1]),
+        case("example h breaks its assumption at the end", h(), &[1], &[1]),
+        case("example h, two letters", h(), &[1, 1], &[3, 1]),
+        case("example i", i(), &[1], &[3]),
+        case("example i breaks its assumption in round 1", i(), &[1, 0], &[1, 2]),
+        case("example j breaks its assumption always", assuming(1, 0, &["00"]), &[0, 1], &[0, 0]),
+        case("input earlier, false first", plain(1, &["50"]), &[1, 0, 1, 1], &[0, 1, 0, 1]),
+        case("input earlier, true first", plain(1, &["58"]), &[1, 0, 1, 1], &[1, 1, 0, 1]),
+        case("input later, false last", plain(1, &["60"]), &[1, 0, 1, 1], &[0, 1, 1, 0]),
+        case("input later, true last", plain(1, &["68"]), &[1, 0, 1, 1], &[0, 1, 1, 1]),
+        case("parity from the start", differs("51"), &[1, 1, 0, 1], &[1, 0, 0, 1]),
+        case("parity from the end", differs("61"), &[1, 1, 0, 1], &[1, 0, 1, 1]),
+        case("parity from the start, true before it", differs("59"), &[1, 1, 0, 1], &[0, 1, 1, 0]),
+        case("six inputs", plain(6, &["45", "40"]), &[32, 1, 33, 62], &[1, 2, 3, 1]),
+        case("seven outputs", plain(1, &["40", "41", "42", "43", "44", "45", "46"]), &[1, 0], &[127, 0]),
+        case("outputs defined by later ones", plain(1, &["42", "43", "40"]), &[1, 0, 1], &[7, 0, 7]),
+        case("later once and earlier twice", plain(1, &["62 40 04", "53", "51"]), &[0, 1, 0, 0], &[0, 1, 5, 6]),
+    ]
+}
+
+pub fn evaluation_refusals() -> Vec<EvaluationRefusal> {
+    let one = || plain(1, &["40"]);
+    let wide = || plain(6, &["40"]);
+    let last = |letters: usize, letter: u8| [vec![1; letters - 1], vec![letter]].concat();
+    let own = vec![
+        ("no letters", one(), vec![], 0, 16),
+        ("no letters and a buffer", one(), vec![], 10, 16),
+        ("4,097 letters", one(), vec![0; 4097], 4097, 16),
+        ("4,097 letters and a larger buffer", one(), vec![0; 4097], 5000, 16),
+        ("65,537 letters", one(), vec![0; 65_537], 65_537, 16),
+        ("one letter and no buffer", one(), vec![0], 0, 16),
+        ("two letters and room for one", one(), vec![0, 1], 1, 16),
+        ("4,096 letters and room for one less", one(), vec![0; 4096], 4095, 16),
+        ("short buffer before a bad letter", one(), vec![2, 2], 1, 16),
+        ("too many letters before bad ones", one(), vec![255; 4097], 4097, 16),
+        ("letter 2 of one input", one(), vec![2], 1, 11),
+        ("letter 3 of one input", one(), vec![3], 1, 11),
+        ("letter 255", one(), vec![255], 1, 11),
+        ("letter 64 of six inputs", wide(), vec![64], 1, 11),
+        ("letter 128 of six inputs", wide(), vec![63, 128, 63], 3, 11),
+        ("letter 4 of the session sheet", session_sheet(), vec![1, 2, 4], 3, 11),
+        ("bad first letter", one(), vec![2, 0, 1], 5, 11),
+        ("bad last letter", one(), last(20, 2), 30, 11),
+        ("bad last letter of 4,096", one(), last(4096, 2), 4096, 11),
+    ];
+    let refused = sheets().into_iter().filter(|case| case.number != 0);
+    let by_sheet = refused.flat_map(|case| {
+        let (name, sheet, number) = (case.name, case.sheet, case.number);
+        [
+            (name, sheet.clone(), vec![], 0, number),
+            (name, sheet.clone(), vec![0, 1], 1, number),
+            (name, sheet.clone(), vec![255], 1, number),
+            (name, sheet, vec![0, 0, 0], 8, number),
+        ]
+    });
+    let cases = own.into_iter().chain(by_sheet);
+    cases.map(|(name, sheet, letters, room, number)| EvaluationRefusal { name, sheet, letters, room, number }).collect()
+}

@@ -1,0 +1,454 @@
+//! Random sheets and letters from a fixed start, so that every run makes the same ones.
+
+use crate::sheet::{byte_of_read, write, HEADER, LONGEST_EXPRESSION, NO_ASSUMPTION};
+
+/// Marsaglia's xorshift generator on 64 bits, its output multiplied by an odd constant.
+pub struct Random {
+    state: u64,
+}
+
+impl Random {
+    pub fn new(seed: u64) -> Random {
+        let mut random = Random { state: seed.wrapping_mul(0x9E37_79B9_7F4A_7C15) | 1 };
+        for _ in 0..8 {
+            random.next();
+        }
+        random
+    }
+
+    fn next(&mut self) -> u64 {
+        self.state ^= self.state >> 12;
+        self.state ^= self.state << 25;
+        self.state ^= self.state >> 27;
+        self.state.wrapping_mul(0x2545_F491_4F6C_DD1D)
+    }
+
+    /// A number below `bound`.
+    pub fn below(&mut self, bound: usize) -> usize {
+        (((self.next() >> 32) * bound as u64) >> 32) as usize
+    }
+
+    /// A number from `low` to `high`, both included.
+    pub fn range(&mut self, low: usize, high: usize) -> usize {
+        low + self.below(high - low + 1)
+    }
+
+    /// True once in `times`.
+    pub fn one_in(&mut self, times: usize) -> bool {
+        self.below(times) == 0
+    }
+
+    pub fn byte(&mut self) -> u8 {
+        self.below(256) as u8
+    }
+
+    pub fn bytes(&mut self, count: usize) -> Vec<u8> {
+        (0..count).map(|_| self.byte()).collect()
+    }
+
+    pub fn pick<T: Copy>(&mut self, from: &[T]) -> T {
+        from[self.below(from.len())]
+    }
+
+    /// Letters of a sheet with so many inputs.
+    pub fn letters(&mut self, inputs: usize, rounds: usize) -> Vec<u8> {
+        (0..rounds).map(|_| self.below(1 << inputs) as u8).collect()
+    }
+
+    /// The numbers below `count` in some order.
+    fn shuffled(&mut self, count: usize) -> Vec<usize> {
+        let mut order: Vec<usize> = (0..count).collect();
+        for place in (1..count).rev() {
+            order.swap(place, self.below(place + 1));
+        }
+        order
+    }
+}
+
+/// Counts in their ranges: inputs, then outputs.
+fn sizes(random: &mut Random) -> (usize, usize) {
+    let outputs = random.range(1, 7);
+    (random.range(1, (8 - outputs).min(6)), outputs)
+}
+
+fn assumption(random: &mut Random, outputs: usize) -> u8 {
+    if random.one_in(2) {
+        return NO_ASSUMPTION;
+    }
+    random.below(outputs) as u8
+}
+
+/// A length from 1 to 64, short ones more often.
+fn length(random: &mut Random) -> usize {
+    let most = random.pick(&[4, 16, LONGEST_EXPRESSION]);
+    random.range(1, most)
+}
+
+/// What the operands of one expression are drawn from. Either list may be empty, not both.
+struct Operands {
+    inputs: Vec<u8>,
+    outputs: Vec<u8>,
+}
+
+impl Operands {
+    fn draw(&self, random: &mut Random) -> u8 {
+        if random.one_in(12) {
+            return random.below(2) as u8;
+        }
+        let outputs_first = random.below(5) < 3;
+        let inputs = self.outputs.is_empty() || (!outputs_first && !self.inputs.is_empty());
+        random.pick(if inputs { &self.inputs } else { &self.outputs })
+    }
+}
+
+/// The five reads of a stream.
+fn reads_of(stream: usize) -> [u8; 5] {
+    [(-1, false), (-1, true), (0, false), (1, false), (1, true)]
+        .map(|(offset, default)| byte_of_read(stream, offset, default))
+}
+
+fn reads_of_inputs(inputs: usize) -> Vec<u8> {
+    (0..inputs).flat_map(reads_of).collect()
+}
+
+/// A postfix expression of exactly this length.
+fn expression(random: &mut Random, length: usize, operands: &Operands) -> Vec<u8> {
+    let mut bytes = Vec::new();
+    let mut values = 0;
+    while bytes.len() < length {
+        let left = length - bytes.len();
+        // The values left must still be joined into one by the bytes that remain.
+        let (may_push, may_negate) = (values < left, values >= 1 && values <= left);
+        let byte = match random.below(8) {
+            0 if may_negate => 0x02,
+            1..=4 if values >= 2 => random.pick(&[0x03, 0x04]),
+            _ if may_push => operands.draw(random),
+            _ if values >= 2 => random.pick(&[0x03, 0x04]),
+            _ => 0x02,
+        };
+        match byte {
+            0x02 => {}
+            0x03 | 0x04 => values -= 1,
+            _ => values += 1,
+        }
+        bytes.push(byte);
+    }
+    bytes
+}
+
+/// All operands first, as many as can be joined: the largest number of values waiting.
+fn deep_expression(random: &mut Random, length: usize, operands: &Operands) -> Vec<u8> {
+    let count = length.div_ceil(2);
+    let mut bytes: Vec<u8> = (0..count).map(|_| operands.draw(random)).collect();
+    bytes.extend((1..count).map(|_| random.pick(&[0x03, 0x04])));
+    bytes.resize(length, 0x02);
+    bytes
+}
+
+/// A sheet that keeps rules 1 to 9 and reads any stream anywhere; most are circular.
+pub fn loose(random: &mut Random) -> Vec<u8> {
+    let (inputs, outputs) = sizes(random);
+    let operands =
+        Operands { inputs: reads_of_inputs(inputs), outputs: (inputs..inputs + outputs).flat_map(reads_of).collect() };
+    let expressions: Vec<Vec<u8>> = (0..outputs)
+        .map(|_| {
+            let length = length(random);
+            expression(random, length, &operands)
+        })
+        .collect();
+    write(inputs as u8, assumption(random, outputs), &expressions)
+}
+
+/// A sheet with few reads of outputs and hardly any of the same round: about half are circular,
+/// some only in long traces.
+pub fn sparse(random: &mut Random) -> Vec<u8> {
+    let (inputs, outputs) = sizes(random);
+    let expressions: Vec<Vec<u8>> = (0..outputs)
+        .map(|_| {
+            let mut bytes = vec![byte_of_read(random.below(inputs), 0, false)];
+            for _ in 0..random.pick(&[0, 1, 1, 1, 2]) {
+                let offset = random.pick(&[-1, -1, -1, 0, 1, 1, 1]);
+                bytes.push(byte_of_read(inputs + random.below(outputs), offset, random.one_in(2)));
+                bytes.push(random.pick(&[0x03, 0x04]));
+            }
+            bytes
+        })
+        .collect();
+    write(inputs as u8, assumption(random, outputs), &expressions)
+}
+
+/// The reads of outputs each output may have, so that no value reaches itself.
+///
+/// Outputs fall into groups, and a read may go to any lower group. Inside a group, the value of
+/// output s in round t has height `slope * t + base[s]`, and a read must go to a smaller height.
+/// The bases lie further apart than the slope, so that a group can have reads in both directions.
+fn falling_reads(random: &mut Random, inputs: usize, outputs: usize) -> Vec<Vec<u8>> {
+    let groups = random.range(1, outputs);
+    let group: Vec<usize> = (0..outputs).map(|_| random.below(groups)).collect();
+    let slope: Vec<i64> = (0..groups).map(|_| random.pick(&[-4, 4])).collect();
+    let base: Vec<i64> = (0..outputs).map(|_| random.below(14) as i64).collect();
+    let allowed = |s: usize, q: usize, offset: i64| {
+        group[q] < group[s] || (group[q] == group[s] && slope[group[s]] * offset + base[q] < base[s])
+    };
+    let reads = |s: usize| {
+        let every = (0..outputs).flat_map(|q| [-1, 0, 1].map(|offset| (q, offset)));
+        let kept = every.filter(|&(q, offset)| allowed(s, q, offset));
+        kept.flat_map(|(q, offset)| [false, true].map(|default| byte_of_read(inputs + q, offset, default))).collect()
+    };
+    (0..outputs).map(reads).collect()
+}
+
+/// A sheet that is accepted, with reads in both directions.
+pub fn accepted(random: &mut Random) -> Vec<u8> {
+    if random.one_in(8) {
+        return zigzag(random);
+    }
+    let (inputs, outputs) = sizes(random);
+    let deep = random.one_in(6);
+    let outputs_only = random.one_in(4);
+    let expressions: Vec<Vec<u8>> = falling_reads(random, inputs, outputs)
+        .into_iter()
+        .map(|reads| {
+            let input_reads = if outputs_only && !reads.is_empty() { vec![] } else { reads_of_inputs(inputs) };
+            let operands = Operands { inputs: input_reads, outputs: reads };
+            let length = length(random);
+            if deep {
+                deep_expression(random, length, &operands)
+            } else {
+                expression(random, length, &operands)
+            }
+        })
+        .collect();
+    write(inputs as u8, assumption(random, outputs), &expressions)
+}
+
+/// Exclusive or of two reads.
+fn differs(left: u8, right: u8) -> Vec<u8> {
+    vec![left, right, 0x02, 0x03, left, 0x02, right, 0x03, 0x04]
+}
+
+/// A sheet with one input in which output `order[i]` reads output `order[i + 1]` at `offsets[i]`,
+/// the last one the first. Each value differs from the one it reads where the input is true, so
+/// that no value is settled before those it reads.
+pub fn ring(order: &[usize], offsets: &[i64]) -> Vec<u8> {
+    assert_eq!(order.len(), offsets.len());
+    let mut expressions = vec![Vec::new(); order.len()];
+    for (place, &output) in order.iter().enumerate() {
+        let next = order[(place + 1) % order.len()];
+        expressions[output] = differs(byte_of_read(1 + next, offsets[place], false), 0x40);
+    }
+    write(1, NO_ASSUMPTION, &expressions)
+}
+
+/// Seven outputs that look back and ahead by turns. Each differs from its own neighbour where the
+/// output before it is true, so that the outputs settle one after the other.
+pub fn turns() -> Vec<u8> {
+    let expression = |output: usize| {
+        let offset = [-1, 1][output % 2];
+        differs(byte_of_read(1 + output, offset, false), byte_of_read(output, 0, false))
+    };
+    let expressions: Vec<Vec<u8>> = (0..7).map(expression).collect();
+    write(1, NO_ASSUMPTION, &expressions)
+}
+
+/// Offsets of a ring that goes both ways and does not come back to the round it left.
+fn ring_offsets(random: &mut Random, count: usize) -> Vec<i64> {
+    loop {
+        let offsets: Vec<i64> = (0..count).map(|_| random.pick(&[-1, -1, 0, 1, 1])).collect();
+        if offsets.contains(&1) && offsets.contains(&-1) && offsets.iter().sum::<i64>() != 0 {
+            return offsets;
+        }
+    }
+}
+
+/// An accepted sheet whose values depend on one another along chains that turn at each step.
+pub fn zigzag(random: &mut Random) -> Vec<u8> {
+    let outputs = random.range(3, 7);
+    let inputs = random.range(1, 8 - outputs);
+    let order = random.shuffled(outputs);
+    let ring = random.range(3, outputs);
+    let offsets = ring_offsets(random, ring);
+    let mut expressions = vec![Vec::new(); outputs];
+    for (place, &output) in order.iter().enumerate() {
+        let (next, offset) = if place < ring {
+            (order[(place + 1) % ring], offsets[place])
+        } else {
+            (order[random.below(place)], random.pick(&[-1, 0, 1]))
+        };
+        let read = byte_of_read(inputs + next, offset, random.one_in(2));
+        let own = byte_of_read(inputs + output, random.pick(&[-1, 1]), random.one_in(2));
+        let other = if place >= ring && random.one_in(2) { own } else { random.pick(&reads_of_inputs(inputs)) };
+        expressions[output] = differs(read, other);
+    }
+    write(inputs as u8, assumption(random, outputs), &expressions)
+}
+
+/// Two rings with one output in common. Rings that go opposite ways make the sheet circular, but
+/// often no ring alone does, and the circle needs a long trace.
+pub fn two_rings(random: &mut Random) -> Vec<u8> {
+    let outputs = random.range(3, 7);
+    let inputs = random.range(1, 8 - outputs);
+    let order = random.shuffled(outputs);
+    let common = random.range(1, outputs - 2);
+    let mut expressions = vec![vec![byte_of_read(random.below(inputs), 0, false)]; outputs];
+    for members in [&order[..=common], &order[common..]] {
+        let way = random.pick(&[-1, 1]);
+        for (place, &output) in members.iter().enumerate() {
+            let next = members[(place + 1) % members.len()];
+            let offset = random.pick(&[way, way, way, way, way, 0]);
+            let read = byte_of_read(inputs + next, offset, random.one_in(2));
+            expressions[output].extend([read, random.pick(&[0x03, 0x04])]);
+        }
+    }
+    write(inputs as u8, assumption(random, outputs), &expressions)
+}
+
+/// Any sheet that keeps rules 1 to 9.
+pub fn well_formed(random: &mut Random) -> Vec<u8> {
+    match random.below(6) {
+        0 => loose(random),
+        1 => sparse(random),
+        2 => two_rings(random),
+        _ => accepted(random),
+    }
+}
+
+/// A sheet with one to three faults, some of which may do no harm.
+pub fn damaged(random: &mut Random) -> Vec<u8> {
+    if random.one_in(20) {
+        return noise(random);
+    }
+    let mut sheet = well_formed(random);
+    for _ in 0..random.pick(&[1, 1, 1, 2, 3]) {
+        damage(random, &mut sheet);
+    }
+    sheet
+}
+
+/// Bytes without any order, half of them behind a good header.
+fn noise(random: &mut Random) -> Vec<u8> {
+    let mut bytes = if random.one_in(2) { vec![] } else { loose(random)[..HEADER].to_vec() };
+    let count = random.below(40);
+    bytes.extend(random.bytes(count));
+    bytes
+}
+
+fn damage(random: &mut Random, sheet: &mut Vec<u8>) {
+    if sheet.len() <= HEADER {
+        return;
+    }
+    match random.below(14) {
+        0 => sheet.truncate(random.below(HEADER)),
+        1 => {
+            let length = random.below(sheet.len());
+            sheet.truncate(length);
+        }
+        2 | 3 => {
+            let count = random.range(1, 4);
+            sheet.extend(random.bytes(count));
+        }
+        4 => sheet[random.below(3)] = random.byte(),
+        5 => sheet[3 + random.below(2)] = random.below(4) as u8,
+        6 => sheet[5 + random.below(2)] = random.below(10) as u8,
+        7 => sheet[7] = random.pick(&[0, 1, 2, 3, 6, 7, 8, 254, 255]),
+        8 => {
+            let lengths = length_places(sheet);
+            let place = random.pick(&lengths);
+            let near = [0, 1, 63, 64, 65, 255, sheet[place].wrapping_sub(1), sheet[place].wrapping_add(1)];
+            sheet[place] = random.pick(&near);
+        }
+        9 => {
+            let place = random.below(sheet.len());
+            sheet[place] = random.byte();
+        }
+        10 => *expression_byte(random, sheet) = random.pick(&[0x05, 0x06, 0x3F, 0x48, 0x4F, 0x70, 0x80, 0xC0, 0xFF]),
+        11 => *expression_byte(random, sheet) = random.pick(&[0x47, 0x57, 0x5F, 0x67, 0x6F]),
+        12 => *expression_byte(random, sheet) = random.pick(&[0x02, 0x03, 0x04]),
+        _ => *expression_byte(random, sheet) = random.pick(&[0x00, 0x01, 0x40, 0x50, 0x60]),
+    }
+}
+
+/// Where the length bytes lie, as far as the sheet can be followed.
+fn length_places(sheet: &[u8]) -> Vec<usize> {
+    let mut places = vec![HEADER];
+    while let Some(&length) = sheet.get(places[places.len() - 1]) {
+        let next = places[places.len() - 1] + 1 + length as usize;
+        if next >= sheet.len() {
+            break;
+        }
+        places.push(next);
+    }
+    places
+}
+
+/// Some byte after the first length, most often inside an expression.
+fn expression_byte<'a>(random: &mut Random, sheet: &'a mut [u8]) -> &'a mut u8 {
+    let place = random.range((HEADER + 1).min(sheet.len() - 1), sheet.len() - 1);
+    &mut sheet[place]
+}
+
+#[cfg(test)]
+mod tests {
+    use super::*;
+    use crate::{circular, hex, sheet};
+
+    #[test]
+    fn well_formed_sheets_break_no_rule_below_10() {
+        let mut random = Random::new(501);
+        for _ in 0..4000 {
+            let bytes = well_formed(&mut random);
+            assert!(sheet::read(&bytes).is_ok(), "{}", hex(&bytes));
+        }
+    }
+
+    #[test]
+    fn accepted_sheets_are_accepted() {
+        let mut random = Random::new(502);
+        let (mut both_ways, mut longest) = (0, 0);
+        for _ in 0..4000 {
+            let bytes = accepted(&mut random);
+            let sheet = circular::accept(&bytes).unwrap_or_else(|number| panic!("{number}: {}", hex(&bytes)));
+            let offsets: Vec<i64> =
+                (0..sheet.outputs()).flat_map(|k| sheet.output_reads(k)).map(|(_, offset)| offset).collect();
+            both_ways += (offsets.contains(&1) && offsets.contains(&-1)) as usize;
+            longest = longest.max(bytes.len());
+        }
+        assert!(both_ways > 1500, "{both_ways} sheets read in both directions");
+        assert!(longest > 250, "{longest} bytes in the longest sheet");
+    }
+
+    #[test]
+    fn all_sizes_occur() {
+        let mut random = Random::new(503);
+        let drawn: Vec<(usize, usize)> = (0..4000).map(|_| sizes(&mut random)).collect();
+        for inputs in 1..=6 {
+            for outputs in 1..=(8 - inputs).min(7) {
+                let times = drawn.iter().filter(|&&size| size == (inputs, outputs)).count();
+                assert!(times > 20, "{inputs} inputs, {outputs} outputs: {times}");
+            }
+        }
+    }
+
+    #[test]
+    fn expressions_have_the_length_asked_for() {
+        let mut random = Random::new(504);
+        let operands = Operands { inputs: vec![0x40], outputs: vec![] };
+        for length in 1..=LONGEST_EXPRESSION {
+            let shapes = [expression(&mut random, length, &operands), deep_expression(&mut random, length, &operands)];
+            for bytes in shapes {
+                assert_eq!(bytes.len(), length);
+                assert!(sheet::read(&write(1, NO_ASSUMPTION, &[bytes])).is_ok());
+            }
+        }
+    }
+
+    #[test]
+    fn every_number_occurs_among_damaged_sheets() {
+        let mut random = Random::new(505);
+        let mut seen = [0; 11];
+        for _ in 0..10_000 {
+            seen[circular::accept(&damaged(&mut random)).err().unwrap_or(0) as usize] += 1;
+        }
+        assert!(seen.iter().all(|&times| times >= 50), "{seen:?}");
+    }
+}

@@ -1,0 +1,15 @@
+pub mod Bools
+pub mod Walks
+pub mod Closure
+pub mod Decide
+pub mod Codes
+pub mod Fill
+pub mod Pigeon
+pub mod Unique
+pub mod Sweep
+pub mod Trees
+pub mod Masks
+pub mod Decided
+pub mod Values
+pub mod Lists
+pub mod OneTrace

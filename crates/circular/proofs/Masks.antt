@@ -1,0 +1,139 @@
+-- The words and masks of reads. Assumes nothing.
+use mathlib.Core.Path.{_≡_, refl, sym, _∙_}
+use Prim.Native.Nat.{ℕ, suc, _+_, _-_, _*_, _/_, _%_, _^_, _≤_, _<_}
+use native.Mathlib.Omega.{arith}
+use native.Mathlib.Numerals.{add-one}
+use native.Mathlib.Decide.{ℕ-discrete}
+use mathlib.Core.Bool.{Bool, true, false, cond, _&&_, _||_}
+use mathlib.Core.List.{List, []}
+use lib.ListN.{length, getD, drop, drop-of-length-le}
+use lib.Seq.{drop-cons}
+use lib.Bits.{bitOr}
+use lib.Dec.{eqb, leb}
+use borrow.Author.Tests.{eq-eqb, ne-eqb, leb-true}
+use Rattle.words.specs.Bits.{bit}
+use Rattle.words.proofs.BitLaws.{bit-or, bit-none, bit-shl, bit-shr}
+use Rattle.words.proofs.JoinLaws.{bit-of-low}
+use Rattle.sheet.specs.Bytes.{opOf, readsOf, within}
+use Rattle.sheet.specs.Reading.{ruleSheet, Usable}
+use Rattle.sheet.specs.declared.StreamNo.{StreamNo}
+use Rattle.sheet.specs.declared.Sheet.{Sheet}
+use Rattle.sheet.specs.declared.Offset.{Offset}
+use Rattle.sheet.specs.declared.Offset.the-variants.{Earlier, Now, Later}
+use Rattle.sheet.specs.declared.Op.{Op}
+use Rattle.sheet.specs.declared.Op.the-variants.{Const, Not, And, Or, Read, Rejected}
+use Rattle.lola.specs.Reads.{place}
+use Rattle.circular.specs.Circular.{Circular, CircularSheet, edges}
+use Rattle.circular.specs.Table as table
+use Rattle.circular.specs.Masks.{opReads, bytesRead, Marks, Rows, Mask, Masks, Tells}
+use Rattle.sheet.proofs.Formed.{usable-formed}
+use Rattle.circular.proofs.Bools.{and-r, or-assoc, or-false}
+use Rattle.circular.proofs.Trees.{edges-are, outputs-are, edge-in}
+use Rattle.circular.proofs.Sweep.{circular-map}
+
+-- a byte names one of 8 streams
+abbrev pub Low : Op → Type 0
+Low (Const v) = Unit {0}
+Low Not = Unit {0}
+Low And = Unit {0}
+Low Or = Unit {0}
+Low (Read q o v) = q .0 < 8
+Low (Rejected r) = Unit {0}
+
+pick-low : (t : Bool) (x y : Op) → (t ≡ true → Low x) → Low y → Low (cond t x y)
+pick-low true x y f g = f refl
+pick-low false x y f g = g
+
+range-low : (lo b : ℕ) → within lo (lo + 7) b ≡ true → b - lo < 8
+range-low lo b e = omega (arith, leb-true b (lo + 7) (and-r (leb lo b) (leb b (lo + 7)) e))
+
+pub op-low : (b : ℕ) → Low (opOf b)
+unfolding opOf readsOf
+op-low b =
+    pick-low (eqb b 0) _ _ (λ e. tt)
+    (pick-low (eqb b 1) _ _ (λ e. tt)
+    (pick-low (eqb b 2) _ _ (λ e. tt)
+    (pick-low (eqb b 3) _ _ (λ e. tt)
+    (pick-low (eqb b 4) _ _ (λ e. tt)
+    (pick-low (within 0x40 0x47 b) _ _ (λ e. range-low 0x40 b e)
+    (pick-low (within 0x50 0x57 b) _ _ (λ e. range-low 0x50 b e)
+    (pick-low (within 0x58 0x5F b) _ _ (λ e. range-low 0x58 b e)
+    (pick-low (within 0x60 0x67 b) _ _ (λ e. range-low 0x60 b e)
+    (pick-low (within 0x68 0x6F b) _ _ (λ e. range-low 0x68 b e)
+    tt)))))))))
+
+pub place-le : (o : Offset) → place o ≤ 2
+place-le Earlier = omega arith
+place-le Now = omega arith
+place-le Later = omega arith
+
+-- the word of one read
+one-read : (a b q o : ℕ) → b ≤ 2 → o ≤ 2 → eqb (3 * q + o) (3 * a + b) ≡ eqb a q && eqb b o
+one-read a b q o hb ho = go (ℕ-discrete a q) (ℕ-discrete b o)
+  where
+    go : Dec (a ≡ q) → Dec (b ≡ o) → eqb (3 * q + o) (3 * a + b) ≡ eqb a q && eqb b o
+    go (yes e) (yes f) = rw (eq-eqb a q e, eq-eqb b o f) (eq-eqb (3 * q + o) (3 * a + b) (omega arith))
+    go (yes e) (no f) = rw (eq-eqb a q e, ne-eqb b o f) (ne-eqb (3 * q + o) (3 * a + b) (λ z. f (omega arith)))
+    go (no e) d = rw (ne-eqb a q e) (ne-eqb (3 * q + o) (3 * a + b) (λ z. e (omega arith)))
+
+pub read-word : (s : StreamNo) (f : Offset) (v : Bool) (k : ℕ) → s .0 < 8 → k ≡ place f → (q o : ℕ) → o ≤ 2
+    → bit (3 * q + o) (1 * 2 ^ (3 * s .0 + k) % 2 ^ 64) ≡ opReads (Read s f v) q o
+unfolding opReads
+read-word s f v k low e q o h =
+    rw e (bit-shl (3 * q + o) (3 * s .0 + place f) (omega (arith, place-le f)) ∙ one-read (s .0) (place f) q o (place-le f) h)
+
+-- the word of an expression, byte by byte: the bits so far, and the reads of the bytes that are left
+pub record Kept (e : List ℕ) (i w : ℕ) : Type 0 where
+  pub whole : (q o : ℕ) → o ≤ 2 → bit (3 * q + o) w || bytesRead (drop i e) q o ≡ bytesRead e q o
+
+pub kept-start : (e : List ℕ) → Kept e 0 0
+kept-start e = record { whole = λ q o h. rw (bit-none (3 * q + o)) refl }
+
+pub kept-more : (e : List ℕ) (i w x : ℕ) → i < length e → ((q o : ℕ) → o ≤ 2 → bit (3 * q + o) x ≡ opReads (opOf (getD e i 0)) q o) → Kept e i w → Kept e (i + 1) (bitOr w x)
+unfolding bytesRead
+kept-more e i w x h f k =
+    record {
+      whole = λ q o l.
+          rw (add-one i, bit-or (3 * q + o) w x, f q o l)
+          (or-assoc (bit (3 * q + o) w) (opReads (opOf (getD e i 0)) q o) (bytesRead (drop (suc i) e) q o)
+          ∙ rw (drop-cons e i 0 h) at (k .whole q o l));
+    }
+
+pub kept-end : (e : List ℕ) (i w : ℕ) → length e ≤ i → Kept e i w → Marks e w
+unfolding bytesRead
+kept-end e i w h k =
+    record { bits = λ q o l. or-false (bit (3 * q + o) w) ∙ rw (drop-of-length-le e h) at (k .whole q o l) }
+
+pub marks-none : Marks [] 0
+unfolding bytesRead
+marks-none = record { bits = λ q o l. bit-none (3 * q + o) }
+
+-- three bits of a word
+pub mask-bits : (w q : ℕ) → Mask w q (w / 2 ^ (3 * q) % 8)
+mask-bits w q = record { bits = λ o l. bit-of-low 3 o (w / 2 ^ (3 * q)) (omega arith) ∙ bit-shr o (3 * q) w }
+
+-- the table of masks of a sheet that was read
+pub tells : (x : Sheet) (u : Usable x) (ws masks : List ℕ) → Rows (x .code) (x .len) (x .outputs) ws → Masks ws (x .inputs) masks → Tells (ruleSheet x) masks
+unfolding table.readsOf
+tells x u ws masks r m = record { reads = λ s q o hs hq ho. go s q o hs hq ho }
+  where
+    go : (s q o : ℕ) → s < 7 → q < 7 → o ≤ 2 → table.readsOf masks s q o ≡ edges (ruleSheet x) s q o
+    go s q o hs hq ho =
+        let row : (7 * s + q) / 7 ≡ s = omega arith in
+        let col : (7 * s + q) % 7 ≡ q = omega arith in
+        let c : Mask (getD ws s 0) (x .inputs + q) (getD masks (7 * s + q) 0) = rw (row, col) at (m .cells (7 * s + q) (omega arith)) in
+        c .bits o ho ∙ r .rows s hs .bits (x .inputs + q) o ho ∙ sym (edges-are x u s q o)
+
+-- so the table is circular just where the sheet is
+module _ (x : Sheet) (u : Usable x) (masks : List ℕ) (t : Tells (ruleSheet x) masks) where
+  pub told-circular : Circular 7 (table.readsOf masks) → CircularSheet (ruleSheet x)
+  told-circular =
+      circular-map (λ s q o e. edge-in (ruleSheet x) (usable-formed x u) s q o (e .off) (sym (t .reads s q o (e .from) (e .to) (e .off)) ∙ e .is))
+
+  pub circular-told : CircularSheet (ruleSheet x) → Circular 7 (table.readsOf masks)
+  circular-told =
+      circular-map
+      (λ s q o e.
+      let hs : s < 7 = omega (arith, e .from, outputs-are x u, u .ranges .outputs) in
+      let hq : q < 7 = omega (arith, e .to, outputs-are x u, u .ranges .outputs) in
+      record { from = hs; to = hq; off = e .off; is = t .reads s q o hs hq (e .off) ∙ e .is })

@@ -1,0 +1,5 @@
+pub mod Circular
+pub mod Table
+pub mod Masks
+pub mod Checks
+pub mod Unique

@@ -1,0 +1,55 @@
+-- The reads of an expression as the bits of a word, for the contracts of private functions: bit 3 q + o tells whether a byte of the
+-- expression is a read of stream q at the offset whose number is o.
+use mathlib.Core.Path.{_≡_}
+use mathlib.Core.Bool.{Bool, false, cond, _&&_, _||_}
+use mathlib.Core.List.{List, [], _∷_}
+use Prim.Native.Nat.{ℕ, _+_, _*_, _/_, _%_, _≤_, _<_}
+use lib.ListN.{getD}
+use lib.Dec.{eqb, ltb}
+use Rattle.words.specs.Bits.{bit}
+use Rattle.sheet.specs.Bytes.{opOf}
+use Rattle.sheet.specs.RuleSheet.{RuleSheet}
+use Rattle.sheet.specs.Reading.{codeAt}
+use Rattle.sheet.specs.declared.Op.{Op}
+use Rattle.sheet.specs.declared.Op.the-variants.{Const, Not, And, Or, Read, Rejected}
+use Rattle.lola.specs.Reads.{place}
+use Rattle.circular.specs.Circular.{edges}
+use Rattle.circular.specs.Table.{readsOf}
+
+-- the operation is a read of stream q at the offset number o
+unfoldable pub opReads : Op → ℕ → ℕ → Bool
+opReads (Const v) q o = false
+opReads Not q o = false
+opReads And q o = false
+opReads Or q o = false
+opReads (Read q′ o′ d) q o = eqb (q′ .0) q && eqb (place o′) o
+opReads (Rejected r) q o = false
+
+-- one of the bytes is
+unfoldable pub bytesRead : List ℕ → ℕ → ℕ → Bool
+bytesRead [] q o = false
+bytesRead (b ∷ bs) q o = opReads (opOf b) q o || bytesRead bs q o
+
+-- the word of an expression's reads
+pub record Marks (e : List ℕ) (w : ℕ) : Type 0 where
+  pub bits : (q o : ℕ) → o ≤ 2 → bit (3 * q + o) w ≡ bytesRead e q o
+
+-- the bytes of output s of n, none where there is no such output
+abbrev pub bytesOf : List ℕ → List ℕ → ℕ → ℕ → List ℕ
+bytesOf code len n s = cond (ltb s n) (codeAt code len s) []
+
+-- the words of the outputs
+pub record Rows (code len : List ℕ) (n : ℕ) (ws : List ℕ) : Type 0 where
+  pub rows : (s : ℕ) → s < 7 → Marks (bytesOf code len n s) (getD ws s 0)
+
+-- the mask at a stream: bits 3 q, 3 q + 1 and 3 q + 2 of the word
+pub record Mask (w q x : ℕ) : Type 0 where
+  pub bits : (o : ℕ) → o ≤ 2 → bit o x ≡ bit (3 * q + o) w
+
+-- the table of masks, from the words: entry 7 * s + q has the reads of stream m + q
+pub record Masks (ws : List ℕ) (m : ℕ) (masks : List ℕ) : Type 0 where
+  pub cells : (i : ℕ) → i < 49 → Mask (getD ws (i / 7) 0) (m + i % 7) (getD masks i 0)
+
+-- the table of masks tells the reads of the sheet
+pub record Tells (x : RuleSheet) (masks : List ℕ) : Type 0 where
+  pub reads : (s q o : ℕ) → s < 7 → q < 7 → o ≤ 2 → readsOf masks s q o ≡ edges x s q o

@@ -1,0 +1,118 @@
+// The reads between the outputs of a sheet, from the bytes of its expressions.
+ghost use mathlib.Core.Path.{_≡_};
+ghost use Prim.Native.Nat.{ℕ, _+_, _*_, _<_, _≤_};
+ghost use lib.ListN.{length, getD};
+ghost use Rattle.words.specs.Bits.{bit};
+ghost use Rattle.sheet.specs.Bytes.{opOf};
+ghost use Rattle.sheet.specs.Reading.{ruleSheet, Usable};
+ghost use Rattle.lola.specs.Reads.{place};
+ghost use Rattle.circular.specs.Masks.{opReads, Marks, bytesOf, Rows, Mask, Masks, Tells};
+use sheet::Offset;
+use sheet::Op;
+use sheet::OutputNo;
+use sheet::Sheet;
+use sheet::StreamNo;
+
+fn offset_number(o: Offset) -> u64
+    ensures { λ r. ⌜ r ≡ place o ⌝ }
+{
+    match o {
+        Offset::Earlier => 0,
+        Offset::Now => 1,
+        Offset::Later => 2,
+    }
+}
+
+// Bit 3 q + o for a read of stream q at the offset number o; no bit for any other byte.
+fn byte_reads(byte: u8) -> u64
+    ensures { λ r. ⌜ ((q o : ℕ) → o ≤ 2 → bit (3 * q + o) r ≡ opReads (opOf byte) q o) ⌝ }
+{
+    let op = sheet::operation(byte);
+    match op {
+        Op::Read(stream, offset, _) => {
+            let q = stream.0 as u64;
+            let o = offset_number(offset);
+            1u64 << (3 * q + o)
+        }
+        Op::Const(_) => 0,
+        Op::Not => 0,
+        Op::And => 0,
+        Op::Or => 0,
+        Op::Rejected(_) => 0,
+    }
+}
+
+// All reads of an expression.
+fn expression_reads(e: &[u8]) -> u64
+    ensures { λ r. ⌜ Marks (now (e .entry)) r ⌝ }
+{
+    let mut word: u64 = 0;
+    let mut i: usize = 0;
+    while i < e.len() {
+        word = word | byte_reads(e[i]);
+        i += 1;
+    }
+    word
+}
+
+// All reads of output s; none where there is no such output.
+fn output_reads(code: &[u8], len: &[usize], n: usize, s: usize) -> u64
+    requires { ⌜ (n ≤ 7) × (length (now code) ≡ 448) × (length (now len) ≡ 7) × ((k : ℕ) → k < n → getD (now len) k 0 ≤ 64) ⌝ }
+    ensures { λ r. ⌜ Marks (bytesOf (now (code .entry)) (now (len .entry)) n s) r ⌝ }
+{
+    if n <= s {
+        return 0;
+    }
+    let from = 64 * s;
+    let to = from + len[s];
+    expression_reads(&code[from..to])
+}
+
+fn all_reads(code: &[u8], len: &[usize], n: usize) -> [u64; 7]
+    requires { ⌜ (n ≤ 7) × (length (now code) ≡ 448) × (length (now len) ≡ 7) × ((k : ℕ) → k < n → getD (now len) k 0 ≤ 64) ⌝ }
+    ensures { λ r. ⌜ Rows (now (code .entry)) (now (len .entry)) n r ⌝ }
+{
+    let mut words = [0u64; 7];
+    let mut s: usize = 0;
+    while s < 7 {
+        words[s] = output_reads(code, len, n, s);
+        s += 1;
+    }
+    words
+}
+
+// The offsets at which a word has a read of a stream: 1 earlier, 2 now, 4 later, added up.
+fn mask_at(word: u64, stream: StreamNo) -> u8
+    requires { ⌜ stream .0 < 16 ⌝ }
+    ensures { λ r. ⌜ Mask word (stream .0) r ⌝ }
+{
+    let q = stream.0 as u64;
+    ((word >> (3 * q)) % 8) as u8
+}
+
+fn masks_of(words: &[u64; 7], m: u8) -> [u8; 49]
+    requires { ⌜ m ≤ 6 ⌝ }
+    ensures { λ r. ⌜ Masks (now (words .entry)) m r ⌝ }
+{
+    let mut masks = [0u8; 49];
+    let mut i: usize = 0;
+    while i < 49 {
+        let q = OutputNo((i % 7) as u8);
+        let row = i / 7;
+        masks[i] = mask_at(words[row], sheet::stream_of(m, q));
+        i += 1;
+    }
+    masks
+}
+
+// The table of masks of a sheet that was read.
+pub fn sheet_masks(x: Sheet) -> [u8; 49]
+    requires { ⌜ Usable x ⌝ }
+    ensures { λ r. ⌜ Tells (ruleSheet x) r ⌝ }
+{
+    let code = x.code;
+    let len = x.len;
+    let n = x.outputs as usize;
+    let words = all_reads(&code, &len, n);
+    masks_of(&words, x.inputs)
+}

@@ -1,0 +1,30 @@
+use lib.Pow.{pow-mono}
+use borrow.Author.Tests.{le-leb, lt-leb}
+use Prim.Native.Nat.{ℕ, _+_, _*_, _-_, _≤_, _<_, _^_}
+use mathlib.Core.Path.{_≡_, refl, sym, _∙_, ap, ap₂}
+use mathlib.Core.Bool.{Bool, true, false, _&&_, Bool·beq, cond}
+use native.Mathlib.Omega.{arith}
+use Rattle.letters.specs.Masks.{badMasks}
+use borrow.Author.Needs.{needs}
+use Rattle.letters.proofs.bad_masks.Statement.{statement}
+use Rattle.letters.proofs.bad_masks.Tie as tie
+use Rattle.letters.proofs.bad_masks.Reads as reads
+use Rattle.letters.proofs.bad_masks.Lts as lts
+
+shl-size : tie.Need-shl-size
+shl-size c = search needs
+
+returns : tie.Need-returns
+unfolding badMasks
+returns c =
+    let g : 2 ^ c .before .args .m ≤ 2 ^ 6 = pow-mono (c .before .pre) in
+    rw (le-leb (2 ^ c .before .args .m) (c .before .args .known) (omega arith))
+
+returns-2 : tie.Need-returns-2
+unfolding badMasks
+returns-2 c =
+    let g : 2 ^ c .before .args .m ≤ 2 ^ 6 = pow-mono (c .before .pre) in
+    rw (lt-leb (2 ^ c .before .args .m) (c .before .args .known) (omega arith))
+
+pub bad-masks-spec : {M : Type 1} → statement M
+bad-masks-spec = tie.close (tie.spec shl-size returns returns-2)

@@ -1,0 +1,23 @@
+use Prim.Native.Nat.{ℕ, _+_, _*_, _-_, _≤_, _<_, _^_}
+use mathlib.Core.Path.{_≡_, refl, sym, _∙_, ap, ap₂}
+use mathlib.Core.Bool.{Bool, true, false, _&&_, Bool·beq, cond}
+use native.Mathlib.Omega.{arith}
+use Rattle.words.specs.Bits.{bit, digit}
+use borrow.Author.Needs.{needs}
+use Rattle.letters.proofs.bit_of.Statement.{statement}
+use Rattle.letters.proofs.bit_of.Tie as tie
+use Rattle.letters.proofs.bit_of.Reads as reads
+use Rattle.letters.proofs.bit_of.Lts as lts
+
+cast-result : tie.Need-cast-result
+cast-result c = search needs
+
+shr-result : tie.Need-shr-result
+shr-result c = search needs
+
+returns : tie.Need-returns
+unfolding bit digit
+returns c = refl
+
+pub bit-of-spec : {M : Type 1} → statement M
+bit-of-spec = tie.close (tie.spec cast-result shr-result returns)

@@ -1,0 +1,53 @@
+use Prim.Native.Nat.{ℕ, _+_, _*_, _-_, _≤_, _<_, _^_}
+use mathlib.Core.Path.{_≡_, refl, sym, _∙_, ap, ap₂}
+use mathlib.Core.Bool.{Bool, true, false, _&&_, Bool·beq, cond}
+use native.Mathlib.Omega.{arith}
+use mathlib.Core.Bool.{and-true}
+use Rattle.words.specs.Bits.{bit}
+use Rattle.words.proofs.BitLaws.{bit-and}
+use borrow.Author.Needs.{needs}
+use Rattle.letters.proofs.narrowed.Statement.{statement}
+use Rattle.letters.proofs.narrowed.Tie as tie
+use Rattle.letters.proofs.narrowed.Reads as reads
+use Rattle.letters.proofs.narrowed.Lts as lts
+use Rattle.letters.proofs.bit_of.Reads as bit-of-reads
+use Rattle.words.proofs.agree.Reads as agree-reads
+use Rattle.words.proofs.stream_word.Reads as stream-word-reads
+
+bit-of-requires : tie.Need-bit-of-requires
+bit-of-requires c κs = search needs
+
+bit-of-requires-2 : tie.Need-bit-of-requires-2
+bit-of-requires-2 c κs = search needs
+
+stream-word-requires : tie.Need-stream-word-requires
+stream-word-requires c κs = search needs
+
+agree-requires : tie.Need-agree-requires
+agree-requires c κs = search needs
+
+returns : tie.Need-returns
+returns c = λ l h.
+    let known = c .before .before .before .before .before .args .known in
+    let i = c .before .before .before .before .before .args .i in
+    let zero : 64 * 0 + l ≡ l = omega arith in
+    bit-and l (c .before .before .before .before .before .args .set) (c .agree .result)
+    ∙ ap (λ (z : Bool). bit l (c .before .before .before .before .before .args .set) && z)
+    (c .agree .ensures l h ∙ ap₂ Bool·beq (c .before .stream-word .ensures l h ∙ ap (bit i) zero) (c .before .before .bit-of2 .ensures)
+    ∙ sym (ap (λ (z : Bool). cond z (Bool·beq (bit i l) (bit i (c .before .before .before .before .before .args .value))) true) (sym (c .before .before .before .before .bit-of .ensures) ∙ c .before .before .before .if1 .taken)))
+
+returns-2 : tie.Need-returns-2
+returns-2 c = λ l h.
+    sym (ap (λ (z : Bool). bit l (c .before .before .args .set) && cond z (Bool·beq (bit (c .before .before .args .i) l) (bit (c .before .before .args .i) (c .before .before .args .value))) true) (sym (c .before .bit-of .ensures) ∙ c .if1 .left)
+    ∙ and-true (bit l (c .before .before .args .set)))
+
+pub narrowed-spec : {M : Type 1} → statement M
+narrowed-spec =
+    tie.close
+    (tie.spec
+    bit-of-requires
+    bit-of-requires-2
+    stream-word-requires
+    agree-requires
+    returns
+    returns-2)

@@ -1,0 +1,51 @@
+// A round's set of letters, made from its masks: bit l of the word is letter l.
+ghost use mathlib.Core.Path.{_≡_};
+ghost use mathlib.Core.Bool.{Bool, _&&_};
+ghost use Prim.Native.Nat.{ℕ, _<_, _≤_};
+ghost use Rattle.words.specs.Bits.{bit};
+ghost use Rattle.letters.specs.Masks.{badMasks};
+ghost use Rattle.letters.specs.Matching.{agrees, matches};
+
+// Rule 11 for masks: a known bit beyond m, or a value bit that isn't known.
+pub fn bad_masks(m: u8, known: u8, value: u8) -> bool
+    requires { ⌜ m ≤ 6 ⌝ }
+    ensures { λ r. ⌜ r ≡ badMasks m known value ⌝ }
+{
+    let size: u8 = 1 << m;
+    if size <= known {
+        return true;
+    }
+    value & known != value
+}
+
+fn bit_of(x: u8, i: usize) -> bool
+    requires { ⌜ i < 8 ⌝ }
+    ensures { λ r. ⌜ r ≡ bit i x ⌝ }
+{
+    (x >> i) % 2 == 1
+}
+
+// The letters that agree with the masks in input i, out of a set.
+fn narrowed(set: u64, known: u8, value: u8, i: usize) -> u64
+    requires { ⌜ i < 6 ⌝ }
+    ensures { λ r. ⌜ ((l : ℕ) → l < 64 → bit l r ≡ (bit l set && agrees known value i l)) ⌝ }
+{
+    if bit_of(known, i) {
+        let want = bit_of(value, i);
+        return set & words::agree(words::stream_word(i, 0), want);
+    }
+    set
+}
+
+// The letters that match the masks.
+pub fn letters_of(known: u8, value: u8) -> u64
+    ensures { λ r. ⌜ ((l : ℕ) → l < 64 → bit l r ≡ matches known value 6 l) ⌝ }
+{
+    let mut set: u64 = 0xffff_ffff_ffff_ffff;
+    let mut i: usize = 0;
+    while i < 6 {
+        set = narrowed(set, known, value, i);
+        i += 1;
+    }
+    set
+}

@@ -1,0 +1,5 @@
+pub mod Bools
+pub mod Sets
+pub mod Fill
+pub mod BitSearch
+pub mod PairCount

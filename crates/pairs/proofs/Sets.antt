@@ -1,0 +1,251 @@
+-- Laws of the sets in the storage.
+use mathlib.Core.Path.{_≡_, refl, sym, ap, ap₂, _∙_}
+use mathlib.Core.Bool.{Bool, true, false, not, _&&_, _||_}
+use mathlib.Core.List.{List}
+use mathlib.Core.Option.{Option, none, some}
+use Prim.Native.Nat.{ℕ, zero, suc, _+_, _-_, _*_, _/_, _%_, _^_, _≤_, _<_}
+use native.Mathlib.Omega.{arith}
+use native.Mathlib.Decide.{ℕ-discrete, decLt}
+use borrow.Author.Tests.{eq-eqb, ne-eqb}
+use lib.Dec.{eqb}
+use lib.Bits.{bitOr}
+use lib.ListN.{length, getD, set, length-set}
+use lib.Seq.{getD-set-same, getD-set-other}
+use Rattle.words.specs.Bits.{bit, digit}
+use Rattle.words.proofs.BitLaws.{bit-or, bit-shl, bit-none, bits-ext}
+use Rattle.completions.specs.Live.{Pairs}
+use Rattle.completions.specs.Steps.{Within}
+use Rattle.pairs.specs.Storage.{place, slot, stored}
+use Rattle.pairs.specs.Changes.{eqNext, inWord, Adds, rowBit, Cleared, Copied}
+use Rattle.pairs.proofs.Bools.{and-true, and-false, or-false, or-assoc}
+
+pub place-lt : (x : ℕ) (y : Option ℕ) → x < 256 → Within 256 y → place x y < 1028
+unfolding place
+place-lt x none h k = omega arith
+place-lt x (some c) h k = omega arith
+
+pub slot-lt : (x : ℕ) (y : Option ℕ) → slot x y < 64
+unfolding slot
+slot-lt x none = omega arith
+slot-lt x (some c) = omega arith
+
+-- a pair is known by its word and bit there
+abbrev same : ℕ → Option ℕ → ℕ → Option ℕ → Bool
+same x y a c = eqb x a && eqNext y c
+
+same-word : (x : ℕ) (y : Option ℕ) (a : ℕ) (c : Option ℕ) → x < 256 → Within 256 y → a < 256 → Within 256 c → place x y ≡ place a c → eqb (slot x y) (slot a c) ≡ same x y a c
+unfolding place slot eqNext
+same-word x none a none h k h′ k′ e = go (ℕ-discrete x a)
+  where
+    go : Dec (x ≡ a) → eqb (x % 64) (a % 64) ≡ (eqb x a && true)
+    go (yes d) = eq-eqb (x % 64) (a % 64) (omega arith) ∙ sym (and-true (eqb x a) ∙ eq-eqb x a d)
+    go (no d) = ne-eqb (x % 64) (a % 64) (λ q. d (omega arith)) ∙ sym (and-true (eqb x a) ∙ ne-eqb x a d)
+same-word x none a (some c) h k h′ k′ e = absurd (omega arith)
+same-word x (some y) a none h k h′ k′ e = absurd (omega arith)
+same-word x (some y) a (some c) h k h′ k′ e = go (ℕ-discrete y c)
+  where
+    xa : eqb x a ≡ true
+    xa = eq-eqb x a (omega arith)
+
+    go : Dec (y ≡ c) → eqb (y % 64) (c % 64) ≡ (eqb x a && eqb y c)
+    go (yes d) = eq-eqb (y % 64) (c % 64) (omega arith) ∙ sym (ap₂ _&&_ xa (eq-eqb y c d))
+    go (no d) = ne-eqb (y % 64) (c % 64) (λ q. d (omega arith)) ∙ sym (ap₂ _&&_ xa (ne-eqb y c d))
+
+other-word : (x : ℕ) (y : Option ℕ) (a : ℕ) (c : Option ℕ) → (place x y ≡ place a c → ⊥) → same x y a c ≡ false
+unfolding place eqNext
+other-word x none a none n = and-true (eqb x a) ∙ ne-eqb x a (λ d. n (ap (λ (k : ℕ). 1024 + k / 64) d))
+other-word x none a (some c) n = and-false (eqb x a)
+other-word x (some y) a none n = and-false (eqb x a)
+other-word x (some y) a (some c) n = go (ℕ-discrete y c)
+  where
+    go : Dec (y ≡ c) → (eqb x a && eqb y c) ≡ false
+    go (yes d) = ap (λ (u : Bool). u && eqb y c) (ne-eqb x a (λ q. n (ap₂ (λ (i j : ℕ). 4 * i + j / 64) q d)))
+    go (no d) = ap (λ (u : Bool). eqb x a && u) (ne-eqb y c d) ∙ and-false (eqb x a)
+
+-- one bit set
+pub inserted : (s : List ℕ) (base a : ℕ) (c : Option ℕ) → a < 256 → Within 256 c → base + 1028 ≤ length s
+    → Adds base s (set s (base + place a c) (bitOr (getD s (base + place a c) 0) (1 * 2 ^ slot a c % 2 ^ 64))) (λ x y. eqb x a && eqNext y c)
+unfolding stored
+inserted s base a c ha hc l = record {
+  same-length = length-set s _ _;
+  before = λ k h. getD-set-other s _ k _ 0 (omega arith);
+  beyond = λ k h. getD-set-other s _ k _ 0 (let g : place a c < 1028 = place-lt a c ha hc in omega arith);
+  adds = λ x y hx hy. go x y hx hy (ℕ-discrete (place x y) (place a c));
+}
+  where
+    k : ℕ
+    k = base + place a c
+
+    v : ℕ
+    v = bitOr (getD s k 0) (1 * 2 ^ slot a c % 2 ^ 64)
+
+    go : (x : ℕ) (y : Option ℕ) → x < 256 → Within 256 y → Dec (place x y ≡ place a c) → stored (set s k v) base x y ≡ (stored s base x y || same x y a c)
+    go x y hx hy (yes e) =
+        ap (λ (j : ℕ). bit (slot x y) (getD (set s k v) (base + j) 0)) e
+        ∙ ap (bit (slot x y)) (getD-set-same s k v 0 (let g : place a c < 1028 = place-lt a c ha hc in omega arith))
+        ∙ bit-or (slot x y) (getD s k 0) (1 * 2 ^ slot a c % 2 ^ 64)
+        ∙ ap₂ _||_ (ap (λ (j : ℕ). bit (slot x y) (getD s (base + j) 0)) (sym e))
+        (bit-shl (slot x y) (slot a c) (slot-lt a c) ∙ same-word x y a c hx hy ha hc e)
+    go x y hx hy (no n) =
+        ap (bit (slot x y)) (getD-set-other s k (base + place x y) v 0 (λ q. n (omega arith)))
+        ∙ sym (ap (λ (u : Bool). stored s base x y || u) (other-word x y a c n) ∙ or-false (stored s base x y))
+
+-- ---- gains
+
+pub adds-none : (base : ℕ) (s : List ℕ) (P : Pairs) → ((x : ℕ) (y : Option ℕ) → P x y ≡ false) → Adds base s s P
+adds-none base s P f = record {
+  same-length = refl;
+  before = λ k h. refl;
+  beyond = λ k h. refl;
+  adds = λ x y hx hy. sym (ap (λ (u : Bool). stored s base x y || u) (f x y) ∙ or-false (stored s base x y));
+}
+
+pub adds-as : (base : ℕ) (s t : List ℕ) (P Q : Pairs) → Adds base s t P → ((x : ℕ) (y : Option ℕ) → x < 256 → Within 256 y → (stored s base x y || P x y) ≡ (stored s base x y || Q x y)) → Adds base s t Q
+adds-as base s t P Q p f = record {
+  same-length = p .same-length;
+  before = p .before;
+  beyond = p .beyond;
+  adds = λ x y hx hy. p .adds x y hx hy ∙ f x y hx hy;
+}
+
+pub adds-then : (base : ℕ) (s t u : List ℕ) (P Q R : Pairs) → Adds base s t P → Adds base t u Q
+    → ((x : ℕ) (y : Option ℕ) → x < 256 → Within 256 y → (P x y || Q x y) ≡ R x y) → Adds base s u R
+adds-then base s t u P Q R p q f = record {
+  same-length = q .same-length ∙ p .same-length;
+  before = λ k h. q .before k h ∙ p .before k h;
+  beyond = λ k h. q .beyond k h ∙ p .beyond k h;
+  adds = λ x y hx hy.
+      q .adds x y hx hy ∙ ap (λ (w : Bool). w || Q x y) (p .adds x y hx hy) ∙ or-assoc (stored s base x y) (P x y) (Q x y)
+      ∙ ap (λ (w : Bool). stored s base x y || w) (f x y hx hy);
+}
+
+-- a set before the one that gains is the same
+pub stored-same : (s t : List ℕ) (base : ℕ) (x : ℕ) (y : Option ℕ) → x < 256 → Within 256 y → ((k : ℕ) → k < base + 1028 → getD t k 0 ≡ getD s k 0) → stored t base x y ≡ stored s base x y
+unfolding stored
+stored-same s t base x y hx hy f = ap (bit (slot x y)) (f (base + place x y) (let g : place x y < 1028 = place-lt x y hx hy in omega arith))
+
+pub row-bit : (s : List ℕ) (base a x : ℕ) → rowBit s (base + 4 * a) x ≡ stored s base a (some x)
+unfolding rowBit stored place slot
+row-bit s base a x = let e : base + 4 * a + x / 64 ≡ base + (4 * a + x / 64) = omega arith in ap (λ (k : ℕ). bit (x % 64) (getD s k 0)) e
+
+-- ---- sets beside the one that is changed
+
+-- words that are equal hold equal sets
+pub stored-eq : (s t : List ℕ) (base base′ x : ℕ) (y : Option ℕ) → x < 256 → Within 256 y → ((k : ℕ) → k < 1028 → getD t (base + k) 0 ≡ getD s (base′ + k) 0)
+    → stored t base x y ≡ stored s base′ x y
+unfolding stored
+stored-eq s t base base′ x y hx hy f = ap (bit (slot x y)) (f (place x y) (place-lt x y hx hy))
+
+module _ (base : ℕ) (s t : List ℕ) (P : Pairs) (p : Adds base s t P) where
+  pub adds-before : (b x : ℕ) (y : Option ℕ) → x < 256 → Within 256 y → b + 1028 ≤ base → stored t b x y ≡ stored s b x y
+  adds-before b x y hx hy h = stored-eq s t b b x y hx hy (λ k g. p .before (b + k) (omega arith))
+
+  pub adds-beyond : (b x : ℕ) (y : Option ℕ) → x < 256 → Within 256 y → base + 1028 ≤ b → stored t b x y ≡ stored s b x y
+  adds-beyond b x y hx hy h = stored-eq s t b b x y hx hy (λ k g. p .beyond (b + k) (omega arith))
+
+module _ (base : ℕ) (s t : List ℕ) (p : Cleared base s t) where
+  pub cleared-none : (x : ℕ) (y : Option ℕ) → x < 256 → Within 256 y → stored t base x y ≡ false
+  unfolding stored
+  cleared-none x y hx hy = ap (bit (slot x y)) (p .zero-now (place x y) (place-lt x y hx hy)) ∙ bit-none (slot x y)
+
+  pub cleared-before : (b x : ℕ) (y : Option ℕ) → x < 256 → Within 256 y → b + 1028 ≤ base → stored t b x y ≡ stored s b x y
+  cleared-before b x y hx hy h = stored-eq s t b b x y hx hy (λ k g. p .before (b + k) (omega arith))
+
+  pub cleared-beyond : (b x : ℕ) (y : Option ℕ) → x < 256 → Within 256 y → base + 1028 ≤ b → stored t b x y ≡ stored s b x y
+  cleared-beyond b x y hx hy h = stored-eq s t b b x y hx hy (λ k g. p .beyond (b + k) (omega arith))
+
+module _ (s t : List ℕ) (p : Copied s t) where
+  pub copied-reached : (x : ℕ) (y : Option ℕ) → x < 256 → Within 256 y → stored t 1028 x y ≡ stored s 2056 x y
+  copied-reached x y hx hy = stored-eq s t 1028 2056 x y hx hy (p .copied)
+
+  pub copied-live : (x : ℕ) (y : Option ℕ) → x < 256 → Within 256 y → stored t 0 x y ≡ stored s 0 x y
+  copied-live x y hx hy = stored-eq s t 0 0 x y hx hy (λ k g. p .before (0 + k) (omega arith))
+
+  pub copied-scratch : (x : ℕ) (y : Option ℕ) → x < 256 → Within 256 y → stored t 2056 x y ≡ stored s 2056 x y
+  copied-scratch x y hx hy = stored-eq s t 2056 2056 x y hx hy (λ k g. p .beyond (2056 + k) (omega arith))
+
+-- ---- the code's tests of one bit
+
+pub has-bit : (s : List ℕ) (base a b : ℕ) → eqb (getD s (base + (4 * a + b / 64)) 0 / 2 ^ (b % 64) % 2) 1 ≡ stored s base a (some b)
+unfolding stored place slot bit digit
+has-bit s base a b = refl
+
+pub has-end-bit : (s : List ℕ) (base a : ℕ) → eqb (getD s (base + (1024 + a / 64)) 0 / 2 ^ (a % 64) % 2) 1 ≡ stored s base a none
+unfolding stored place slot bit digit
+has-end-bit s base a = refl
+
+-- ---- a word of a row
+
+-- lane i of word j of row a is the pair (a, 64 j + i)
+pub lane : (s : List ℕ) (base a j i : ℕ) → i < 64 → bit i (getD s (base + (4 * a + j)) 0) ≡ stored s base a (some (64 * j + i))
+unfolding stored place slot
+lane s base a j i h =
+    let p : i ≡ (64 * j + i) % 64 = omega arith in
+    let q : base + (4 * a + j) ≡ base + (4 * a + (64 * j + i) / 64) = omega arith in
+    ap₂ (λ (u v : ℕ). bit u (getD s v 0)) p q
+
+pub lane-end : (s : List ℕ) (base j i : ℕ) → i < 64 → bit i (getD s (base + (1024 + j)) 0) ≡ stored s base (64 * j + i) none
+unfolding stored place slot
+lane-end s base j i h =
+    let p : i ≡ (64 * j + i) % 64 = omega arith in
+    let q : base + (1024 + j) ≡ base + (1024 + (64 * j + i) / 64) = omega arith in
+    ap₂ (λ (u v : ℕ). bit u (getD s v 0)) p q
+
+-- one word gains the lanes of another
+pub word-inserted : (s : List ℕ) (base a j x : ℕ) → a < 256 → j < 4 → base + 1028 ≤ length s
+    → Adds base s (set s (base + (4 * a + j)) (bitOr (getD s (base + (4 * a + j)) 0) x)) (λ p y. eqb p a && inWord j x y)
+unfolding stored place slot inWord
+word-inserted s base a j x ha hj l = record {
+  same-length = length-set s _ _;
+  before = λ k h. getD-set-other s _ k _ 0 (omega arith);
+  beyond = λ k h. getD-set-other s _ k _ 0 (omega arith);
+  adds = at;
+}
+  where
+    k : ℕ
+    k = base + (4 * a + j)
+
+    v : ℕ
+    v = bitOr (getD s k 0) x
+
+    at : (p : ℕ) (y : Option ℕ) → p < 256 → Within 256 y → stored (set s k v) base p y ≡ (stored s base p y || (eqb p a && inWord j x y))
+    at p none hp hy =
+        ap (bit (p % 64)) (getD-set-other s k (base + (1024 + p / 64)) v 0 (omega arith))
+        ∙ sym (ap (λ (u : Bool). bit (p % 64) (getD s (base + (1024 + p / 64)) 0) || u) (and-false (eqb p a)) ∙ or-false _)
+    at p (some c) hp hy = go (ℕ-discrete p a) (ℕ-discrete (c / 64) j)
+      where
+        w : ℕ
+        w = base + (4 * p + c / 64)
+
+        go : Dec (p ≡ a) → Dec (c / 64 ≡ j) → bit (c % 64) (getD (set s k v) w 0) ≡ (bit (c % 64) (getD s w 0) || (eqb p a && (eqb (c / 64) j && bit (c % 64) x)))
+        go (yes d) (yes e) =
+            let q : w ≡ k = omega arith in
+            ap (λ (i : ℕ). bit (c % 64) (getD (set s k v) i 0)) q
+            ∙ ap (bit (c % 64)) (getD-set-same s k v 0 (omega arith))
+            ∙ bit-or (c % 64) (getD s k 0) x
+            ∙ ap (λ (i : ℕ). bit (c % 64) (getD s i 0) || bit (c % 64) x) (sym q)
+            ∙ ap₂ (λ (u w′ : Bool). bit (c % 64) (getD s w 0) || (u && (w′ && bit (c % 64) x))) (sym (eq-eqb p a d)) (sym (eq-eqb (c / 64) j e))
+        go (no d) e =
+            ap (bit (c % 64)) (getD-set-other s k w v 0 (omega arith))
+            ∙ sym (ap (λ (u : Bool). bit (c % 64) (getD s w 0) || (u && (eqb (c / 64) j && bit (c % 64) x))) (ne-eqb p a d) ∙ or-false _)
+        go (yes d) (no e) =
+            ap (bit (c % 64)) (getD-set-other s k w v 0 (omega arith))
+            ∙ sym (ap (λ (u : Bool). bit (c % 64) (getD s w 0) || (eqb p a && (u && bit (c % 64) x))) (ne-eqb (c / 64) j e)
+            ∙ ap (λ (u : Bool). bit (c % 64) (getD s w 0) || u) (and-false (eqb p a)) ∙ or-false _)
+
+-- ---- a set is known by its pairs: two storages of 64-bit words with the same pairs in a set have the same words there
+
+pub set-ext : (s t : List ℕ) (base base′ : ℕ) → ((k : ℕ) → k < 1028 → getD s (base + k) 0 < 2 ^ 64) → ((k : ℕ) → k < 1028 → getD t (base′ + k) 0 < 2 ^ 64)
+    → ((x : ℕ) (y : Option ℕ) → x < 256 → Within 256 y → stored s base x y ≡ stored t base′ x y) → (k : ℕ) → k < 1028 → getD s (base + k) 0 ≡ getD t (base′ + k) 0
+set-ext s t base base′ hs ht same k h = bits-ext 64 (getD s (base + k) 0) (getD t (base′ + k) 0) (hs k h) (ht k h) (λ i l. at i l (decLt k 1024))
+  where
+    at : (i : ℕ) → i < 64 → Dec (k < 1024) → bit i (getD s (base + k) 0) ≡ bit i (getD t (base′ + k) 0)
+    at i l (yes d) =
+        let e : k ≡ 4 * (k / 4) + k % 4 = omega arith in
+        ap (λ (m : ℕ). bit i (getD s (base + m) 0)) e ∙ lane s base (k / 4) (k % 4) i l
+        ∙ same (k / 4) (some (64 * (k % 4) + i)) (omega arith) (omega arith)
+        ∙ sym (ap (λ (m : ℕ). bit i (getD t (base′ + m) 0)) e ∙ lane t base′ (k / 4) (k % 4) i l)
+    at i l (no d) =
+        let e : k ≡ 1024 + (k - 1024) = omega arith in
+        ap (λ (m : ℕ). bit i (getD s (base + m) 0)) e ∙ lane-end s base (k - 1024) i l ∙ same (64 * (k - 1024) + i) none (omega arith) tt
+        ∙ sym (ap (λ (m : ℕ). bit i (getD t (base′ + m) 0)) e ∙ lane-end t base′ (k - 1024) i l)

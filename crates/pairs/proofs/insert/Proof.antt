@@ -1,0 +1,53 @@
+use native.Mathlib.Omega.{arith}
+use mathlib.Core.Option.{some, none}
+use Rattle.pairs.specs.Storage.{place, slot}
+use Rattle.pairs.proofs.Sets.{inserted}
+use borrow.Author.Needs.{needs}
+use Rattle.pairs.proofs.insert.Statement.{statement}
+use Rattle.pairs.proofs.insert.Tie as tie
+
+mul-k : tie.Need-mul-k
+mul-k c = search needs
+
+add-k : tie.Need-add-k
+add-k c = search needs
+
+add-k-2 : tie.Need-add-k-2
+add-k-2 c = search needs
+
+mul-s : tie.Need-mul-s
+mul-s c = search needs
+
+slice-read-s : tie.Need-slice-read-s
+slice-read-s c = search needs
+
+shl-s : tie.Need-shl-s
+shl-s c = search needs
+
+mul-s-2 : tie.Need-mul-s-2
+mul-s-2 c = search needs
+
+slice-write-s : tie.Need-slice-write-s
+slice-write-s c = search needs
+
+same-length : tie.Need-same-length
+same-length c = search needs
+
+returns : tie.Need-returns
+unfolding place slot
+returns c = inserted _ _ _ (some (c .before .args .b)) (c .before .pre .0) (c .before .pre .1) (omega arith)
+
+pub insert-spec : {M : Type 1} → statement M
+insert-spec =
+    tie.close
+    (tie.spec
+    mul-k
+    add-k
+    add-k-2
+    mul-s
+    slice-read-s
+    shl-s
+    mul-s-2
+    slice-write-s
+    same-length
+    returns)

@@ -1,0 +1,56 @@
+-- What the functions on stored sets do: for the contracts of private functions.
+use mathlib.Core.Path.{_≡_}
+use mathlib.Core.Bool.{Bool, true, false, _&&_, _||_}
+use mathlib.Core.List.{List}
+use mathlib.Core.Option.{Option, none, some}
+use Prim.Native.Nat.{ℕ, _+_, _*_, _/_, _%_, _<_, _≤_}
+use lib.Dec.{eqb}
+use lib.ListN.{length, getD}
+use Rattle.words.specs.Bits.{bit}
+use Rattle.completions.specs.Live.{Pairs}
+use Rattle.completions.specs.Steps.{Within}
+use Rattle.pairs.specs.Storage.{stored}
+
+-- the same second part
+unfoldable pub eqNext : Option ℕ → Option ℕ → Bool
+eqNext none none = true
+eqNext none (some c) = false
+eqNext (some b) none = false
+eqNext (some b) (some c) = eqb b c
+
+-- the second part is a valuation 64 j + i whose lane i of x is set
+unfoldable pub inWord : ℕ → ℕ → Option ℕ → Bool
+inWord j x none = false
+inWord j x (some c) = eqb (c / 64) j && bit (c % 64) x
+
+-- the set at `base` has gained the pairs P, and no other word is changed
+pub record Adds (base : ℕ) (s t : List ℕ) (P : Pairs) : Type 0 where
+  pub same-length : length t ≡ length s
+  pub before : (k : ℕ) → k < base → getD t k 0 ≡ getD s k 0
+  pub beyond : (k : ℕ) → base + 1028 ≤ k → getD t k 0 ≡ getD s k 0
+  pub adds : (x : ℕ) (y : Option ℕ) → x < 256 → Within 256 y → stored t base x y ≡ (stored s base x y || P x y)
+
+-- bit x of the words from `at` on
+unfoldable pub rowBit : List ℕ → ℕ → ℕ → Bool
+rowBit s at x = bit (x % 64) (getD s (at + x / 64) 0)
+
+-- r is the first bit from `from` on that is set among w words, or 64 w if there is none
+pub record NextBit (s : List ℕ) (at w from r : ℕ) : Type 0 where
+  pub onward : from ≤ r
+  pub inside : r ≤ 64 * w
+  pub skipped : (x : ℕ) → from ≤ x → x < r → rowBit s at x ≡ false
+  pub found : r < 64 * w → rowBit s at r ≡ true
+
+-- the words of the set at `base` are 0, and no others are changed
+pub record Cleared (base : ℕ) (s t : List ℕ) : Type 0 where
+  pub same-length : length t ≡ length s
+  pub before : (k : ℕ) → k < base → getD t k 0 ≡ getD s k 0
+  pub beyond : (k : ℕ) → base + 1028 ≤ k → getD t k 0 ≡ getD s k 0
+  pub zero-now : (k : ℕ) → k < 1028 → getD t (base + k) 0 ≡ 0
+
+-- the scratch set is copied onto the reached set
+pub record Copied (s t : List ℕ) : Type 0 where
+  pub same-length : length t ≡ length s
+  pub before : (k : ℕ) → k < 1028 → getD t k 0 ≡ getD s k 0
+  pub beyond : (k : ℕ) → 2056 ≤ k → getD t k 0 ≡ getD s k 0
+  pub copied : (k : ℕ) → k < 1028 → getD t (1028 + k) 0 ≡ getD s (2056 + k) 0

@@ -1,0 +1,107 @@
+// Sets of pairs in the storage's words: the live set, the reached set and the scratch set.
+ghost use mathlib.Core.Path.{_≡_};
+ghost use mathlib.Core.Bool.{_&&_};
+ghost use mathlib.Core.Option.{none, some};
+ghost use lib.Dec.{eqb};
+ghost use lib.ListN.{length};
+ghost use Prim.Native.Nat.{_+_, _*_, _<_, _≤_};
+ghost use Rattle.completions.specs.Live.{countPairs};
+ghost use Rattle.pairs.specs.Storage.{stored};
+ghost use Rattle.pairs.specs.Changes.{eqNext, inWord, Adds, NextBit, Cleared, Copied};
+
+// Whether (a, b) is in the set at base.
+pub fn has(s: &[u64], base: usize, a: usize, b: usize) -> bool
+    requires { ⌜ (a < 256) × (b < 256) × (base ≤ 2056) × (3084 ≤ length (now s)) ⌝ }
+    ensures { λ r. ⌜ r ≡ stored (now (s .entry)) base a (some b) ⌝ }
+{
+    (s[base + (4 * a + b / 64)] >> (b % 64)) % 2 == 1
+}
+
+// Whether (a, end) is in the set at base.
+pub fn has_end(s: &[u64], base: usize, a: usize) -> bool
+    requires { ⌜ (a < 256) × (base ≤ 2056) × (3084 ≤ length (now s)) ⌝ }
+    ensures { λ r. ⌜ r ≡ stored (now (s .entry)) base a none ⌝ }
+{
+    (s[base + (1024 + a / 64)] >> (a % 64)) % 2 == 1
+}
+
+// Puts (a, b) into the set at base.
+pub fn insert(s: &mut [u64], base: usize, a: usize, b: usize)
+    requires { ⌜ (a < 256) × (b < 256) × (base ≤ 2056) × (3084 ≤ length (now s)) ⌝ }
+    ensures { λ r. ⌜ Adds base (now (s .entry)) (now (s .exit)) (λ x y. eqb x a && eqNext y (some b)) ⌝ }
+{
+    let k = base + (4 * a + b / 64);
+    s[k] = s[k] | 1 << (b % 64);
+}
+
+// Puts (a, end) into the set at base.
+pub fn insert_end(s: &mut [u64], base: usize, a: usize)
+    requires { ⌜ (a < 256) × (base ≤ 2056) × (3084 ≤ length (now s)) ⌝ }
+    ensures { λ r. ⌜ Adds base (now (s .entry)) (now (s .exit)) (λ x y. eqb x a && eqNext y none) ⌝ }
+{
+    let k = base + (1024 + a / 64);
+    s[k] = s[k] | 1 << (a % 64);
+}
+
+// Puts (a, 64 j + i) into the set at base, for each lane i of x that is set.
+pub fn insert_word(s: &mut [u64], base: usize, a: usize, j: usize, x: u64)
+    requires { ⌜ (a < 256) × (j < 4) × (base ≤ 2056) × (3084 ≤ length (now s)) ⌝ }
+    ensures { λ r. ⌜ Adds base (now (s .entry)) (now (s .exit)) (λ p y. eqb p a && inWord j x y) ⌝ }
+{
+    let k = base + (4 * a + j);
+    s[k] = s[k] | x;
+}
+
+// The first bit from `from` on that is set in the w words from `at` on, or 64 w if there is none.
+pub fn next_bit(s: &[u64], at: usize, w: usize, from: usize) -> usize
+    requires { ⌜ (from ≤ 64 * w) × (w ≤ 4) × (at ≤ 3084) × (at + w ≤ length (now s)) ⌝ }
+    ensures { λ r. ⌜ NextBit (now (s .entry)) at w from r ⌝ }
+{
+    let mut b = from;
+    while b < 64 * w {
+        let x = s[at + b / 64] >> (b % 64);
+        if x != 0 {
+            return b + u64::trailing_zeros(x) as usize;
+        }
+        b = (b / 64 + 1) * 64;
+    }
+    64 * w
+}
+
+// Empties the set at base.
+pub fn clear(s: &mut [u64], base: usize)
+    requires { ⌜ (base ≤ 2056) × (3084 ≤ length (now s)) ⌝ }
+    ensures { λ r. ⌜ Cleared base (now (s .entry)) (now (s .exit)) ⌝ }
+{
+    let mut k: usize = 0;
+    while k < 1028 {
+        s[base + k] = 0;
+        k += 1;
+    }
+}
+
+// Copies the scratch set onto the reached set.
+pub fn publish(s: &mut [u64])
+    requires { ⌜ 3084 ≤ length (now s) ⌝ }
+    ensures { λ r. ⌜ Copied (now (s .entry)) (now (s .exit)) ⌝ }
+{
+    let mut k: usize = 0;
+    while k < 1028 {
+        s[1028 + k] = s[2056 + k];
+        k += 1;
+    }
+}
+
+// The number of pairs in the live set: the counts of ones of its words, summed.
+pub fn count(s: &[u64]) -> usize
+    requires { ⌜ 3084 ≤ length (now s) ⌝ }
+    ensures { λ r. ⌜ (r ≡ countPairs 256 (stored (now (s .entry)) 0)) × (r ≤ 65792) ⌝ }
+{
+    let mut n: usize = 0;
+    let mut i: usize = 0;
+    while i < 1028 {
+        n += u64::count_ones(s[i]) as usize;
+        i += 1;
+    }
+    n
+}

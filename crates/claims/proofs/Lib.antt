@@ -1,1 +1,3 @@
-pub mod Machine
+pub mod BookLaws
+pub mod Refusals
+pub mod ThirdDemand

@@ -1,12 +1,11 @@
 -- The book (01, "Completions and verdicts", the book of the third demand): what each call of a journal is answered, said by completions
 -- alone. It is fed the sheet and the calls, and nothing else.
-use mathlib.Core.Bool.{Bool, true, false, not, _&&_, cond}
+use mathlib.Core.Bool.{Bool, true, false, cond}
 use mathlib.Core.Path.{_≡_}
 use mathlib.Core.List.{List, [], _∷_, _++_}
 use mathlib.Core.Option.{Option, none, some}
-use Prim.Native.Nat.{ℕ, _+_, _*_, _/_, _^_}
-use lib.Bits.{bitAnd}
-use lib.Dec.{eqb, leb, ltb}
+use Prim.Native.Nat.{ℕ, _+_}
+use lib.Dec.{eqb, leb}
 use lib.ListN.{length, getElem?}
 use Rattle.words.specs.Below.{one}
 use Rattle.refusal.specs.declared.Refusal.{Refusal}
@@ -15,6 +14,8 @@ use Rattle.refusal.specs.declared.Verdict.{Verdict}
 use Rattle.refusal.specs.declared.Verdict.the-variants.{False, True, Open, Broken}
 use Rattle.refusal.specs.Numbers.{verdictNo}
 use Rattle.sheet.specs.RuleSheet.{RuleSheet, outputs}
+use Rattle.letters.specs.Masks.{badMasks}
+use Rattle.record.specs.Record.{share}
 use Rattle.completions.specs.Completion.{LetterSet, masked}
 use Rattle.completions.specs.Judged.{RoundVerdict, ClosingVerdict}
 
@@ -48,20 +49,12 @@ unfoldable pub counted : List (List Verdict) → ℕ → Verdict → ℕ
 counted [] k v = 0
 counted (vs ∷ told) k v = one (isAt (getElem? vs k) v) + counted told k v
 
--- true rounds per thousand of t, nearest, halves up (01, "Tallies")
-unfoldable pub share : ℕ → ℕ → ℕ
-share trues t = (2000 * trues + t) / (2 * t)
-
--- a known bit lies beyond m, or a value bit isn't known
-unfoldable pub badMasks : RuleSheet → ℕ → ℕ → Bool
-badMasks x known val = not (ltb known (2 ^ x .inputs) && eqb (bitAnd val known) val)
-
 abbrev pub limit : ℕ
 limit = 1000000
 
 -- what a call is refused with, or none, when the list has t rounds
 unfoldable pub refusal : RuleSheet → ℕ → Bool → Call → Option Refusal
-refusal x t shut (round known val) = cond shut (some Closed) (cond (badMasks x known val) (some Letter) (cond (leb limit t) (some Full) none))
+refusal x t shut (round known val) = cond shut (some Closed) (cond (badMasks (x .inputs) known val) (some Letter) (cond (leb limit t) (some Full) none))
 refusal x t shut closing = cond shut (some Closed) (cond (eqb t 0) (some NoRound) none)
 
 -- a list with one entry for each of n outputs, of which R holds

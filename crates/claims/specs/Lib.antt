@@ -1,1 +1,3 @@
 pub mod Book
+pub mod Session
+pub mod Demands

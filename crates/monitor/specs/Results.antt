@@ -13,7 +13,7 @@ use Rattle.refusal.specs.declared.Outcome.the-variants.{Accepted, Refused}
 use Rattle.refusal.specs.declared.Verdict.{Verdict}
 use Rattle.refusal.specs.declared.Verdict.the-variants.{True}
 use Rattle.refusal.specs.Numbers.{verdictNo}
-use Rattle.sheet.specs.RuleSheet.{RuleSheet, outputs, streams}
+use Rattle.sheet.specs.RuleSheet.{RuleSheet, outputs, streams, accepted, readSheet}
 use Rattle.lola.specs.Equations.{output, letter}
 use Rattle.completions.specs.Live.{Pairs, Live, countPairs}
 use Rattle.completions.specs.Completion.{LetterSet, masked}
@@ -94,15 +94,20 @@ pub record ClosingDone (x : RuleSheet) (s : List ℕ) (r : JournalRecord) (a : C
   pub closed : a .record .closed ≡ true
   pub counts : a .record .counts ≡ r .counts
 
--- What each entry gives: its result, or where it is refused nothing but the refusal.
-abbrev pub PrepareResult : RuleSheet → List ℕ → List ℕ → PrepareAnswer → Outcome → Type 0
-PrepareResult x s t a Accepted = Prepared x s t a
-PrepareResult x s t a (Refused e) = (t ≡ s) × Fresh (a .record) × (a .live ≡ 0)
+-- P holds of the sheet that the bytes read as
+abbrev pub OfSheet : List ℕ → (RuleSheet → Type 0) → Type 0
+OfSheet bs P = (x : RuleSheet) × (readSheet bs ≡ accepted x) × P x
 
-abbrev pub RoundResult : RuleSheet → List ℕ → List ℕ → JournalRecord → ℕ → ℕ → RoundAnswer → Outcome → Type 0
-RoundResult x s t r known val a Accepted = RoundDone x s t r known val a
-RoundResult x s t r known val a (Refused e) = (t ≡ s) × (a .record ≡ r) × (a .verdicts ≡ replicate 7 0)
+-- What each entry gives by its outcome: what is done where it is accepted; where it is refused nothing but the refusal, and what was
+-- lent or handed in has not altered.
+abbrev pub PrepareResult : Type 0 → List ℕ → List ℕ → PrepareAnswer → Outcome → Type 0
+PrepareResult Done s t a Accepted = Done
+PrepareResult Done s t a (Refused e) = (t ≡ s) × Fresh (a .record) × (a .live ≡ 0)
 
-abbrev pub ClosingResult : RuleSheet → List ℕ → JournalRecord → ClosingAnswer → Outcome → Type 0
-ClosingResult x s r a Accepted = ClosingDone x s r a
-ClosingResult x s r a (Refused e) = (a .record ≡ r) × (a .verdicts ≡ replicate 7 0) × (a .shares ≡ replicate 7 0)
+abbrev pub RoundResult : Type 0 → List ℕ → List ℕ → JournalRecord → RoundAnswer → Outcome → Type 0
+RoundResult Done s t r a Accepted = Done
+RoundResult Done s t r a (Refused e) = (t ≡ s) × (a .record ≡ r) × (a .verdicts ≡ replicate 7 0)
+
+abbrev pub ClosingResult : Type 0 → JournalRecord → ClosingAnswer → Outcome → Type 0
+ClosingResult Done r a Accepted = Done
+ClosingResult Done r a (Refused e) = (a .record ≡ r) × (a .verdicts ≡ replicate 7 0) × (a .shares ≡ replicate 7 0)

@@ -175,3 +175,24 @@ counted-all n k vs old new e l x = record {
 
 pub share-small : (a t u : ℕ) → t ≡ u → 1 ≤ t → a ≤ t → (2000 * a + t) / (2 * u) < 1001
 share-small a t u e h l = div-lt-iff-lt-mul {k = 2 * u} (omega arith) .1 (omega arith)
+
+-- ---- one round more keeps rule 18
+
+verdict-counted-once : (d : ℕ) → d ≤ 3 → one (eqb d 1) + one (eqb d 0) + one (eqb d 2) + one (eqb d 3) ≡ 1
+verdict-counted-once zero h = refl
+verdict-counted-once (suc zero) h = refl
+verdict-counted-once (suc (suc zero)) h = refl
+verdict-counted-once (suc (suc (suc zero))) h = refl
+verdict-counted-once (suc (suc (suc (suc d)))) h = absurd (omega arith)
+
+add-up-of : (counts : List ℕ) (t n : ℕ) → ((k : ℕ) → k < n → sumAt counts k ≡ t) → addUp counts t n ≡ true
+unfolding addUp
+add-up-of counts t zero f = refl
+add-up-of counts t (suc n) f = rw (eq-eqb (sumAt counts n) t (f n (omega arith))) (add-up-of counts t n (λ k h. f k (omega arith)))
+
+pub record-more : (n : ℕ) (r q : JournalRecord) (vs : List ℕ) → RecordOk n r → r .rounds < 1000000 → AreVerdicts n vs
+    → q .rounds ≡ r .rounds + 1 → Counted n vs (r .counts) (q .counts) → recordOk n q ≡ true
+record-more n r q vs ok h are e x =
+    by-counts n q true (omega arith)
+    (add-up-of (q .counts) (q .rounds) n
+    (λ k l. omega (arith, x .each k True l, x .each k False l, x .each k Open l, x .each k Broken l, verdict-counted-once (getD vs k 0) (are k l), ok .sums k l)))

@@ -16,7 +16,8 @@ use Rattle.sheet.specs.declared.Assumed.{Assumed}
 use Rattle.sheet.specs.declared.Header.{Header}
 use Rattle.sheet.specs.declared.Header.the-variants.{Fields, Refused}
 use Rattle.sheet.proofs.Sheets.{tree-at, length-trees}
-use Rattle.sheet.proofs.Headers.{fields}
+use Rattle.sheet.specs.Checks.{inputsOf, outputsOf}
+use Rattle.sheet.proofs.Headers.{fields, fields-are}
 use Rattle.sheet.proofs.Postfixes.{tree-exactly}
 
 pub record Formed (x : RuleSheet) : Type 0 where
@@ -78,3 +79,21 @@ usable-formed x u =
           (subst (λ (z : ℕ). InSheet (x .inputs + z) (treeOf (parse (x .inputs + x .outputs) [] (codeAt (x .code) (x .len) s)))) (sym n)
           (tree-exactly (x .inputs + x .outputs) (codeAt (x .code) (x .len) s) _ .0 (u .parts s h .parses) .1));
     }
+
+-- the sheet's counts are those of its header
+pub counts-of : (bs : List ℕ) (x : RuleSheet) → readSheet bs ≡ accepted x → (x .inputs ≡ inputsOf bs) × (outputs x ≡ outputsOf bs)
+unfolding readSheet
+counts-of bs x h = go (headerOf bs) refl h
+  where
+    with : (m n : ℕ) (a : Assumed) (o : Outputs) → readOutputs (m + n) n (drop 8 bs) ≡ o → withOutputs m n a o ≡ accepted x → (x .inputs ≡ m) × (outputs x ≡ n)
+    with m n a (trees ts) f e =
+        let same : record { inputs = m; expressions = ts; required = requiredOf a } ≡ x = cc in
+        (sym (ap (λ (y : RuleSheet). y .inputs) same), sym (ap outputs same) ∙ all-in (m + n) n (drop 8 bs) ts f .0)
+    with m n a (breaks r) f e = absurd (let y : _≡_ {A = ℕ} 0 1 = cc in omega arith)
+
+    go : (k : Header) → headerOf bs ≡ k → withHeader bs k ≡ accepted x → (x .inputs ≡ inputsOf bs) × (outputs x ≡ outputsOf bs)
+    go (Fields m n a) f e =
+        let c = with m n a (readOutputs (m + n) n (drop 8 bs)) refl e in
+        let d = fields-are bs m n a f in
+        (c .0 ∙ d .0, c .1 ∙ d .1)
+    go (Refused r) f e = absurd (let y : _≡_ {A = ℕ} 0 1 = cc in omega arith)

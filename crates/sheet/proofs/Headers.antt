@@ -68,3 +68,19 @@ fields bs m n x h =
           rw (p, q) at (counts (getD bs 5 0) (getD bs 6 0) f),
           rw (q, r) at (assumes (getD bs 7 0) (getD bs 6 0) y g),
         )
+
+-- m and n are bytes 5 and 6
+pub fields-are : (bs : List ℕ) (m n : ℕ) (x : Assumed) → headerOf bs ≡ Fields m n x → (m ≡ getD bs 5 0) × (n ≡ getD bs 6 0)
+unfolding headerOf
+fields-are bs m n x h =
+    go (ltb (length bs) 8) (markOk bs) (eqb (versionOf bs) 1) (countsOk (getD bs 5 0) (getD bs 6 0)) (assumedAt (getD bs 7 0) (getD bs 6 0)) h
+  where
+    go : (t u v w : Bool) (y : AssumedRead)
+        → cond t (Refused Short) (cond u (cond v (cond w (fieldsOf (getD bs 5 0) (getD bs 6 0) y) (Refused Counts)) (Refused Version)) (Refused Mark)) ≡ Fields m n x
+        → (m ≡ getD bs 5 0) × (n ≡ getD bs 6 0)
+    go true u v w y k = absurd (let z : _≡_ {A = ℕ} 0 1 = cc in omega arith)
+    go false false v w y k = absurd (let z : _≡_ {A = ℕ} 0 1 = cc in omega arith)
+    go false true false w y k = absurd (let z : _≡_ {A = ℕ} 0 1 = cc in omega arith)
+    go false true true false y k = absurd (let z : _≡_ {A = ℕ} 0 1 = cc in omega arith)
+    go false true true true (assumed.Refused r) k = absurd (let z : _≡_ {A = ℕ} 0 1 = cc in omega arith)
+    go false true true true (assumed.Is y) k = (cc, cc)

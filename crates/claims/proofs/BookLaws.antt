@@ -1,4 +1,4 @@
--- The monitor as a machine on sets of pairs, and that it answers every list of calls as the book does.
+-- The verdicts read off the reached set are the book's, and the book leaves nothing open.
 use mathlib.Core.Bool.{Bool, true, false, not, cond}
 use mathlib.Core.Path.{_≡_, refl, sym, ap, ap₂, subst, _∙_}
 use mathlib.Core.List.{List, [], _∷_, _++_, map}
@@ -23,51 +23,9 @@ use Rattle.completions.proofs.Follow.{length-snoc}
 use Rattle.completions.proofs.Steps.{start-exact, step-exact}
 use Rattle.completions.proofs.Verdicts.{one-verdict, test-verdict, test-closing}
 use Rattle.completions.proofs.Letters.{onLetter, onLetters, letters-verdict, letters-closing}
-use Rattle.claims.specs.Book.{Call, round, closing, Answer, refused, verdicts, closed, Book, emptyBook, isAt, counted, share, refusal, Each, BookStep, refuse, accept, close, BookRun, finish, next}
-
--- ---- the machine
-
-pub record State : Type 0 where
-  pub rounds : ℕ
-  pub shut : Bool
-  pub counts : ℕ → Verdict → ℕ
-  pub reached : Pairs
-
--- f k, f (k + 1), .., n in all
-unfoldable pub forEach : {A : Type 0} → ℕ → ℕ → (ℕ → A) → List A
-forEach k zero f = []
-forEach k (suc n) f = f k ∷ forEach (suc k) n f
-
--- a fresh record, with any set
-abbrev pub fresh : Pairs → State
-fresh S = record { rounds = 0; shut = false; counts = λ k v. 0; reached = S }
-
--- the set after one round more than t
-abbrev pub nextSet : RuleSheet → ℕ → Pairs → ℕ → Pairs → Round → Pairs
-nextSet x w L zero S r = startSet x L r
-nextSet x w L (suc t) S r = stepSet x w L S r
-
-abbrev pub Outcome : Type 0
-Outcome = record { answer : Answer; state : State }
-
-abbrev pub perform : RuleSheet → ℕ → Pairs → State → Call → Option Refusal → Outcome
-perform x w L st c (some e) = record { answer = refused e; state = st }
-perform x w L st (round known val) none =
-    let S : Pairs = nextSet x w L (st .rounds) (st .reached) (onLetter x (masked known val)) in
-    let vs : List Verdict = forEach 0 (outputs x) (λ k. pairsVerdict w S (output x k)) in
-    record {
-      answer = verdicts vs;
-      state = record { rounds = suc (st .rounds); shut = st .shut; counts = λ k v. one (isAt (getElem? vs k) v) + st .counts k v; reached = S };
-    }
-perform x w L st closing none =
-    record {
-      answer = closed (forEach 0 (outputs x) (λ k. endsVerdict w (st .reached) (output x k)))
-          (forEach 0 (outputs x) (λ k. share (st .counts k True) (st .rounds)));
-      state = record { rounds = st .rounds; shut = true; counts = st .counts; reached = st .reached };
-    }
-
-abbrev pub respond : RuleSheet → ℕ → Pairs → State → Call → Outcome
-respond x w L st c = perform x w L st c (refusal x (st .rounds) (st .shut) c)
+use Rattle.monitor.specs.Results.{width, nextSet}
+use Rattle.record.specs.Record.{share}
+use Rattle.claims.specs.Book.{Call, round, closing, Answer, refused, verdicts, closed, Book, emptyBook, isAt, counted, refusal, Each, BookStep, refuse, accept, close, BookRun, finish, next}
 
 -- ---- lists with an entry for each output
 
@@ -77,20 +35,6 @@ module _ {A : Type 0} where
 
   pub same-entry : {y z : A} → some y ≡ some z → y ≡ z
   same-entry e = cc
-
-  for-size : (k n : ℕ) (f : ℕ → A) → length (forEach k n f) ≡ n
-  unfolding forEach
-  for-size k zero f = refl
-  for-size k (suc n) f = ap suc (for-size (suc k) n f)
-
-  for-right : (R : ℕ → A → Type 0) (f : ℕ → A) → ((k : ℕ) → R k (f k)) → (k n i : ℕ) (y : A) → getElem? (forEach k n f) i ≡ some y → R (k + i) y
-  unfolding forEach
-  for-right R f h k zero i y e = absurd (no-entry e)
-  for-right R f h k (suc n) zero y e = rw (add-zero, ← same-entry e) (h k)
-  for-right R f h k (suc n) (suc i) y e = rw (add-suc, ← suc-add) (for-right R f h (suc k) n i y e)
-
-  pub for-each : (n : ℕ) (R : ℕ → A → Type 0) (f : ℕ → A) → ((k : ℕ) → R k (f k)) → Each n R (forEach 0 n f)
-  for-each n R f h = record { size = for-size 0 n f; right = λ k y e. rw zero-add at (for-right R f h 0 n k y e) }
 
   same-list : (xs ys : List A) → length xs ≡ length ys → ((k : ℕ) (y z : A) → getElem? xs k ≡ some y → getElem? ys k ≡ some z → y ≡ z) → xs ≡ ys
   same-list [] [] l h = refl
@@ -107,24 +51,23 @@ module _ {A : Type 0} where
 
 -- ---- the machine keeps to the book
 
-map-snoc : {A B : Type 0} (f : A → B) (xs : List A) (y : A) → map f (xs ++ y ∷ []) ≡ map f xs ++ f y ∷ []
+pub map-snoc : {A B : Type 0} (f : A → B) (xs : List A) (y : A) → map f (xs ++ y ∷ []) ≡ map f xs ++ f y ∷ []
 map-snoc f [] y = refl
 map-snoc f (x ∷ xs) y = ap (λ (zs : List _). f x ∷ zs) (map-snoc f xs y)
 
-module _ (x : RuleSheet) (w : ℕ) (small : 2 ^ streams x ≤ w) (L : Pairs) (live : Represents w L (Live x)) where
+module _ (x : RuleSheet) (L : Pairs) (live : Represents (width x) L (Live x)) where
+  abbrev w : ℕ
+  w = width x
+
+  small : 2 ^ streams x ≤ w
+  small = omega arith
+
   -- after one round or more the set holds exactly the reached pairs
   abbrev pub Reaches : List Round → Pairs → Type 0
   Reaches [] S = Unit {0}
   Reaches (q ∷ qs) S = Represents w S (Reached x (q ∷ qs))
 
-  -- the record and the set are those of the book
-  pub record Tracks (b : Book) (st : State) : Type 0 where
-    pub rounds : st .rounds ≡ length (b .rounds)
-    pub shut : st .shut ≡ b .shut
-    pub counts : (k : ℕ) (v : Verdict) → st .counts k v ≡ counted (b .told) k v
-    pub reached : Reaches (onLetters x (b .rounds)) (st .reached)
-
-  next-reaches : (rs : List Round) (S : Pairs) (t : ℕ) (r : Round) → t ≡ length rs → Reaches rs S → Reaches (rs ++ r ∷ []) (nextSet x w L t S r)
+  pub next-reaches : (rs : List Round) (S : Pairs) (t : ℕ) (r : Round) → t ≡ length rs → Reaches rs S → Reaches (rs ++ r ∷ []) (nextSet x L t S r)
   next-reaches [] S zero r e h = start-exact x w small L live r
   next-reaches [] S (suc t) r e h = absurd (omega arith)
   next-reaches (q ∷ qs) S zero r e h = absurd (omega arith)
@@ -143,63 +86,17 @@ module _ (x : RuleSheet) (w : ℕ) (small : 2 ^ streams x ≤ w) (L : Pairs) (li
       letters-closing x (q ∷ qs) (suc (length qs)) (output x k) _
       (rw (length-map qs (onLetter x)) at (test-closing x w small (onLetter x q) (onLetters x qs) S h (output x k)))
 
-  round-right : (rs : List LetterSet) (r : LetterSet) (S : Pairs) → Reaches (onLetters x (rs ++ r ∷ [])) S → (k : ℕ) → RoundVerdict x (rs ++ r ∷ []) k (pairsVerdict w S (output x k))
+  pub round-right : (rs : List LetterSet) (r : LetterSet) (S : Pairs) → Reaches (onLetters x (rs ++ r ∷ [])) S → (k : ℕ) → RoundVerdict x (rs ++ r ∷ []) k (pairsVerdict w S (output x k))
   round-right [] r S h k = reaches-round r [] S h k
   round-right (q ∷ qs) r S h k = reaches-round q (qs ++ r ∷ []) S h k
 
   -- a closing that is not refused has a round
-  closing-right : (rs : List LetterSet) (S : Pairs) (shut : Bool) → refusal x (length rs) shut closing ≡ none → Reaches (onLetters x rs) S
+  pub closing-right : (rs : List LetterSet) (S : Pairs) (shut : Bool) → refusal x (length rs) shut closing ≡ none → Reaches (onLetters x rs) S
       → (k : ℕ) → ClosingVerdict x rs k (endsVerdict w S (output x k))
   unfolding refusal
   closing-right [] S true e h k = absurd (no-entry (sym e))
   closing-right [] S false e h k = absurd (no-entry (sym e))
   closing-right (q ∷ qs) S shut e h k = reaches-closing q qs S h k
-
-  -- one call
-  pub record Kept (b : Book) (c : Call) (o : Outcome) : Type 0 where
-    pub book : Book
-    pub step : BookStep x b c (o .answer) book
-    pub tracks : Tracks book (o .state)
-
-  kept : (b : Book) (st : State) (c : Call) (o : Option Refusal) → Tracks b st → refusal x (length (b .rounds)) (b .shut) c ≡ o → Kept b c (perform x w L st c o)
-  unfolding counted
-  kept b st c (some e) tr q = record { book = b; step = refuse q; tracks = tr }
-  kept b st (round known val) none tr q =
-      let r : LetterSet = masked known val in
-      let S : Pairs = nextSet x w L (st .rounds) (st .reached) (onLetter x r) in
-      let f : ℕ → Verdict = λ k. pairsVerdict w S (output x k) in
-      let n : ℕ = outputs x in
-      let h : Reaches (onLetters x (b .rounds ++ r ∷ [])) S =
-      rw (map-snoc (onLetter x) (b .rounds) r)
-      (next-reaches (onLetters x (b .rounds)) (st .reached) (st .rounds) (onLetter x r) (tr .rounds ∙ sym (length-map (b .rounds) (onLetter x))) (tr .reached)) in
-      record {
-        book = record { rounds = b .rounds ++ r ∷ []; told = forEach 0 n f ∷ b .told; shut = b .shut };
-        step = accept q (for-each n (RoundVerdict x (b .rounds ++ r ∷ [])) f (round-right (b .rounds) r S h));
-        tracks = record {
-          rounds = ap suc (tr .rounds) ∙ sym (length-snoc (b .rounds) r);
-          shut = tr .shut;
-          counts = λ k v. rw (tr .counts k v);
-          reached = h;
-        };
-      }
-  kept b st closing none tr q =
-      let f : ℕ → Verdict = λ k. endsVerdict w (st .reached) (output x k) in
-      let g : ℕ → ℕ = λ k. share (st .counts k True) (st .rounds) in
-      let n : ℕ = outputs x in
-      record {
-        book = record { rounds = b .rounds; told = b .told; shut = true };
-        step = close q
-            (for-each n (ClosingVerdict x (b .rounds)) f (closing-right (b .rounds) (st .reached) (b .shut) q (tr .reached)))
-            (for-each n (λ k y. y ≡ share (counted (b .told) k True) (length (b .rounds))) g (λ k. rw (tr .counts k True, tr .rounds)));
-        tracks = record { rounds = tr .rounds; shut = refl; counts = tr .counts; reached = tr .reached };
-      }
-
-  pub one-call : (b : Book) (st : State) (c : Call) → Tracks b st → Kept b c (respond x w L st c)
-  one-call b st c tr = kept b st c (refusal x (st .rounds) (st .shut) c) tr (rw (tr .rounds, tr .shut) refl)
-
-  pub fresh-tracks : (S : Pairs) → Tracks emptyBook (fresh S)
-  unfolding counted
-  fresh-tracks S = record { rounds = refl; shut = refl; counts = λ k v. refl; reached = tt }
 
 -- ---- the book leaves nothing open: one answer and one book after each call
 

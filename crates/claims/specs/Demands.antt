@@ -1,0 +1,29 @@
+-- The demands as types; their proofs are in proofs/.
+use mathlib.Core.Path.{_≡_}
+use mathlib.Core.List.{List}
+use Prim.Native.Nat.{ℕ}
+use lib.ListN.{length}
+use Rattle.refusal.specs.declared.Outcome.the-variants.{Accepted}
+use Rattle.refusal.specs.Decided.{Decided}
+use Rattle.sheet.specs.RuleSheet.{RuleSheet, accepted, readSheet}
+use Rattle.record.specs.declared.JournalRecord.{JournalRecord}
+use Rattle.monitor.specs.Checks as checks
+use Rattle.monitor.specs.Results.{OfSheet, Prepared}
+use Rattle.monitor.specs.declared.PrepareAnswer.{PrepareAnswer}
+use Rattle.claims.specs.Book.{Call, Answer, Book, emptyBook, BookRun}
+use Rattle.claims.specs.Session.{Held, Session, Matches}
+
+-- what preparation is handed: the storage lent; it takes no record and no masks, so these may be any
+abbrev pub lent : List ℕ → JournalRecord → checks.Given
+lent s r = record { lent = length s; before = r; known = 0; val = 0 }
+
+-- The third demand (01, "Completions and verdicts"): after one accepted preparation with the sheet bs, whatever the storage s held, for
+-- every list of rounds and closings with that sheet, refused ones included, the answers are the book's, and the record afterwards is the
+-- book's too.
+abbrev pub ThirdDemand : Type 0
+ThirdDemand =
+    (bs s t : List ℕ) (r : JournalRecord) (p : PrepareAnswer)
+    → Decided (checks.Broken bs (lent s r)) checks.rule (checks.entryChecks bs checks.prepareChecks) Accepted
+    → OfSheet bs (λ x. Prepared x s t p)
+    → (cs : List Call) (as′ : List Answer) (h : Held) → Session bs (record { storage = t; journal = p .record }) cs as′ h
+    → (x : RuleSheet) × (readSheet bs ≡ accepted x) × (b : Book) × BookRun x emptyBook cs as′ b × Matches x b (h .journal)

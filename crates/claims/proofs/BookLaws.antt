@@ -80,7 +80,7 @@ module _ (x : RuleSheet) (L : Pairs) (live : Represents (width x) L (Live x)) wh
       letters-verdict x (q ∷ qs) (suc (length qs)) (output x k) _
       (rw (length-map qs (onLetter x)) at (test-verdict x w small (onLetter x q) (onLetters x qs) S h (output x k)))
 
-  reaches-closing : (q : LetterSet) (qs : List LetterSet) (S : Pairs) → Reaches (onLetters x (q ∷ qs)) S → (k : ℕ) → ClosingVerdict x (q ∷ qs) k (endsVerdict w S (output x k))
+  pub reaches-closing : (q : LetterSet) (qs : List LetterSet) (S : Pairs) → Reaches (onLetters x (q ∷ qs)) S → (k : ℕ) → ClosingVerdict x (q ∷ qs) k (endsVerdict w S (output x k))
   unfolding ClosingVerdict
   reaches-closing q qs S h k =
       letters-closing x (q ∷ qs) (suc (length qs)) (output x k) _

@@ -53,7 +53,7 @@ use Rattle.claims.proofs.Refusals.{outcomeBy, SheetOk, round-decided, c
 
 -- ---- lists of verdicts and shares
 
-verdict-back : (v : Verdict) → verdictAt (verdictNo v) ≡ v
+pub verdict-back : (v : Verdict) → verdictAt (verdictNo v) ≡ v
 verdict-back False = refl
 verdict-back True = refl
 verdict-back Open = refl

@@ -13,3 +13,4 @@ pub mod Decided
 pub mod Values
 pub mod Lists
 pub mod OneTrace
+pub mod Examples

@@ -10,7 +10,7 @@ use refusal::Refusal;
 use sheet::Sheet;
 use sheet::SheetRead;
 
-mod reads; // reads.rt: the reads between the outputs of a sheet
+pub mod reads; // reads.rt: the reads between the outputs of a sheet
 mod table; // table.rt: the check on a table of reads
 
 // Rule 10, for a sheet that was read.

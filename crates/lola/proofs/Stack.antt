@@ -1,5 +1,5 @@
 -- The stack of bits in one word follows the stack of trees. Assumes nothing.
-use mathlib.Core.Path.{_≡_, refl, sym, ap, _∙_}
+use mathlib.Core.Path.{_≡_, refl, ap, _∙_}
 use mathlib.Core.Bool.{Bool, true, false, cond, not, _&&_, _||_}
 use mathlib.Core.List.{List, [], _∷_}
 use Prim.Native.Nat.{ℕ, suc, _+_, _-_, _*_, _/_, _%_, _^_, _≤_, _<_}
@@ -10,12 +10,11 @@ use lib.ListN.{length, drop, getD, drop-of-length-le}
 use lib.Seq.{drop-cons}
 use lib.Pow.{pow-mono}
 use borrow.Author.Tests.{leb-true, eqb-true}
-use Rattle.words.specs.Bits.{bit, digit}
+use Rattle.words.specs.Bits.{bit}
 use Rattle.words.specs.Below.{one}
 use Rattle.words.proofs.BitLaws.{digit-of}
 use Rattle.sheet.specs.Bytes.{opOf, readsOf, readOf, within}
-use Rattle.sheet.specs.Expression.{Expr, constant, negation, conjunction, disjunction, read, Next, stack, breaks, Parsed, tree, broken, applyOp, final, go-on, parse}
-use Rattle.sheet.specs.declared.StreamNo.{StreamNo}
+use Rattle.sheet.specs.Expression.{Expr, constant, negation, conjunction, disjunction, read, stack, breaks, tree, broken, applyOp, final, go-on, parse}
 use Rattle.sheet.specs.declared.Offset.{Offset}
 use Rattle.sheet.specs.declared.Offset.the-variants.{Earlier, Now, Later}
 use Rattle.sheet.specs.declared.Op.{Op}

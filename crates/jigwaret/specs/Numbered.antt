@@ -1,0 +1,24 @@
+-- What the exported functions give: the number of the outcome that the entry's definition has (01, "What is turned down").
+use mathlib.Core.Path.{_≡_}
+use mathlib.Core.List.{List}
+use Prim.Native.Nat.{ℕ}
+use lib.ListN.{length}
+use Rattle.refusal.specs.declared.Outcome.{Outcome}
+use Rattle.refusal.specs.Numbers.{outcomeNo}
+use Rattle.refusal.specs.Decided.{Decided}
+use Rattle.circular.specs.Checks as sheets
+use Rattle.trace.specs.Checks as traces
+use Rattle.trace.specs.Evaluated.{Evaluated}
+
+-- the check of a sheet
+pub record Checked (bs : List ℕ) (r : ℕ) : Type 0 where
+  pub outcome : Outcome
+  pub decided : Decided (sheets.Broken bs) sheets.rule (sheets.checksOf bs) outcome
+  pub number : r ≡ outcomeNo outcome
+
+-- evaluation
+pub record EvaluatedAs (bs letters old new : List ℕ) (r : ℕ) : Type 0 where
+  pub outcome : Outcome
+  pub decided : Decided (traces.Broken bs letters (length old)) traces.rule (traces.checksOf bs letters) outcome
+  pub evaluated : Evaluated bs letters old new outcome
+  pub number : r ≡ outcomeNo outcome

@@ -1,0 +1,5 @@
+pub mod StackLaws
+pub mod ParseLaws
+pub mod TableLaws
+pub mod CodeLaws
+pub mod BlindLaws

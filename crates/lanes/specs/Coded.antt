@@ -1,0 +1,28 @@
+-- For the contracts of private functions: a sheet as the slices and numbers that the code hands on.
+use mathlib.Core.Bool.{Bool, true, _&&_, Bool·beq}
+use mathlib.Core.Path.{_≡_}
+use mathlib.Core.List.{List, [], _∷_}
+use Prim.Native.Nat.{ℕ, suc, _+_, _≤_, _<_}
+use lib.ListN.{length, getD}
+use Rattle.words.specs.Bits.{bit}
+use Rattle.sheet.specs.Expression.{Expr}
+use Rattle.sheet.specs.RuleSheet.{RuleSheet}
+use Rattle.sheet.specs.Reading.{Ranges, Parses, codeAt, treesOf}
+use Rattle.lola.specs.Value.{Look, value}
+
+-- m inputs, n outputs, and their expressions, which parse
+pub record Coded (m n : ℕ) (code len : List ℕ) : Type 0 where
+  pub ranges : Ranges m n
+  pub room : length code ≡ 448
+  pub sizes : length len ≡ 7
+  pub small : (k : ℕ) → k < n → getD len k 0 ≤ 64
+  pub parts : (k : ℕ) → k < n → Parses (m + n) (codeAt code len k)
+
+-- the rule sheet that they stand for; which outputs it requires is of no concern to the equations
+abbrev pub sheetOf : ℕ → ℕ → List ℕ → List ℕ → List ℕ → RuleSheet
+sheetOf m n code len ks = record { inputs = m; expressions = treesOf (m + n) code len n; required = ks }
+
+-- the streams q, q + 1, .. of v have the values of the expressions es, with any reads
+unfoldable pub agreed : Look → List Expr → ℕ → ℕ → Bool
+agreed look [] q v = true
+agreed look (e ∷ es) q v = Bool·beq (bit q v) (value look e) && agreed look es (suc q) v

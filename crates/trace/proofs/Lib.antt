@@ -1,0 +1,6 @@
+pub mod Rounds
+pub mod Flips
+pub mod Passes
+pub mod Solving
+pub mod Order
+pub mod Whole

@@ -1,0 +1,62 @@
+-- `trace::fill` meets its contract. Assumes nothing.
+use Rattle.trace.proofs.Whole.{setting-of, part-length, cleared-room, filled-start, written-of}
+use borrow.Author.Needs.{needs}
+use Rattle.trace.proofs.fill.Statement.{statement}
+use Rattle.trace.proofs.fill.Tie as tie
+
+cast-m : tie.Need-cast-m
+cast-m c = search needs
+
+cast-n : tie.Need-cast-n
+cast-n c = search needs
+
+sheet-masks-requires : tie.Need-sheet-masks-requires
+sheet-masks-requires c κs = search needs
+
+slice-relend-prefix-clear : tie.Need-slice-relend-prefix-clear
+slice-relend-prefix-clear c = search needs
+
+slice-aggregate-clear : tie.Need-slice-aggregate-clear
+slice-aggregate-clear c = part-length _ _ (c .before .before .before .before .before .before .before .before .pre .2 .fits)
+
+clear-requires : tie.Need-clear-requires
+clear-requires c κs = search needs
+
+slice-aggregate-solve : tie.Need-slice-aggregate-solve
+slice-aggregate-solve c = search needs
+
+slice-aggregate-solve-2 : tie.Need-slice-aggregate-solve-2
+slice-aggregate-solve-2 c = search needs
+
+slice-relend-prefix-solve : tie.Need-slice-relend-prefix-solve
+slice-relend-prefix-solve c = search needs
+
+slice-aggregate-solve-3 : tie.Need-slice-aggregate-solve-3
+slice-aggregate-solve-3 c = let st = c .before .before .before .before .before .before .before .before .before .before .before .before .before .before in cleared-room _ (st .args .out .now) (c .before .before .before .before .before .clear .last .0) (st .pre .2 .fits) (c .before .before .before .before .before .clear .ensures .0)
+
+solve-requires : tie.Need-solve-requires
+solve-requires c κs = let st = c .before .before .before .before .before .before .before .before .before .before .before .before .before .before .before in let a = st .args in (setting-of (a .x) (st .pre .0), filled-start (a .x) (st .pre .0) _ (a .out .now) (c .before .before .before .before .before .before .clear .last .0) (st .pre .2) (c .before .before .before .before .before .before .clear .ensures .0) (c .before .before .before .before .before .before .clear .ensures .1))
+
+same-length : tie.Need-same-length
+same-length c = let st = c .before .before .before .before .before .before .before .before .before .before .before .before .before .before .before .before .before .before in let a = st .args in written-of (a .x) (st .pre .0) _ (a .out .now) (c .before .before .before .before .before .before .before .before .before .clear .last .0) (st .pre .2) (c .before .before .before .before .before .before .before .before .before .clear .ensures .0) (c .before .before .before .before .before .before .before .before .before .clear .ensures .1) (st .pre .1) _ (c .before .before .solve .ensures) .len
+
+returns : tie.Need-returns
+returns c = let st = c .before .before .before .before .before .before .before .before .before .before .before .before .before .before .before .before .before .before in let a = st .args in written-of (a .x) (st .pre .0) _ (a .out .now) (c .before .before .before .before .before .before .before .before .before .clear .last .0) (st .pre .2) (c .before .before .before .before .before .before .before .before .before .clear .ensures .0) (c .before .before .before .before .before .before .before .before .before .clear .ensures .1) (st .pre .1) _ (c .before .before .solve .ensures)
+
+pub fill-spec : {M : Type 1} → statement M
+fill-spec =
+    tie.close
+    (tie.spec
+    cast-m
+    cast-n
+    sheet-masks-requires
+    slice-relend-prefix-clear
+    slice-aggregate-clear
+    clear-requires
+    slice-aggregate-solve
+    slice-aggregate-solve-2
+    slice-relend-prefix-solve
+    slice-aggregate-solve-3
+    solve-requires
+    same-length
+    returns)

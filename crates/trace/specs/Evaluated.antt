@@ -1,0 +1,27 @@
+-- What evaluation leaves in the buffer (01, "Whole traces").
+use mathlib.Core.Path.{_≡_}
+use mathlib.Core.List.{List}
+use mathlib.Core.Option.{none}
+use Prim.Native.Nat.{ℕ, _^_, _<_}
+use lib.ListN.{length, getD, take, drop}
+use Rattle.refusal.specs.declared.Outcome.{Outcome}
+use Rattle.refusal.specs.declared.Outcome.the-variants.{Accepted, Refused}
+use Rattle.sheet.specs.RuleSheet.{RuleSheet, outputs, accepted, readSheet}
+use Rattle.lola.specs.Equations.{Satisfies, joined}
+
+-- For each of the N letters the byte whose bit k is output k: no bit beyond the outputs is set, and the valuations that letters and
+-- bytes make satisfy all equations, nothing before the first and nothing after the last. Bytes after the first N keep their contents.
+pub record Written (x : RuleSheet) (letters old new : List ℕ) : Type 0 where
+  pub len : length new ≡ length old
+  pub rest : drop (length letters) new ≡ drop (length letters) old
+  pub bytes : (i : ℕ) → i < length letters → getD new i 0 < 2 ^ outputs x
+  pub satisfies : Satisfies x none (joined (x .inputs) letters (take (length letters) new))
+
+-- a refusal leaves the buffer that was handed in
+abbrev pub Left : RuleSheet → List ℕ → List ℕ → List ℕ → Outcome → Type 0
+Left x letters old new Accepted = Written x letters old new
+Left x letters old new (Refused r) = new ≡ old
+
+abbrev pub Evaluated : List ℕ → List ℕ → List ℕ → List ℕ → Outcome → Type 0
+Evaluated bs letters old new Accepted = (x : RuleSheet) × (readSheet bs ≡ accepted x) × Written x letters old new
+Evaluated bs letters old new (Refused r) = new ≡ old

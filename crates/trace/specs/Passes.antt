@@ -1,0 +1,102 @@
+-- For the contracts of private functions: a buffer as the values of the outputs, and what refreshing some of its places does.
+use mathlib.Core.Path.{_≡_}
+use mathlib.Core.Bool.{Bool, true, false, cond, _&&_}
+use mathlib.Core.List.{List, []}
+use Prim.Native.Nat.{ℕ, suc, _+_, _-_, _^_, _≤_, _<_}
+use lib.Dec.{leb}
+use lib.ListN.{length, getD}
+use Rattle.words.specs.Bits.{bit}
+use Rattle.sheet.specs.Expression.{Expr, tree, parse}
+use Rattle.sheet.specs.Reading.{treeOf, codeAt}
+use Rattle.sheet.specs.declared.Offset.{Offset}
+use Rattle.lola.specs.Slots.{slots}
+use Rattle.lola.proofs.Places.{Values, joint, lookAt, right}
+use Rattle.circular.specs.Circular.{Circular}
+use Rattle.circular.proofs.Unique.{Place, Reads, Solves}
+use Rattle.circular.proofs.Sweep.{Right, RightAt}
+
+-- bit s of the byte of round t
+unfoldable pub valuesOf : List ℕ → Values
+valuesOf l s t = bit s (getD l (t - 1) 0)
+
+-- the expression of output k, in a sheet of s streams
+abbrev pub treeIn : ℕ → List ℕ → List ℕ → ℕ → Expr
+treeIn s code len k = treeOf (parse s [] (codeAt code len k))
+
+-- the right sides of the equations over the letters
+unfoldable pub sides : ℕ → ℕ → List ℕ → List ℕ → List ℕ → Values → Values
+sides m n code len letters = right m (treeIn (m + n) code len) (length letters) (valuesOf letters)
+
+-- a sheet of m inputs and n outputs that was read
+pub record Setting (m n : ℕ) (code len : List ℕ) : Type 0 where
+  pub outputs : n ≤ 7
+  pub room : length code ≡ 448
+  pub sizes : length len ≡ 7
+  pub small : (k : ℕ) → k < n → getD len k 0 ≤ 64
+  pub parses : (k : ℕ) → k < n → parse (m + n) [] (codeAt code len k) ≡ tree (treeIn (m + n) code len k)
+
+-- a letter of m bits and a byte of n bits for each round
+pub record Filled (m n : ℕ) (letters buf : List ℕ) : Type 0 where
+  pub streams : m + n ≤ 8
+  pub rounds : length letters ≤ 4096
+  pub same : length buf ≡ length letters
+  pub letters-below : (i : ℕ) → i < length letters → getD letters i 0 < 2 ^ m
+  pub bytes-below : (i : ℕ) → i < length buf → getD buf i 0 < 2 ^ n
+
+-- the stream q in the round u, where u + 1 = at, or d where there is no such round
+unfoldable pub seen : ℕ → List ℕ → List ℕ → ℕ → ℕ → Bool → Bool
+seen m letters buf at q d =
+    cond (leb 2 at && leb at (suc (length letters))) (joint m (valuesOf letters) (valuesOf buf) q (at - 1)) d
+
+-- two bytes: the streams of that round, false in the low one and true in the high one where there is none
+pub record Beside (m : ℕ) (letters buf : List ℕ) (at r : ℕ) : Type 0 where
+  pub small : r < 2 ^ 16
+  pub low : (q : ℕ) → q < 8 → bit q r ≡ seen m letters buf at q false
+  pub high : (q : ℕ) → q < 8 → bit (8 + q) r ≡ seen m letters buf at q true
+
+-- the reads of round t in one word
+pub record Environment (m : ℕ) (letters buf : List ℕ) (t r : ℕ) : Type 0 where
+  pub reads : (q : ℕ) (o : Offset) (d : Bool) → q < 8 → slots r q o d ≡ lookAt m (length letters) (valuesOf letters) (valuesOf buf) t q o d
+
+-- bit s of byte i is made v, and whether that changed it
+pub record BitPut (i s : ℕ) (v : Bool) (old new : List ℕ) (changed : Bool) : Type 0 where
+  pub len : length new ≡ length old
+  pub others : (j : ℕ) → (j ≡ i → ⊥) → getD new j 0 ≡ getD old j 0
+  pub put : bit s (getD new i 0) ≡ v
+  pub kept : (k : ℕ) → (k ≡ s → ⊥) → bit k (getD new i 0) ≡ bit k (getD old i 0)
+  pub below : (n : ℕ) → s < n → getD old i 0 < 2 ^ n → getD new i 0 < 2 ^ n
+  pub same : changed ≡ false → new ≡ old
+
+-- The places of P were refreshed, and others maybe. What was right stays right; the places of P come one read further; and where
+-- nothing changed, the equations hold at the places of P.
+pub record Passed (n N : ℕ) (f : Values → Values) (P : ℕ → ℕ → Type 0) (old new : List ℕ) (changed : Bool) : Type 0 where
+  pub len : length new ≡ length old
+  pub below : ((i : ℕ) → i < length old → getD old i 0 < 2 ^ n) → (i : ℕ) → i < length new → getD new i 0 < 2 ^ n
+  pub hold : (E : ℕ → ℕ → ℕ → Bool) → Reads n E N f → (sol : Values) → Solves n N f sol → (k : ℕ)
+      → Right n E N sol k (valuesOf old) → Right n E N sol k (valuesOf new)
+  pub keep : (E : ℕ → ℕ → ℕ → Bool) → Reads n E N f → (sol : Values) → Solves n N f sol → (k : ℕ)
+      → Right n E N sol k (valuesOf old) → (s t : ℕ) → Place n N s t
+      → RightAt n E N sol (suc k) (valuesOf old) s t → RightAt n E N sol (suc k) (valuesOf new) s t
+  pub further : (E : ℕ → ℕ → ℕ → Bool) → Reads n E N f → (sol : Values) → Solves n N f sol → (k : ℕ)
+      → Right n E N sol k (valuesOf old) → (s t : ℕ) → Place n N s t → P s t → RightAt n E N sol (suc k) (valuesOf new) s t
+  pub same : changed ≡ false → new ≡ old
+  pub quiet : changed ≡ false → (s t : ℕ) → Place n N s t → P s t → valuesOf old s t ≡ f (valuesOf old) s t
+
+-- the buffer satisfies the equations, if the reads between the outputs are not circular
+pub record Solved (n N : ℕ) (f : Values → Values) (old new : List ℕ) : Type 0 where
+  pub len : length new ≡ length old
+  pub below : ((i : ℕ) → i < length old → getD old i 0 < 2 ^ n) → (i : ℕ) → i < length new → getD new i 0 < 2 ^ n
+  pub holds : (E : ℕ → ℕ → ℕ → Bool) → Reads n E N f → (Circular n E → ⊥) → Solves n N f (valuesOf new)
+
+-- the first letter that isn't below 2 ^ m
+pub record FirstBad (m : ℕ) (letters : List ℕ) (r : ℕ) : Type 0 where
+  pub within : r ≤ length letters
+  pub before : (i : ℕ) → i < r → getD letters i 0 < 2 ^ m
+  pub found : r < length letters → getD letters r 0 < 2 ^ m → ⊥
+
+-- letters that are not refused, with room for a byte each
+pub record Ready (m : ℕ) (letters : List ℕ) (room : ℕ) : Type 0 where
+  pub some : 1 ≤ length letters
+  pub few : length letters ≤ 4096
+  pub fits : length letters ≤ room
+  pub below : (i : ℕ) → i < length letters → getD letters i 0 < 2 ^ m

@@ -1,0 +1,73 @@
+use Prim.Native.Nat.{ℕ, _+_, _*_, _-_, _≤_, _<_}
+use mathlib.Core.Path.{_≡_, refl, sym, _∙_, ap}
+use mathlib.Core.List.{List, [], _∷_}
+use native.Mathlib.Omega.{arith}
+use borrow.Author.Tests.{not-true, not-false}
+use Rattle.refusal.specs.declared.Outcome.the-variants.{Accepted, Refused}
+use Rattle.refusal.specs.declared.Refusal.the-variants.{Letter, Closed, Full, NoRound, Storage, Record}
+use Rattle.monitor.specs.Checks.{storage, tallies, closed, masks, full, noRound}
+use Rattle.monitor.specs.Steps.{given}
+use Rattle.monitor.proofs.Checking.{short-storage, past-storage, wrong-record, past-record, is-closed, past-closed, wrong-masks, past-masks, is-full, not-full, no-round, some-round}
+use borrow.Author.Needs.{needs}
+use Rattle.monitor.proofs.check_round.Statement.{statement}
+use Rattle.monitor.proofs.check_round.Tie as tie
+use Rattle.monitor.proofs.check_round.Reads as reads
+use Rattle.monitor.proofs.check_round.Lts as lts
+use Rattle.letters.proofs.bad_masks.Reads as bad-masks-reads
+use Rattle.record.proofs.record_ok.Reads as record-ok-reads
+
+returns : tie.Need-returns
+returns c = short-storage (c .before .args .m) (c .before .args .n) (given (c .before .args .lent) (c .before .args .r) (c .before .args .known) (c .before .args .value)) (tallies ∷ (closed ∷ (masks ∷ (full ∷ [])))) (c .if1 .taken)
+
+record-ok-requires : tie.Need-record-ok-requires
+record-ok-requires c κs = search needs
+
+returns-2 : tie.Need-returns-2
+returns-2 c = 
+    past-storage (c .before .before .before .args .m) (c .before .before .before .args .n) (given (c .before .before .before .args .lent) (c .before .before .before .args .r) (c .before .before .before .args .known) (c .before .before .before .args .value)) (tallies ∷ (closed ∷ (masks ∷ (full ∷ [])))) (Refused Record) (omega arith)
+    (wrong-record (c .before .before .before .args .m) (c .before .before .before .args .n) (given (c .before .before .before .args .lent) (c .before .before .before .args .r) (c .before .before .before .args .known) (c .before .before .before .args .value)) (closed ∷ (masks ∷ (full ∷ []))) (sym (c .before .record-ok .ensures) ∙ not-true _ (c .if2 .taken)))
+
+returns-3 : tie.Need-returns-3
+returns-3 c = 
+    past-storage (c .before .before .before .before .args .m) (c .before .before .before .before .args .n) (given (c .before .before .before .before .args .lent) (c .before .before .before .before .args .r) (c .before .before .before .before .args .known) (c .before .before .before .before .args .value)) (tallies ∷ (closed ∷ (masks ∷ (full ∷ [])))) (Refused Closed) (omega arith)
+    (past-record (c .before .before .before .before .args .m) (c .before .before .before .before .args .n) (given (c .before .before .before .before .args .lent) (c .before .before .before .before .args .r) (c .before .before .before .before .args .known) (c .before .before .before .before .args .value)) (closed ∷ (masks ∷ (full ∷ []))) (Refused Closed) (sym (c .before .before .record-ok .ensures) ∙ not-false _ (c .before .if2 .left))
+    (is-closed (c .before .before .before .before .args .m) (c .before .before .before .before .args .n) (given (c .before .before .before .before .args .lent) (c .before .before .before .before .args .r) (c .before .before .before .before .args .known) (c .before .before .before .before .args .value)) (masks ∷ (full ∷ [])) (c .if3 .taken)))
+
+bad-masks-requires : tie.Need-bad-masks-requires
+bad-masks-requires c κs = search needs
+
+returns-4 : tie.Need-returns-4
+returns-4 c = 
+    past-storage (c .before .before .before .before .before .before .args .m) (c .before .before .before .before .before .before .args .n) (given (c .before .before .before .before .before .before .args .lent) (c .before .before .before .before .before .before .args .r) (c .before .before .before .before .before .before .args .known) (c .before .before .before .before .before .before .args .value)) (tallies ∷ (closed ∷ (masks ∷ (full ∷ [])))) (Refused Letter) (omega arith)
+    (past-record (c .before .before .before .before .before .before .args .m) (c .before .before .before .before .before .before .args .n) (given (c .before .before .before .before .before .before .args .lent) (c .before .before .before .before .before .before .args .r) (c .before .before .before .before .before .before .args .known) (c .before .before .before .before .before .before .args .value)) (closed ∷ (masks ∷ (full ∷ []))) (Refused Letter) (sym (c .before .before .before .before .record-ok .ensures) ∙ not-false _ (c .before .before .before .if2 .left))
+    (past-closed (c .before .before .before .before .before .before .args .m) (c .before .before .before .before .before .before .args .n) (given (c .before .before .before .before .before .before .args .lent) (c .before .before .before .before .before .before .args .r) (c .before .before .before .before .before .before .args .known) (c .before .before .before .before .before .before .args .value)) (masks ∷ (full ∷ [])) (Refused Letter) (c .before .before .if3 .left)
+    (wrong-masks (c .before .before .before .before .before .before .args .m) (c .before .before .before .before .before .before .args .n) (given (c .before .before .before .before .before .before .args .lent) (c .before .before .before .before .before .before .args .r) (c .before .before .before .before .before .before .args .known) (c .before .before .before .before .before .before .args .value)) (full ∷ []) (sym (c .before .bad-masks .ensures) ∙ c .if4 .taken))))
+
+returns-5 : tie.Need-returns-5
+returns-5 c = 
+    past-storage (c .before .before .before .before .before .before .before .before .args .m) (c .before .before .before .before .before .before .before .before .args .n) (given (c .before .before .before .before .before .before .before .before .args .lent) (c .before .before .before .before .before .before .before .before .args .r) (c .before .before .before .before .before .before .before .before .args .known) (c .before .before .before .before .before .before .before .before .args .value)) (tallies ∷ (closed ∷ (masks ∷ (full ∷ [])))) (Refused Full) (omega arith)
+    (past-record (c .before .before .before .before .before .before .before .before .args .m) (c .before .before .before .before .before .before .before .before .args .n) (given (c .before .before .before .before .before .before .before .before .args .lent) (c .before .before .before .before .before .before .before .before .args .r) (c .before .before .before .before .before .before .before .before .args .known) (c .before .before .before .before .before .before .before .before .args .value)) (closed ∷ (masks ∷ (full ∷ []))) (Refused Full) (sym (c .before .before .before .before .before .before .record-ok .ensures) ∙ not-false _ (c .before .before .before .before .before .if2 .left))
+    (past-closed (c .before .before .before .before .before .before .before .before .args .m) (c .before .before .before .before .before .before .before .before .args .n) (given (c .before .before .before .before .before .before .before .before .args .lent) (c .before .before .before .before .before .before .before .before .args .r) (c .before .before .before .before .before .before .before .before .args .known) (c .before .before .before .before .before .before .before .before .args .value)) (masks ∷ (full ∷ [])) (Refused Full) (c .before .before .before .before .if3 .left)
+    (past-masks (c .before .before .before .before .before .before .before .before .args .m) (c .before .before .before .before .before .before .before .before .args .n) (given (c .before .before .before .before .before .before .before .before .args .lent) (c .before .before .before .before .before .before .before .before .args .r) (c .before .before .before .before .before .before .before .before .args .known) (c .before .before .before .before .before .before .before .before .args .value)) (full ∷ []) (Refused Full) (sym (c .before .before .before .bad-masks .ensures) ∙ c .before .before .if4 .left)
+    (is-full (c .before .before .before .before .before .before .before .before .args .m) (c .before .before .before .before .before .before .before .before .args .n) (given (c .before .before .before .before .before .before .before .before .args .lent) (c .before .before .before .before .before .before .before .before .args .r) (c .before .before .before .before .before .before .before .before .args .known) (c .before .before .before .before .before .before .before .before .args .value)) (c .if5 .taken)))))
+
+returns-6 : tie.Need-returns-6
+returns-6 c = 
+    past-storage (c .before .before .before .before .before .before .before .before .args .m) (c .before .before .before .before .before .before .before .before .args .n) (given (c .before .before .before .before .before .before .before .before .args .lent) (c .before .before .before .before .before .before .before .before .args .r) (c .before .before .before .before .before .before .before .before .args .known) (c .before .before .before .before .before .before .before .before .args .value)) (tallies ∷ (closed ∷ (masks ∷ (full ∷ [])))) Accepted (omega arith)
+    (past-record (c .before .before .before .before .before .before .before .before .args .m) (c .before .before .before .before .before .before .before .before .args .n) (given (c .before .before .before .before .before .before .before .before .args .lent) (c .before .before .before .before .before .before .before .before .args .r) (c .before .before .before .before .before .before .before .before .args .known) (c .before .before .before .before .before .before .before .before .args .value)) (closed ∷ (masks ∷ (full ∷ []))) Accepted (sym (c .before .before .before .before .before .before .record-ok .ensures) ∙ not-false _ (c .before .before .before .before .before .if2 .left))
+    (past-closed (c .before .before .before .before .before .before .before .before .args .m) (c .before .before .before .before .before .before .before .before .args .n) (given (c .before .before .before .before .before .before .before .before .args .lent) (c .before .before .before .before .before .before .before .before .args .r) (c .before .before .before .before .before .before .before .before .args .known) (c .before .before .before .before .before .before .before .before .args .value)) (masks ∷ (full ∷ [])) Accepted (c .before .before .before .before .if3 .left)
+    (past-masks (c .before .before .before .before .before .before .before .before .args .m) (c .before .before .before .before .before .before .before .before .args .n) (given (c .before .before .before .before .before .before .before .before .args .lent) (c .before .before .before .before .before .before .before .before .args .r) (c .before .before .before .before .before .before .before .before .args .known) (c .before .before .before .before .before .before .before .before .args .value)) (full ∷ []) Accepted (sym (c .before .before .before .bad-masks .ensures) ∙ c .before .before .if4 .left)
+    (not-full (c .before .before .before .before .before .before .before .before .args .m) (c .before .before .before .before .before .before .before .before .args .n) (given (c .before .before .before .before .before .before .before .before .args .lent) (c .before .before .before .before .before .before .before .before .args .r) (c .before .before .before .before .before .before .before .before .args .known) (c .before .before .before .before .before .before .before .before .args .value)) (c .if5 .left)))))
+
+pub check-round-spec : {M : Type 1} → statement M
+check-round-spec =
+    tie.close
+    (tie.spec
+    returns
+    record-ok-requires
+    returns-2
+    returns-3
+    bad-masks-requires
+    returns-4
+    returns-5
+    returns-6)

@@ -1,3 +1,4 @@
 pub mod BookLaws
 pub mod Refusals
 pub mod ThirdDemand
+pub mod Further

@@ -1,7 +1,7 @@
 -- The checks of a round and of a closing decide as the book does, once the sheet, the storage and the record are right.
 use mathlib.Core.Path.{_≡_, refl, sym, ap, _∙_, subst}
 use mathlib.Core.Bool.{Bool, true, false, cond, true≢false, false≢true}
-use mathlib.Core.List.{List, [], _∷_, _++_, map, List·Memᴰ, List·Memᴰ·not-nil, Memᴰ·append-left}
+use mathlib.Core.List.{List, [], _∷_, _++_, map, List·Memᴰ, Memᴰ·append-left}
 use mathlib.Core.Option.{Option, none, some}
 use Prim.Native.Nat.{ℕ, zero, suc, _≤_, _<_}
 use native.Mathlib.Omega.{arith}
@@ -13,7 +13,8 @@ use Rattle.refusal.specs.declared.Refusal.the-variants.{Letter, Closed, Full, N
 use Rattle.refusal.specs.declared.Outcome.{Outcome}
 use Rattle.refusal.specs.declared.Outcome.the-variants.{Accepted, Refused}
 use Rattle.refusal.specs.Decided.{Decided}
-use Rattle.refusal.proofs.Decisions.{decided-map, decided-refused, decided-accepted, decided-broken, decided-whole}
+use Rattle.refusal.proofs.Decisions.{decided-map, decided-accepted}
+use Rattle.monitor.proofs.Chain.{cons-holds, cons-breaks, nil-holds}
 use Rattle.sheet.specs.RuleSheet.{RuleSheet, outputs, accepted, readSheet}
 use Rattle.sheet.proofs.Formed.{counts-of}
 use Rattle.circular.specs.Checks as sheets
@@ -28,15 +29,6 @@ outcomeBy none = Accepted
 outcomeBy (some r) = Refused r
 
 module _ {C : Type 0} (B : C → Type 0) (rule : C → Refusal) where
-  cons-holds : (c : C) (cs : List C) (o : Outcome) → (B c → ⊥) → Decided B rule cs o → Decided B rule (c ∷ cs) o
-  cons-holds c cs o n d = decided-accepted B rule (c ∷ []) cs o (decided-whole B rule c n) d
-
-  cons-breaks : (c : C) (cs : List C) → B c → Decided B rule (c ∷ cs) (Refused (rule c))
-  cons-breaks c cs b = decided-refused B rule (c ∷ []) cs (rule c) (decided-broken B rule c b)
-
-  nil-holds : Decided B rule [] Accepted
-  nil-holds c m b = List·Memᴰ·not-nil m
-
   -- the checks in front hold too
   pub front-holds : (cs ds : List C) → Decided B rule (cs ++ ds) Accepted → Decided B rule cs Accepted
   front-holds cs ds h c m = h c (Memᴰ·append-left ds m)

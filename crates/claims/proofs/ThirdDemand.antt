@@ -281,7 +281,7 @@ module _ (bs : List ℕ) (x : RuleSheet) (ok : SheetOk bs x) where
             (sym (asked closing) ∙ by-refused (ask closing) q e)
 
   -- one call, and every list of them
-  one-call : (b : Book) (h k : Held) (c : Call) (a : Answer) → Tracks b h → SessionStep bs h c a k → Follows b c a k
+  pub one-call : (b : Book) (h k : Held) (c : Call) (a : Answer) → Tracks b h → SessionStep bs h c a k → Follows b c a k
   one-call b h k c a tr (a-round {known = known} {val = val} {t = t} z d e) = round-call b h tr known val t z (z .outcome) d e
   one-call b h k c a tr (a-closing z d e) = closing-call b h tr z (z .outcome) d e
 

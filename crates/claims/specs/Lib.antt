@@ -1,3 +1,4 @@
 pub mod Book
 pub mod Session
 pub mod Demands
+pub mod Further

@@ -1,0 +1,60 @@
+-- Proofs of the further sentences.
+use mathlib.Core.Path.{_≡_, refl, sym, ap, _∙_, subst}
+use mathlib.Core.List.{List, [], _∷_, _++_, map}
+use mathlib.Core.Option.{none}
+use Prim.Native.Nat.{ℕ, suc, _+_, _^_, _≤_, _<_}
+use native.Mathlib.Omega.{arith}
+use lib.ListN.{length, length-map}
+use Rattle.refusal.specs.declared.Verdict.{Verdict}
+use Rattle.sheet.specs.RuleSheet.{RuleSheet, outputs, streams}
+use Rattle.lola.specs.Equations.{output, letter}
+use Rattle.completions.specs.Live.{Pairs, Live, countPairs}
+use Rattle.completions.specs.Completion.{LetterSet, Match, Completion, Closing}
+use Rattle.completions.specs.Judged.{Judged, inRound, RoundVerdict, ClosingVerdict}
+use Rattle.completions.specs.Steps.{Represents}
+use Rattle.completions.proofs.Verdicts.{one-verdict}
+use Rattle.completions.proofs.Letters.{onLetter, onLetters, completion-of, run-of}
+use Rattle.completions.proofs.Backward.{prefix-short, small-256}
+use Rattle.record.proofs.Tallies.{RecordOk, record-is}
+use Rattle.claims.specs.Book.{Book, Call, Answer, emptyBook}
+use Rattle.claims.specs.Session.{Held, Session, finish, next}
+use Rattle.claims.specs.Demands.{lent}
+use Rattle.claims.specs.Further.{OneVerdict, StaysBroken, ShortCompletion, InOrder, StaysInOrder}
+use Rattle.claims.proofs.Refusals.{SheetOk}
+use Rattle.claims.proofs.ThirdDemand.{Tracks, Follows, one-call, prepared-tracks, sheet-accepted, storage-enough}
+
+pub one-verdict-fits : OneVerdict
+unfolding RoundVerdict ClosingVerdict
+one-verdict-fits x rs k v w = (
+  one-verdict (Completion x rs) (λ ls c. inRound (length rs) (output x k) (c .trace)) v w,
+  one-verdict (Closing x rs) (λ ls c. inRound (length rs) (output x k) (c .complete .trace)) v w,
+)
+
+match-less : (rs : List LetterSet) (r : LetterSet) (ls : List ℕ) → Match (rs ++ r ∷ []) ls → Match rs ls
+match-less [] r ls g = tt
+match-less (q ∷ rs) r [] g = g
+match-less (q ∷ rs) r (l ∷ ls) g = (g .0, match-less rs r ls (g .1))
+
+pub stays-broken : StaysBroken
+unfolding RoundVerdict Judged
+stays-broken x rs r k j h ls c =
+    h ls (record { some-round = c .some-round; letters = c .letters; starts = match-less rs r ls (c .starts); trace = c .trace; of = c .of; satisfies = c .satisfies; keeps = c .keeps })
+
+pub short-completion : ShortCompletion
+short-completion x small L live r rs ls c =
+    let z = prefix-short x 256 (small-256 x small) L live (onLetter x r) (onLetters x rs) (c .trace) (run-of x (r ∷ rs) ls c) in
+    (map (letter x) (z .0), completion-of x (r ∷ rs) (z .0) (z .1), omega (arith, z .2, length-map (z .0) (letter x), length-map rs (onLetter x)))
+
+module _ (bs : List ℕ) (x : RuleSheet) (ok : SheetOk bs x) where
+  tracked : (b : Book) (h k : Held) (cs : List Call) (as′ : List Answer) → Tracks bs x ok b h → Session bs h cs as′ k → (d : Book) × Tracks bs x ok d k
+  tracked b h k cs as′ tr finish = (b, tr)
+  tracked b h k cs as′ tr (next {h₁ = m} {c = c} {a = a} {cs = ds} {as′ = bs′} s rest) =
+      let y : Follows bs x ok b c a m = one-call bs x ok b h m c a tr s in
+      tracked (y .book) m k ds bs′ (y .tracks) rest
+
+pub stays-in-order : StaysInOrder
+stays-in-order bs s t r p d z cs as′ h run =
+    let ok : SheetOk bs (z .0) = record { holds = sheet-accepted bs (lent s r) d; reads = z .1 } in
+    let e = tracked bs (z .0) ok emptyBook (record { storage = t; journal = p .record }) h cs as′ (prepared-tracks bs (z .0) ok s t p (storage-enough bs (lent s r) d) (z .2)) run in
+    let right : RecordOk (outputs (z .0)) (h .journal) = record-is (outputs (z .0)) (h .journal) (e .1 .right) in
+    record { sums = right .sums; few = right .few; long = e .1 .lent }

@@ -1,0 +1,53 @@
+-- Further sentences of 01, "Completions and verdicts" and "Tallies", as types.
+use mathlib.Core.Path.{_≡_}
+use mathlib.Core.Bool.{true}
+use mathlib.Core.List.{List, [], _∷_, _++_}
+use Prim.Native.Nat.{ℕ, _+_, _≤_, _<_}
+use lib.ListN.{length}
+use Rattle.refusal.specs.declared.Verdict.{Verdict}
+use Rattle.refusal.specs.declared.Verdict.the-variants.{Broken}
+use Rattle.refusal.specs.declared.Outcome.the-variants.{Accepted}
+use Rattle.refusal.specs.Decided.{Decided}
+use Rattle.sheet.specs.RuleSheet.{RuleSheet, outputs, streams}
+use Rattle.completions.specs.Live.{Pairs, Live, countPairs}
+use Rattle.completions.specs.Completion.{LetterSet, Completion}
+use Rattle.completions.specs.Judged.{RoundVerdict, ClosingVerdict}
+use Rattle.completions.specs.Steps.{Represents}
+use Rattle.record.specs.Record.{sumAt}
+use Rattle.record.specs.declared.JournalRecord.{JournalRecord}
+use Rattle.monitor.specs.Checks as checks
+use Rattle.monitor.specs.Results.{OfSheet, Prepared}
+use Rattle.monitor.specs.declared.PrepareAnswer.{PrepareAnswer}
+use Rattle.claims.specs.Book.{Call, Answer}
+use Rattle.claims.specs.Session.{Held, Session}
+use Rattle.claims.specs.Demands.{lent}
+
+-- no two verdicts fit a round, nor a closing
+abbrev pub OneVerdict : Type 0
+OneVerdict =
+    (x : RuleSheet) (rs : List LetterSet) (k : ℕ) (v w : Verdict)
+    → (RoundVerdict x rs k v → RoundVerdict x rs k w → v ≡ w) × (ClosingVerdict x rs k v → ClosingVerdict x rs k w → v ≡ w)
+
+-- once broken, every later round is broken
+abbrev pub StaysBroken : Type 0
+StaysBroken = (x : RuleSheet) (rs : List LetterSet) (r : LetterSet) (k j : ℕ) → RoundVerdict x rs k Broken → RoundVerdict x (rs ++ r ∷ []) j Broken
+
+-- a prefix of one or more rounds that has a completion has one with fewer further rounds than there are live pairs
+abbrev pub ShortCompletion : Type 0
+ShortCompletion =
+    (x : RuleSheet) → streams x ≤ 8 → (L : Pairs) → Represents 256 L (Live x) → (r : LetterSet) (rs : List LetterSet) (ls : List ℕ) → Completion x (r ∷ rs) ls
+    → (ms : List ℕ) × Completion x (r ∷ rs) ms × (length ms < length (r ∷ rs) + countPairs 256 L)
+
+-- after an accepted preparation and any calls, the four counts of each output add up to the rounds, of which there are at most 1,000,000, and
+-- the storage is as long as it was: rules 15 and 18 are never met
+pub record InOrder (x : RuleSheet) (n : ℕ) (h : Held) : Type 0 where
+  pub sums : (k : ℕ) → k < outputs x → sumAt (h .journal .counts) k ≡ h .journal .rounds
+  pub few : h .journal .rounds ≤ 1000000
+  pub long : n ≤ length (h .storage)
+
+abbrev pub StaysInOrder : Type 0
+StaysInOrder =
+    (bs s t : List ℕ) (r : JournalRecord) (p : PrepareAnswer)
+    → Decided (checks.Broken bs (lent s r)) checks.rule (checks.entryChecks bs checks.prepareChecks) Accepted
+    → (z : OfSheet bs (λ x. Prepared x s t p))
+    → (cs : List Call) (as′ : List Answer) (h : Held) → Session bs (record { storage = t; journal = p .record }) cs as′ h → InOrder (z .0) 3084 h

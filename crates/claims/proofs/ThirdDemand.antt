@@ -41,6 +41,7 @@ use Rattle.record.specs.declared.JournalRecord.{JournalRecord}
 use Rattle.record.proofs.Tallies.{RecordOk, record-is, record-more}
 use Rattle.monitor.specs.Checks as checks
 use Rattle.monitor.specs.Results.{width, nextSet, within, below, Prepared, RoundDone, ClosingDone, Verdicts, OfSheet, RoundResult, ClosingResult}
+use Rattle.monitor.proofs.Rounding.{within-same, wider}
 use Rattle.monitor.specs.declared.PrepareAnswer.{PrepareAnswer}
 use Rattle.monitor.specs.declared.RoundAnswer.{RoundAnswer}
 use Rattle.monitor.specs.declared.ClosingAnswer.{ClosingAnswer}
@@ -110,14 +111,6 @@ counted-as n m f vs told k v e h x =
 
 -- ---- sets
 
-within-is : (w : ℕ) (S : Pairs) (b : ℕ) (c : Option ℕ) → b < w → Within w c → within w S b c ≡ S b c
-within-is w S b none h i = rw (lt-ltb b w h)
-within-is w S b (some c) h i = rw (lt-ltb b w h, lt-ltb c w i)
-
-wider : (w : ℕ) → w ≤ 256 → (c : Option ℕ) → Within w c → Within 256 c
-wider w h none i = tt
-wider w h (some c) i = omega arith
-
 -- a set that is the same below w represents the same
 represents-as : (w : ℕ) (S R : Pairs) (P : ℕ → Option ℕ → Type 0) → ((b : ℕ) (c : Option ℕ) → b < w → Within w c → R b c ≡ S b c) → Represents w S P → Represents w R P
 represents-as w S R P e h b c hb hc = (λ t. h b c hb hc .0 (rw (e b c hb hc) at t), λ p. rw (e b c hb hc) (h b c hb hc .1 p))
@@ -181,7 +174,7 @@ module _ (bs : List ℕ) (x : RuleSheet) (ok : SheetOk bs x) where
         (next-reaches x L (tr .live) (onLetters x (b .rounds)) (stored (h .storage) 1028) (r .rounds) (onLetter x m)
         (tr .matches .rounds ∙ sym (length-map (b .rounds) (onLetter x))) (tr .reached)) in
         let same : (a : ℕ) (c : Option ℕ) → a < w → Within w c → stored t 1028 a c ≡ S a c =
-        λ a c ha hc. d .reached a c (omega (arith, w-small)) (wider w w-small c hc) ∙ within-is w S a c ha hc in
+        λ a c ha hc. d .reached a c (omega (arith, w-small)) (wider w w-small c hc) ∙ within-same w S a c ha hc in
         let lives : (a : ℕ) (c : Option ℕ) → a < w → Within w c → stored t 0 a c ≡ L a c =
         λ a c ha hc. stored-same (h .storage) t 0 a c (omega (arith, w-small)) (wider w w-small c hc) (λ k l. d .live k l) in
         let live′ : Represents w (stored t 0) (Live x) = represents-as w L (stored t 0) (Live x) lives (tr .live) in

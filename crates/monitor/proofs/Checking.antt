@@ -2,7 +2,7 @@
 use mathlib.Core.Path.{_≡_, refl, sym, _∙_}
 use mathlib.Core.Bool.{true, false, true≢false, false≢true}
 use mathlib.Core.List.{List, [], _∷_}
-use Prim.Native.Nat.{ℕ, _<_, _≤_}
+use Prim.Native.Nat.{ℕ, zero, suc, _<_, _≤_}
 use native.Mathlib.Omega.{arith}
 use Rattle.refusal.specs.declared.Refusal.the-variants.{Letter, Closed, Full, NoRound, Storage, Record}
 use Rattle.refusal.specs.declared.Outcome.{Outcome}
@@ -57,3 +57,7 @@ module _ (m n : ℕ) (g : Given) where
 
   pub some-round : (g .before .rounds ≡ 0 → ⊥) → By (noRound ∷ []) Accepted
   some-round h = cons-holds B callRule noRound [] Accepted h (nil-holds B callRule)
+
+pub nonzero : (t : ℕ) → (t ≡ 0 → ⊥) → 1 ≤ t
+nonzero zero h = absurd (h refl)
+nonzero (suc t) h = omega arith

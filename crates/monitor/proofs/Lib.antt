@@ -1,3 +1,5 @@
 pub mod Chain
 pub mod Checking
 pub mod Sharing
+pub mod Rounding
+pub mod Entries

@@ -6,7 +6,8 @@ ghost use lib.ListN.{length, getD, replicate};
 ghost use Rattle.refusal.specs.Decided.{Decided};
 ghost use Rattle.record.specs.Record.{Fresh, recordOk};
 ghost use Rattle.monitor.specs.Checks.{callRule, CallBroken, roundChecks, closingChecks};
-ghost use Rattle.monitor.specs.Steps.{given, Shares};
+ghost use Rattle.monitor.specs.Steps.{given, RoundReady, ClosingReady, Shares};
+ghost use Rattle.sheet.specs.Reading.{whenAccepted};
 use record::JournalRecord;
 use refusal::Outcome;
 use refusal::Refusal;
@@ -39,7 +40,8 @@ pub struct ClosingAnswer {
 // Rules 15, 18, 12, 11 and 13 of a round, for m inputs, n outputs and `lent` numbers of storage.
 fn check_round(m: u8, n: u8, lent: usize, r: JournalRecord, known: u8, value: u8) -> Outcome
     requires { ⌜ (m ≤ 6) × (n ≤ 7) ⌝ }
-    ensures { λ x. ⌜ Decided (CallBroken m n (given lent r known value)) callRule roundChecks x ⌝ }
+    ensures decided { λ x. ⌜ Decided (CallBroken m n (given lent r known value)) callRule roundChecks x ⌝ }
+    ensures ready { λ x. ⌜ whenAccepted x (RoundReady m n (given lent r known value)) ⌝ }
 {
     if lent < JournalRecord::STORAGE_WORDS {
         return Outcome::Refused(Refusal::Storage);
@@ -62,7 +64,8 @@ fn check_round(m: u8, n: u8, lent: usize, r: JournalRecord, known: u8, value: u8
 // Rules 15, 18, 12 and 14 of a closing.
 fn check_closing(m: u8, n: u8, lent: usize, r: JournalRecord) -> Outcome
     requires { ⌜ n ≤ 7 ⌝ }
-    ensures { λ x. ⌜ Decided (CallBroken m n (given lent r 0 0)) callRule closingChecks x ⌝ }
+    ensures decided { λ x. ⌜ Decided (CallBroken m n (given lent r 0 0)) callRule closingChecks x ⌝ }
+    ensures ready { λ x. ⌜ whenAccepted x (ClosingReady n (given lent r 0 0)) ⌝ }
 {
     if lent < JournalRecord::STORAGE_WORDS {
         return Outcome::Refused(Refusal::Storage);

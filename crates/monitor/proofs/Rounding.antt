@@ -1,0 +1,74 @@
+-- From what a step leaves in the storage to what a round is defined to do.
+use mathlib.Core.Path.{_≡_, refl, sym, ap, ap₂, _∙_, subst, fun-ext}
+use mathlib.Core.Bool.{Bool, true, false, not, _&&_, _||_}
+use mathlib.Core.List.{List}
+use mathlib.Core.Option.{Option, none, some}
+use Prim.Native.Nat.{ℕ, zero, suc, _+_, _*_, _%_, _^_, _<_, _≤_}
+use native.Mathlib.Omega.{arith}
+use native.Mathlib.Nat.{mod-lt}
+use lib.Dec.{ltb}
+use lib.ListN.{length, getD}
+use lib.Pow.{pow-pos, pow-mono}
+use borrow.Author.Tests.{lt-ltb}
+use Rattle.words.specs.Bits.{bit}
+use Rattle.words.specs.Below.{anyBelow}
+use Rattle.words.proofs.AnyLaws.{any-cong}
+use Rattle.refusal.specs.declared.Verdict.{Verdict}
+use Rattle.refusal.specs.Numbers.{verdictNo}
+use Rattle.sheet.specs.RuleSheet.{RuleSheet, outputs, streams}
+use Rattle.sheet.specs.Reading.{ruleSheet, Usable}
+use Rattle.sheet.specs.declared.Sheet.{Sheet}
+use Rattle.sheet.proofs.Sheets.{length-trees}
+use Rattle.lola.specs.Equations.{output, letter}
+use Rattle.completions.specs.Live.{Pairs}
+use Rattle.completions.specs.Completion.{masked}
+use Rattle.completions.specs.Steps.{Within, anyNext, anyPair, verdictOf, pairsVerdict, endsVerdict}
+use Rattle.letters.specs.Masks.{badMasks}
+use Rattle.letters.specs.Matching.{matches}
+use Rattle.letters.proofs.Matching.{Valid, valid, matches-masked}
+use Rattle.monitor.specs.Results.{width, heard, within, below}
+
+-- ---- the sheet's numbers
+
+pub sheet-outputs : (x : Sheet) → outputs (ruleSheet x) ≡ x .outputs
+sheet-outputs x = length-trees (x .inputs + x .outputs) (x .code) (x .len) (x .outputs)
+
+pub sheet-width : (x : Sheet) → width (ruleSheet x) ≡ 2 ^ (x .inputs + x .outputs)
+sheet-width x = ap (λ (n : ℕ). 2 ^ (x .inputs + n)) (sheet-outputs x)
+
+-- ---- the letters of a round
+
+-- a set of letters that has just those that match the masks asks what the masks ask
+pub heard-as : (x : RuleSheet) (letters known val : ℕ) → x .inputs ≤ 6 → badMasks (x .inputs) known val ≡ false
+    → ((l : ℕ) → l < 64 → bit l letters ≡ matches known val 6 l) → (λ (v : ℕ). bit (v % 2 ^ x .inputs) letters) ≡ heard x (masked known val)
+heard-as x letters known val h e f =
+    fun-ext (λ v.
+      let l : v % 2 ^ x .inputs < 2 ^ x .inputs = mod-lt v (pow-pos (x .inputs)) in
+      let g : 2 ^ x .inputs ≤ 2 ^ 6 = pow-mono h in
+      f (v % 2 ^ x .inputs) (omega arith) ∙ matches-masked known val (v % 2 ^ x .inputs) (valid (x .inputs) known val h e))
+
+-- ---- verdicts read off sets that are the same below w
+
+next-cong : (w : ℕ) (f g : Option ℕ → Bool) → ((c : Option ℕ) → Within w c → f c ≡ g c) → anyNext w f ≡ anyNext w g
+unfolding anyNext
+next-cong w f g e = ap₂ _||_ (e none tt) (any-cong w (λ b. f (some b)) (λ b. g (some b)) (λ i h. e (some i) h))
+
+pair-cong : (w : ℕ) (S R : Pairs) → ((b : ℕ) (c : Option ℕ) → b < w → Within w c → S b c ≡ R b c) → anyPair w S ≡ anyPair w R
+unfolding anyPair
+pair-cong w S R e = any-cong w (λ a. anyNext w (S a)) (λ a. anyNext w (R a)) (λ i h. next-cong w (S i) (R i) (λ c k. e i c h k))
+
+pub pairs-verdict-as : (w : ℕ) (S R : Pairs) (g : ℕ → Bool) → ((b : ℕ) (c : Option ℕ) → b < w → Within w c → S b c ≡ R b c) → pairsVerdict w S g ≡ pairsVerdict w R g
+unfolding pairsVerdict
+pairs-verdict-as w S R g e =
+    ap₂ verdictOf
+    (pair-cong w (λ b c. S b c && g b) (λ b c. R b c && g b) (λ b c h k. ap (λ (z : Bool). z && g b) (e b c h k)))
+    (pair-cong w (λ b c. S b c && not (g b)) (λ b c. R b c && not (g b)) (λ b c h k. ap (λ (z : Bool). z && not (g b)) (e b c h k)))
+
+-- a set cut down to the valuations below w is the same there
+pub within-same : (w : ℕ) (S : Pairs) (b : ℕ) (c : Option ℕ) → b < w → Within w c → within w S b c ≡ S b c
+within-same w S b none h i = rw (lt-ltb b w h)
+within-same w S b (some c) h i = rw (lt-ltb b w h, lt-ltb c w i)
+
+pub wider : (w : ℕ) → w ≤ 256 → (c : Option ℕ) → Within w c → Within 256 c
+wider w h none i = tt
+wider w h (some c) i = omega arith

@@ -33,10 +33,3 @@ or-false false = refl
 pub or-assoc : (a b c : Bool) → (a || b) || c ≡ a || (b || c)
 or-assoc true b c = refl
 or-assoc false b c = refl
-
--- the same three in another order
-pub or-turn : (a b c : Bool) → (a || b) || c ≡ b || (a || c)
-or-turn true true c = refl
-or-turn true false c = refl
-or-turn false true c = refl
-or-turn false false c = refl

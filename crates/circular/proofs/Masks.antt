@@ -25,7 +25,8 @@ use Rattle.sheet.specs.declared.Op.the-variants.{Const, Not, And, Or, Read, Rej
 use Rattle.lola.specs.Reads.{place}
 use Rattle.circular.specs.Circular.{Circular, CircularSheet, edges}
 use Rattle.circular.specs.Table as table
-use Rattle.circular.specs.Masks.{opReads, bytesRead, Marks, Rows, Mask, Masks, Tells}
+use Rattle.lola.specs.ByteReads.{opReads, bytesRead}
+use Rattle.circular.specs.Masks.{Marks, Rows, Mask, Masks, Tells}
 use Rattle.sheet.proofs.Formed.{usable-formed}
 use Rattle.circular.proofs.Bools.{and-r, or-assoc, or-false}
 use Rattle.circular.proofs.Trees.{edges-are, outputs-are, edge-in}

@@ -1,4 +1,4 @@
--- The reads of a tree are those of the bytes that it was read from, and are of the sheet's streams. Assumes nothing.
+-- The reads of a sheet's trees are of its streams, and are those of its bytes.
 use mathlib.Core.Path.{_≡_, refl, sym, ap, _∙_}
 use Prim.Native.Nat.{ℕ, _+_, _<_, _≤_}
 use native.Mathlib.Omega.{arith}
@@ -8,76 +8,19 @@ use native.Mathlib.Decide.{decLt}
 use lib.ListN.{getD, List·getD-eq-default}
 use lib.Dec.{eqb, ltb}
 use borrow.Author.Tests.{eqb-true, lt-ltb, le-ltb}
-use Rattle.sheet.specs.Bytes.{opOf}
-use Rattle.sheet.specs.Expression.{Expr, constant, negation, conjunction, disjunction, read, Next, stack, breaks, Parsed, tree, broken, applyOp, final, go-on, parse}
+use Rattle.sheet.specs.Expression.{Expr, constant, negation, conjunction, disjunction, read}
 use Rattle.sheet.specs.Postfix.{InSheet}
 use Rattle.sheet.specs.RuleSheet.{RuleSheet, outputs, streams}
 use Rattle.sheet.specs.Reading.{ruleSheet, codeAt, Usable}
-use Rattle.refusal.specs.declared.Refusal.the-variants.{Byte}
 use Rattle.sheet.specs.declared.Sheet.{Sheet}
-use Rattle.sheet.specs.declared.Op.{Op}
-use Rattle.sheet.specs.declared.Op.the-variants.{Const, Not, And, Or, Read, Rejected}
 use Rattle.sheet.proofs.Sheets.{length-trees, tree-at}
 use Rattle.sheet.proofs.Formed.{Formed}
 use Rattle.lola.specs.Reads.{place, hasRead}
 use Rattle.circular.specs.Circular.{Edge, edges}
-use Rattle.circular.specs.Masks.{opReads, bytesRead, bytesOf}
-use Rattle.circular.proofs.Bools.{or-split, and-l, or-turn, or-false}
-
--- a tree of the stack has the read
-unfoldable stackReads : List Expr → ℕ → ℕ → Bool
-stackReads [] q o = false
-stackReads (a ∷ st) q o = hasRead a q o || stackReads st q o
-
--- if a stack or a tree comes out, its reads are those given
-abbrev SaysNext : ℕ → ℕ → Bool → Next → Type 0
-SaysNext q o r (stack st) = stackReads st q o ≡ r
-SaysNext q o r (breaks x) = Unit {0}
-
-abbrev Says : ℕ → ℕ → Bool → Parsed → Type 0
-Says q o r (tree t) = hasRead t q o ≡ r
-Says q o r (broken x) = Unit {0}
-
-step-reads : (s q o : ℕ) (op : Op) (st : List Expr) → SaysNext q o (opReads op q o || stackReads st q o) (applyOp s op st)
-unfolding applyOp stackReads opReads hasRead
-step-reads s q o (Const v) st = refl
-step-reads s q o Not [] = tt
-step-reads s q o Not (a ∷ st) = refl
-step-reads s q o And [] = tt
-step-reads s q o And (b ∷ []) = tt
-step-reads s q o And (b ∷ (a ∷ st)) = or-turn (hasRead a q o) (hasRead b q o) (stackReads st q o)
-step-reads s q o Or [] = tt
-step-reads s q o Or (b ∷ []) = tt
-step-reads s q o Or (b ∷ (a ∷ st)) = or-turn (hasRead a q o) (hasRead b q o) (stackReads st q o)
-step-reads s q o (Read q′ o′ d) st = go (ltb (q′ .0) s)
-  where
-    go : (t : Bool) → SaysNext q o ((eqb (q′ .0) q && eqb (place o′) o) || stackReads st q o) (cond t (stack (read (q′ .0) o′ d ∷ st)) (breaks Byte))
-    go true = refl
-    go false = tt
-step-reads s q o (Rejected r) st = tt
-
-says-same : (q o : ℕ) (a b : Bool) → a ≡ b → (x : Parsed) → Says q o a x → Says q o b x
-says-same q o a b e (tree t) h = h ∙ e
-says-same q o a b e (broken r) h = tt
-
-parse-reads : (s q o : ℕ) (bs : List ℕ) (st : List Expr) → Says q o (stackReads st q o || bytesRead bs q o) (parse s st bs)
-unfolding parse final bytesRead stackReads
-parse-reads s q o [] [] = tt
-parse-reads s q o [] (t ∷ []) = or-false (hasRead t q o) ∙ or-false (hasRead t q o || false)
-parse-reads s q o [] (t ∷ (u ∷ st)) = tt
-parse-reads s q o (b ∷ bs) st = go (applyOp s (opOf b) st) (step-reads s q o (opOf b) st) (λ st′. parse-reads s q o bs st′)
-  where
-    go : (x : Next) → SaysNext q o (opReads (opOf b) q o || stackReads st q o) x
-        → ((st′ : List Expr) → Says q o (stackReads st′ q o || bytesRead bs q o) (parse s st′ bs))
-        → Says q o (stackReads st q o || (opReads (opOf b) q o || bytesRead bs q o)) (go-on x (λ st′. parse s st′ bs))
-    go (stack st′) h r =
-        says-same q o (stackReads st′ q o || bytesRead bs q o) (stackReads st q o || (opReads (opOf b) q o || bytesRead bs q o))
-        (ap (λ (z : Bool). z || bytesRead bs q o) h ∙ or-turn (opReads (opOf b) q o) (stackReads st q o) (bytesRead bs q o)) (parse s st′ bs) (r st′)
-    go (breaks r) h f = tt
-
-pub tree-reads : (s : ℕ) (bs : List ℕ) (t : Expr) → parse s [] bs ≡ tree t → (q o : ℕ) → hasRead t q o ≡ bytesRead bs q o
-unfolding stackReads
-tree-reads s bs t h q o = rw h at (parse-reads s q o bs [])
+use Rattle.lola.specs.ByteReads.{bytesRead}
+use Rattle.lola.proofs.TreeReads.{tree-reads}
+use Rattle.circular.specs.Masks.{bytesOf}
+use Rattle.circular.proofs.Bools.{or-split, and-l}
 
 -- every read is of one of the s streams
 pub read-in-sheet : (s : ℕ) (t : Expr) → InSheet s t → (q o : ℕ) → hasRead t q o ≡ true → q < s

@@ -7,28 +7,11 @@ use Prim.Native.Nat.{ℕ, _+_, _*_, _/_, _%_, _≤_, _<_}
 use lib.ListN.{getD}
 use lib.Dec.{eqb, ltb}
 use Rattle.words.specs.Bits.{bit}
-use Rattle.sheet.specs.Bytes.{opOf}
 use Rattle.sheet.specs.RuleSheet.{RuleSheet}
 use Rattle.sheet.specs.Reading.{codeAt}
-use Rattle.sheet.specs.declared.Op.{Op}
-use Rattle.sheet.specs.declared.Op.the-variants.{Const, Not, And, Or, Read, Rejected}
-use Rattle.lola.specs.Reads.{place}
+use Rattle.lola.specs.ByteReads.{bytesRead}
 use Rattle.circular.specs.Circular.{edges}
 use Rattle.circular.specs.Table.{readsOf}
-
--- the operation is a read of stream q at the offset number o
-unfoldable pub opReads : Op → ℕ → ℕ → Bool
-opReads (Const v) q o = false
-opReads Not q o = false
-opReads And q o = false
-opReads Or q o = false
-opReads (Read q′ o′ d) q o = eqb (q′ .0) q && eqb (place o′) o
-opReads (Rejected r) q o = false
-
--- one of the bytes is
-unfoldable pub bytesRead : List ℕ → ℕ → ℕ → Bool
-bytesRead [] q o = false
-bytesRead (b ∷ bs) q o = opReads (opOf b) q o || bytesRead bs q o
 
 -- the word of an expression's reads
 pub record Marks (e : List ℕ) (w : ℕ) : Type 0 where

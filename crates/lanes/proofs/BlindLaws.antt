@@ -25,7 +25,8 @@ use Rattle.sheet.proofs.Ops.{is-earlier-false, is-earlier-true}
 use Rattle.lola.specs.Value.{value, near, neighbours}
 use Rattle.lola.specs.Reads.{place, hasRead}
 use Rattle.lola.specs.Equations.{holds}
-use Rattle.lola.proofs.TreeReads.{opReads, bytesRead, tree-reads}
+use Rattle.lola.specs.ByteReads.{opReads, bytesRead}
+use Rattle.lola.proofs.TreeReads.{tree-reads}
 use Rattle.lanes.specs.Table.{earlierByte}
 use Rattle.lanes.specs.Coded.{Coded, sheetOf}
 use Rattle.lanes.proofs.CodeLaws.{agreed-same, agreed-holds}

@@ -1,4 +1,4 @@
--- The reads of a tree are those of the bytes that it was read from. Assumes nothing.
+-- The reads of a tree are those of the bytes that it was read from.
 use mathlib.Core.Path.{_≡_, refl, ap, _∙_}
 use Prim.Native.Nat.{ℕ}
 use mathlib.Core.Bool.{Bool, true, false, cond, _&&_, _||_}
@@ -7,24 +7,10 @@ use lib.Dec.{eqb, ltb}
 use Rattle.sheet.specs.Bytes.{opOf}
 use Rattle.sheet.specs.Expression.{Expr, constant, negation, conjunction, disjunction, read, Next, stack, breaks, Parsed, tree, broken, applyOp, final, go-on, parse}
 use Rattle.refusal.specs.declared.Refusal.the-variants.{Byte}
-use Rattle.sheet.specs.declared.StreamNo.{StreamNo}
 use Rattle.sheet.specs.declared.Op.{Op}
 use Rattle.sheet.specs.declared.Op.the-variants.{Const, Not, And, Or, Read, Rejected}
 use Rattle.lola.specs.Reads.{place, hasRead}
-
--- the operation is a read of stream q at the offset number o
-unfoldable pub opReads : Op → ℕ → ℕ → Bool
-opReads (Const v) q o = false
-opReads Not q o = false
-opReads And q o = false
-opReads Or q o = false
-opReads (Read q′ o′ d) q o = eqb (q′ .0) q && eqb (place o′) o
-opReads (Rejected r) q o = false
-
--- one of the bytes is
-unfoldable pub bytesRead : List ℕ → ℕ → ℕ → Bool
-bytesRead [] q o = false
-bytesRead (b ∷ bs) q o = opReads (opOf b) q o || bytesRead bs q o
+use Rattle.lola.specs.ByteReads.{opReads, bytesRead}
 
 -- a tree of the stack has the read
 unfoldable stackReads : List Expr → ℕ → ℕ → Bool

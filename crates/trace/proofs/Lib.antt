@@ -2,5 +2,5 @@ pub mod Rounds
 pub mod Flips
 pub mod Passes
 pub mod Solving
-pub mod Order
+pub mod Decided
 pub mod Whole

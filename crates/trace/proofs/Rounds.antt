@@ -22,14 +22,10 @@ use Rattle.lola.specs.Value.{Look, value}
 use Rattle.lola.specs.Slots.{slots}
 use Rattle.lola.proofs.Places.{joint, lookAt, right}
 use Rattle.sheet.specs.Reading.{codeAt}
-use Rattle.trace.specs.Passes.{valuesOf, seen, treeIn, sides, Setting, Beside, Environment}
+use Rattle.trace.specs.Passes.{valuesOf, seen, treeIn, sides, Setting, Filled, Beside, Environment}
 
--- a letter with a byte above it
-pub valuation-lt : (m n l o : ℕ) → m + n ≤ 8 → l < 2 ^ m → o < 2 ^ n → l + 2 ^ m * o < 2 ^ 8
-valuation-lt m n l o h b c =
-    let g : 2 ^ (m + n) ≤ 2 ^ 8 = pow-mono {i = m + n} {j = 8} h in omega (arith, join-lt m n l o b c)
-
-pub stream-of-round : (m : ℕ) (letters buf : List ℕ) (at q : ℕ) → 2 ≤ at → getD letters (at - 2) 0 < 2 ^ m
+-- the bits of a round's valuation
+stream-of-round : (m : ℕ) (letters buf : List ℕ) (at q : ℕ) → 2 ≤ at → getD letters (at - 2) 0 < 2 ^ m
     → bit q (getD letters (at - 2) 0 + 2 ^ m * getD buf (at - 2) 0) ≡ joint m (valuesOf letters) (valuesOf buf) q (at - 1)
 unfolding joint valuesOf
 stream-of-round m letters buf at q h b =
@@ -39,6 +35,16 @@ stream-of-round m letters buf at q h b =
     go : Dec (q < m) → bit q (getD letters (at - 2) 0 + 2 ^ m * getD buf (at - 2) 0) ≡ cond (ltb q m) (bit q (getD letters (at - 2) 0)) (bit (q - m) (getD buf (at - 2) 0))
     go (yes l) = rw (lt-ltb q m l) (bit-low m q (getD letters (at - 2) 0) (getD buf (at - 2) 0) l b)
     go (no l) = rw (le-ltb q m (omega arith)) (bit-high-part m q (getD letters (at - 2) 0) (getD buf (at - 2) 0) (omega arith) b)
+
+module _ (letters : List ℕ) (at : ℕ) where
+  pub before-first : at < 2 → (leb 2 at && leb at (suc (length letters))) ≡ false
+  before-first h = simp (lt-leb 2 at h)
+
+  pub after-last : length letters + 1 < at → (leb 2 at && leb at (suc (length letters))) ≡ false
+  after-last h = simp (lt-leb at (suc (length letters)) (omega arith), and-false)
+
+  inside : 2 ≤ at → at ≤ length letters + 1 → (leb 2 at && leb at (suc (length letters))) ≡ true
+  inside h g = simp (le-leb 2 at h, le-leb at (suc (length letters)) (omega arith))
 
 module _ (m : ℕ) (letters buf : List ℕ) (at : ℕ) where
   -- no such round
@@ -51,25 +57,25 @@ module _ (m : ℕ) (letters buf : List ℕ) (at : ℕ) where
         high = λ q h. rw e (bit-above 8 q 0 255 (omega arith) ∙ bit-all 8 q h);
       }
 
-  pub before-first : at < 2 → (leb 2 at && leb at (suc (length letters))) ≡ false
-  before-first h = simp (lt-leb 2 at h)
-
-  pub after-last : length letters + 1 < at → (leb 2 at && leb at (suc (length letters))) ≡ false
-  after-last h = simp (lt-leb at (suc (length letters)) (omega arith), and-false)
-
-  pub inside : 2 ≤ at → at ≤ length letters + 1 → (leb 2 at && leb at (suc (length letters))) ≡ true
-  inside h g = simp (le-leb 2 at h, le-leb at (suc (length letters)) (omega arith))
-
   -- the round's valuation
-  pub beside-some : 2 ≤ at → at ≤ length letters + 1 → (v : ℕ) → v ≡ getD letters (at - 2) 0 + 2 ^ m * getD buf (at - 2) 0
-      → getD letters (at - 2) 0 < 2 ^ m → v < 2 ^ 8 → Beside m letters buf at (v + 256 * v)
-  unfolding seen
-  beside-some h g v e b l =
-      record {
-        small = omega arith;
-        low = λ q k. rw (inside h g) (bit-low 8 q v v k l ∙ ap (bit q) e ∙ stream-of-round m letters buf at q h b);
-        high = λ q k. rw (inside h g) (bit-above 8 q v v l ∙ ap (bit q) e ∙ stream-of-round m letters buf at q h b);
-      }
+  module _ (n : ℕ) (filled : Filled m n letters buf) (lo : 2 ≤ at) (hi : at ≤ length letters + 1) (v : ℕ)
+      (e : v ≡ getD letters (at - 2) 0 + 2 ^ m * getD buf (at - 2) 0) where
+    below : getD letters (at - 2) 0 < 2 ^ m
+    below = filled .letters-below (at - 2) (omega arith)
+
+    pub valuation-small : v < 256
+    valuation-small =
+        let g : 2 ^ (m + n) ≤ 2 ^ 8 = pow-mono {i = m + n} {j = 8} (filled .streams) in
+        omega (arith, join-lt m n (getD letters (at - 2) 0) (getD buf (at - 2) 0) below (filled .bytes-below (at - 2) (omega (arith, filled .same))))
+
+    pub beside-some : Beside m letters buf at (v + 256 * v)
+    unfolding seen
+    beside-some =
+        record {
+          small = omega (arith, valuation-small);
+          low = λ q k. rw (inside letters at lo hi) (bit-low 8 q v v k valuation-small ∙ ap (bit q) e ∙ stream-of-round m letters buf at q lo below);
+          high = λ q k. rw (inside letters at lo hi) (bit-above 8 q v v valuation-small ∙ ap (bit q) e ∙ stream-of-round m letters buf at q lo below);
+        }
 
 -- the three rounds in their order
 module _ (c e l : ℕ) (cl : c < 2 ^ 16) (el : e < 2 ^ 16) where
@@ -93,7 +99,7 @@ environment-of m letters buf t c e l h g bc be bl =
     record { reads = at }
   where
     here : (leb 2 (t + 1) && leb (t + 1) (suc (length letters))) ≡ true
-    here = inside m letters buf (t + 1) (omega arith) (omega arith)
+    here = inside letters (t + 1) (omega arith) (omega arith)
 
     now-any : (q : ℕ) (d : Bool) → seen m letters buf (t + 1) q false ≡ seen m letters buf (t + 1) q d
     now-any q d = rw here

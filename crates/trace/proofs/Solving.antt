@@ -2,8 +2,9 @@
 use mathlib.Core.Path.{_≡_, refl, sym, _∙_, subst}
 use mathlib.Core.Bool.{Bool, false}
 use mathlib.Core.List.{List}
-use Prim.Native.Nat.{ℕ, _+_, _*_, _^_, _<_}
+use Prim.Native.Nat.{ℕ, _+_, _*_, _^_, _<_, _≤_}
 use native.Mathlib.Numerals.{add-one}
+use native.Mathlib.Nat.{mul-le-mul}
 use lib.ListN.{length, getD}
 use Rattle.lola.proofs.Places.{Values}
 use Rattle.circular.proofs.Unique.{Reads, Solves, run, solution}
@@ -62,3 +63,7 @@ module _ (n N : ℕ) (f : Values → Values) (old : List ℕ) where
             solves-of n E N f local sol (valuesOf new) good
             (right-end n E N sol level (valuesOf new) (subst (λ (j : ℕ). Right n E N sol j (valuesOf new)) e (g .right E local sol good)));
       }
+
+-- the number of passes fits
+pub most-small : (n N : ℕ) → n ≤ 7 → N ≤ 4096 → n * N ≤ 28672
+most-small n N h k = mul-le-mul {n₁ = n} {m₁ = N} {n₂ = 7} {m₂ = 4096} h k

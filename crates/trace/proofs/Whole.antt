@@ -24,8 +24,8 @@ use Rattle.circular.specs.Circular.{Circular, CircularSheet, edges}
 use Rattle.circular.proofs.Unique.{Reads, Solves}
 use Rattle.circular.proofs.Values.{rightOf, right-reads}
 use Rattle.circular.proofs.Lists.{inputsBy, outputsBy, joined-trace}
-use Rattle.trace.specs.Evaluated.{Written, Left, Evaluated}
-use Rattle.trace.specs.Passes.{valuesOf, sides, Setting, Filled, Solved, Ready}
+use Rattle.trace.specs.Evaluated.{Written, Evaluated}
+use Rattle.trace.specs.Passes.{valuesOf, sides, Setting, Filled, Solved, Ready, Left}
 
 pub setting-of : (x : Sheet) → Usable x → Setting (x .inputs) (x .outputs) (x .code) (x .len)
 setting-of x u =

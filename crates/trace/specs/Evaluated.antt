@@ -17,11 +17,7 @@ pub record Written (x : RuleSheet) (letters old new : List ℕ) : Type 0 where
   pub bytes : (i : ℕ) → i < length letters → getD new i 0 < 2 ^ outputs x
   pub satisfies : Satisfies x none (joined (x .inputs) letters (take (length letters) new))
 
--- a refusal leaves the buffer that was handed in
-abbrev pub Left : RuleSheet → List ℕ → List ℕ → List ℕ → Outcome → Type 0
-Left x letters old new Accepted = Written x letters old new
-Left x letters old new (Refused r) = new ≡ old
-
+-- accepted: the bytes by the sheet that was read; a refusal leaves the buffer that was handed in
 abbrev pub Evaluated : List ℕ → List ℕ → List ℕ → List ℕ → Outcome → Type 0
 Evaluated bs letters old new Accepted = (x : RuleSheet) × (readSheet bs ≡ accepted x) × Written x letters old new
 Evaluated bs letters old new (Refused r) = new ≡ old

@@ -5,12 +5,16 @@ use mathlib.Core.List.{List, []}
 use Prim.Native.Nat.{ℕ, suc, _+_, _-_, _^_, _≤_, _<_}
 use lib.Dec.{leb}
 use lib.ListN.{length, getD}
+use Rattle.refusal.specs.declared.Outcome.{Outcome}
+use Rattle.refusal.specs.declared.Outcome.the-variants.{Accepted, Refused}
 use Rattle.words.specs.Bits.{bit}
 use Rattle.sheet.specs.Expression.{Expr, tree, parse}
 use Rattle.sheet.specs.Reading.{treeOf, codeAt}
+use Rattle.sheet.specs.RuleSheet.{RuleSheet}
 use Rattle.sheet.specs.declared.Offset.{Offset}
 use Rattle.lola.specs.Slots.{slots}
 use Rattle.lola.proofs.Places.{Values, joint, lookAt, right}
+use Rattle.trace.specs.Evaluated.{Written}
 use Rattle.circular.specs.Circular.{Circular}
 use Rattle.circular.proofs.Unique.{Place, Reads, Solves}
 use Rattle.circular.proofs.Sweep.{Right, RightAt}
@@ -82,6 +86,10 @@ pub record Passed (n N : ℕ) (f : Values → Values) (P : ℕ → ℕ → Type 
   pub same : changed ≡ false → new ≡ old
   pub quiet : changed ≡ false → (s t : ℕ) → Place n N s t → P s t → valuesOf old s t ≡ f (valuesOf old) s t
 
+-- the same for the equations of a sheet over the letters
+abbrev pub Refreshed : ℕ → ℕ → List ℕ → List ℕ → List ℕ → (ℕ → ℕ → Type 0) → List ℕ → List ℕ → Bool → Type 0
+Refreshed m n code len letters P old new changed = Passed n (length letters) (sides m n code len letters) P old new changed
+
 -- the buffer satisfies the equations, if the reads between the outputs are not circular
 pub record Solved (n N : ℕ) (f : Values → Values) (old new : List ℕ) : Type 0 where
   pub len : length new ≡ length old
@@ -100,3 +108,8 @@ pub record Ready (m : ℕ) (letters : List ℕ) (room : ℕ) : Type 0 where
   pub few : length letters ≤ 4096
   pub fits : length letters ≤ room
   pub below : (i : ℕ) → i < length letters → getD letters i 0 < 2 ^ m
+
+-- what is left in the buffer, for a sheet that was read
+abbrev pub Left : RuleSheet → List ℕ → List ℕ → List ℕ → Outcome → Type 0
+Left x letters old new Accepted = Written x letters old new
+Left x letters old new (Refused r) = new ≡ old

@@ -27,7 +27,15 @@ loop-less : tie.Need-loop-less Inv-loop μ-loop
 loop-less c = omega arith
 
 loop-again : tie.Need-loop-again Inv-loop μ-loop
-loop-again c = let l = c .before .loop in let z : length (set (l .buf) (l .i) 0) ≡ length (l .buf) = length-set (l .buf) (l .i) 0 in (omega arith, z ∙ l .inv .1, below-more (λ (k : ℕ). getD (set (l .buf) (l .i) 0) k 0 ≡ 0) (l .i) (λ k h. getD-set-other (l .buf) (l .i) k 0 0 (omega arith) ∙ l .inv .2 k h) (getD-set-same (l .buf) (l .i) 0 0 (omega arith)))
+loop-again c =
+    let l = c .before .loop in
+    let z : length (set (l .buf) (l .i) 0) ≡ length (l .buf) = length-set (l .buf) (l .i) 0 in (
+      omega arith,
+      z ∙ l .inv .1,
+      below-more (λ (k : ℕ). getD (set (l .buf) (l .i) 0) k 0 ≡ 0) (l .i)
+          (λ k h. getD-set-other (l .buf) (l .i) k 0 0 (omega arith) ∙ l .inv .2 k h)
+          (getD-set-same (l .buf) (l .i) 0 0 (omega arith)),
+    )
 
 same-length : tie.Need-same-length Inv-loop μ-loop
 same-length c = c .before .loop .inv .1

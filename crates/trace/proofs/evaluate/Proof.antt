@@ -1,6 +1,6 @@
 -- `trace::evaluate` meets its contract. Assumes nothing.
 use Rattle.sheet.specs.Reading.{ruleSheet}
-use Rattle.trace.proofs.Order.{inputs-byte, sheet-refused, run-decided}
+use Rattle.trace.proofs.Decided.{inputs-byte, sheet-refused, run-decided}
 use Rattle.trace.proofs.Whole.{evaluated-of, left-length}
 use mathlib.Core.Path.{refl}
 use borrow.Author.Needs.{needs}
@@ -18,16 +18,31 @@ enum-told : tie.Need-enum-told
 enum-told c = search needs
 
 run-requires : tie.Need-run-requires
-run-requires c κs = let a = (rw (c .before .enum-told .given .1) at (c .before .before .before .accept-sheet .ensures .1)) in (a .usable, a .level)
+run-requires c κs =
+    let s = (rw (c .before .enum-told .given .1) at (c .before .before .before .accept-sheet .ensures .1)) in
+    (s .usable, s .level)
 
 returns : tie.Need-returns
 returns c = (sheet-refused _ _ _ _ (rw (c .before .outcome .given .1) at (c .before .before .before .accept-sheet .ensures .0)), refl)
 
 same-length : tie.Need-same-length
-same-length c = let a = c .before .before .before .before .before .before .before .before .before .before .args in left-length _ (a .letters .now) (a .out .now) (c .before .before .run .last .1 .1 .0) (c .before .before .run .result) (c .before .before .run .ensures .1)
+same-length c =
+    let a = c .before .before .before .before .before .before .before .before .before .before .args in
+    left-length _ (a .letters .now) (a .out .now) (c .before .before .run .last .1 .1 .0) (c .before .before .run .result) (c .before .before .run .ensures .1)
 
 returns-2 : tie.Need-returns-2
-returns-2 c = let a = c .before .before .before .before .before .before .before .before .before .before .args in let x = c .before .before .before .before .before .before .accept-sheet .result .sheet in let s = (rw (c .before .before .before .before .enum-told .given .1) at (c .before .before .before .before .before .before .accept-sheet .ensures .1)) in (run-decided (a .sheet .now) (a .letters .now) (length (a .out .now)) (c .before .before .run .result) (rw (c .before .before .before .before .enum-told .given .1) at (c .before .before .before .before .before .before .accept-sheet .ensures .0)) (c .before .before .run .ensures .0 (a .sheet .now) (inputs-byte (a .sheet .now) (ruleSheet x) (s .reads))), evaluated-of (a .sheet .now) (a .letters .now) (a .out .now) (c .before .before .run .last .1 .1 .0) (ruleSheet x) (s .reads) (c .before .before .run .result) (c .before .before .run .ensures .1))
+returns-2 c =
+    let a = c .before .before .before .before .before .before .before .before .before .before .args in
+    let got = c .before .before .before .before .before .before .accept-sheet in
+    let told = c .before .before .before .before .enum-told .given .1 in
+    let ran = c .before .before .run in
+    let s = (rw told at (got .ensures .1)) in
+    let bs = a .sheet .now in
+    let letters = a .letters .now in
+    let x = ruleSheet (got .result .sheet) in (
+      run-decided bs letters (length (a .out .now)) (ran .result) (rw told at (got .ensures .0)) (ran .ensures .0 bs (inputs-byte bs x (s .reads))),
+      evaluated-of bs letters (a .out .now) (ran .last .1 .1 .0) x (s .reads) (ran .result) (ran .ensures .1),
+    )
 
 pub evaluate-spec : {M : Type 1} → statement M
 evaluate-spec =

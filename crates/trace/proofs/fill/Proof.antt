@@ -32,16 +32,34 @@ slice-relend-prefix-solve : tie.Need-slice-relend-prefix-solve
 slice-relend-prefix-solve c = search needs
 
 slice-aggregate-solve-3 : tie.Need-slice-aggregate-solve-3
-slice-aggregate-solve-3 c = let st = c .before .before .before .before .before .before .before .before .before .before .before .before .before .before in cleared-room _ (st .args .out .now) (c .before .before .before .before .before .clear .last .0) (st .pre .2 .fits) (c .before .before .before .before .before .clear .ensures .0)
+slice-aggregate-solve-3 c =
+    let st = c .before .before .before .before .before .before .before .before .before .before .before .before .before .before in
+    let cleared = c .before .before .before .before .before .clear in
+    cleared-room _ (st .args .out .now) (cleared .last .0) (st .pre .2 .fits) (cleared .ensures .0)
 
 solve-requires : tie.Need-solve-requires
-solve-requires c κs = let st = c .before .before .before .before .before .before .before .before .before .before .before .before .before .before .before in let a = st .args in (setting-of (a .x) (st .pre .0), filled-start (a .x) (st .pre .0) _ (a .out .now) (c .before .before .before .before .before .before .clear .last .0) (st .pre .2) (c .before .before .before .before .before .before .clear .ensures .0) (c .before .before .before .before .before .before .clear .ensures .1))
+solve-requires c κs =
+    let st = c .before .before .before .before .before .before .before .before .before .before .before .before .before .before .before in
+    let a = st .args in
+    let cleared = c .before .before .before .before .before .before .clear in (
+      setting-of (a .x) (st .pre .0),
+      filled-start (a .x) (st .pre .0) _ (a .out .now) (cleared .last .0) (st .pre .2) (cleared .ensures .0) (cleared .ensures .1),
+    )
 
 same-length : tie.Need-same-length
-same-length c = let st = c .before .before .before .before .before .before .before .before .before .before .before .before .before .before .before .before .before .before in let a = st .args in written-of (a .x) (st .pre .0) _ (a .out .now) (c .before .before .before .before .before .before .before .before .before .clear .last .0) (st .pre .2) (c .before .before .before .before .before .before .before .before .before .clear .ensures .0) (c .before .before .before .before .before .before .before .before .before .clear .ensures .1) (st .pre .1) _ (c .before .before .solve .ensures) .len
+same-length c =
+    let st = c .before .before .before .before .before .before .before .before .before .before .before .before .before .before .before .before .before .before in
+    let a = st .args in
+    let cleared = c .before .before .before .before .before .before .before .before .before .clear in
+    written-of (a .x) (st .pre .0) _ (a .out .now) (cleared .last .0) (st .pre .2) (cleared .ensures .0) (cleared .ensures .1) (st .pre .1) _ (c .before .before .solve .ensures)
+    .len
 
 returns : tie.Need-returns
-returns c = let st = c .before .before .before .before .before .before .before .before .before .before .before .before .before .before .before .before .before .before in let a = st .args in written-of (a .x) (st .pre .0) _ (a .out .now) (c .before .before .before .before .before .before .before .before .before .clear .last .0) (st .pre .2) (c .before .before .before .before .before .before .before .before .before .clear .ensures .0) (c .before .before .before .before .before .before .before .before .before .clear .ensures .1) (st .pre .1) _ (c .before .before .solve .ensures)
+returns c =
+    let st = c .before .before .before .before .before .before .before .before .before .before .before .before .before .before .before .before .before .before in
+    let a = st .args in
+    let cleared = c .before .before .before .before .before .before .before .before .before .clear in
+    written-of (a .x) (st .pre .0) _ (a .out .now) (cleared .last .0) (st .pre .2) (cleared .ensures .0) (cleared .ensures .1) (st .pre .1) _ (c .before .before .solve .ensures)
 
 pub fill-spec : {M : Type 1} → statement M
 fill-spec =

@@ -36,7 +36,12 @@ loop-less : tie.Need-loop-less Inv-loop μ-loop
 loop-less c = omega arith
 
 loop-again : tie.Need-loop-again Inv-loop μ-loop
-loop-again c = (omega arith, below-more (λ (k : ℕ). getD (c .before .before .before .before .before .before .args .letters .now) k 0 < 2 ^ c .before .before .before .before .before .before .args .m) (c .before .before .before .before .loop .i) (c .before .before .before .before .loop .inv .1) (letter-small _ _ _ (c .before .wide .ensures) (c .if1 .left)))
+loop-again c =
+    let a = c .before .before .before .before .before .before .args in
+    let l = c .before .before .before .before .loop in (
+      omega arith,
+      below-more (λ (k : ℕ). getD (a .letters .now) k 0 < 2 ^ a .m) (l .i) (l .inv .1) (letter-small _ _ _ (c .before .wide .ensures) (c .if1 .left)),
+    )
 
 returns-2 : tie.Need-returns-2 Inv-loop μ-loop
 returns-2 c = record { within = c .before .loop .inv .0; before = c .before .loop .inv .1; found = λ h. absurd (omega arith) }

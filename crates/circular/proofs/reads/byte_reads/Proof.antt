@@ -2,7 +2,7 @@ use mathlib.Core.Path.{sym, _∙_}
 use native.Mathlib.Omega.{arith}
 use borrow.Author.Needs.{needs}
 use Rattle.words.proofs.BitLaws.{bit-none}
-use Rattle.circular.specs.Masks.{opReads}
+use Rattle.lola.specs.ByteReads.{opReads}
 use Rattle.circular.proofs.Masks.{op-low, place-le, read-word}
 use Rattle.circular.proofs.reads.byte_reads.Statement.{statement}
 use Rattle.circular.proofs.reads.byte_reads.Tie as tie

@@ -1,0 +1,74 @@
+-- `trace::place::refresh` meets its contract. Assumes nothing.
+use Rattle.trace.proofs.Rounds.{part-short, place-value}
+use Rattle.trace.proofs.Passes.{passed-one}
+use native.Mathlib.Omega.{arith}
+use borrow.Author.Needs.{needs}
+use Rattle.trace.proofs.place.refresh.Statement.{statement}
+use Rattle.trace.proofs.place.refresh.Tie as tie
+
+environment-requires : tie.Need-environment-requires
+environment-requires c κs = search needs
+
+mul-from : tie.Need-mul-from
+mul-from c = search needs
+
+mul-to : tie.Need-mul-to
+mul-to c = search needs
+
+shared-slice-read-to : tie.Need-shared-slice-read-to
+shared-slice-read-to c = search needs
+
+add-to : tie.Need-add-to
+add-to c =
+    let st = c .before .before .before .before .before .before .before in
+    omega (arith, st .pre .0 .small (st .args .s) (st .pre .2), st .pre .0 .outputs)
+
+sub-value-bit : tie.Need-sub-value-bit
+sub-value-bit c = search needs
+
+part-value-bit-start : tie.Need-part-value-bit-start
+part-value-bit-start c = search needs
+
+part-value-bit-end : tie.Need-part-value-bit-end
+part-value-bit-end c =
+    let st = c .before .before .before .before .before .before .before in
+    omega (arith, st .pre .0 .small (st .args .s) (st .pre .2), st .pre .0 .outputs, st .pre .0 .room)
+
+value-bit-requires : tie.Need-value-bit-requires
+value-bit-requires c κs =
+    let st = c .before .before .before .before .before .before .before .before in
+    let a = st .args in
+    part-short (a .code .now) (a .len .now) (a .s) (st .pre .0 .small (a .s) (st .pre .2))
+
+sub-put-bit : tie.Need-sub-put-bit
+sub-put-bit c = search needs
+
+put-bit-requires : tie.Need-put-bit-requires
+put-bit-requires c κs = search needs
+
+same-length : tie.Need-same-length
+same-length c = search needs
+
+returns : tie.Need-returns
+returns c =
+    let st = c .before .before .before .before .before .before .before .before .before .before .before .before .before in
+    passed-one _ _ _ _ _ _ _ _ _ (c .before .before .put-bit .ensures) (st .pre .3) (st .pre .2)
+    (place-value _ _ _ _ _ _ _ _ _ _ (st .pre .0) (st .pre .2) (c .before .before .before .before .before .before .before .environment .ensures) (c .before .before .before .before .value-bit .ensures))
+
+pub refresh-spec : {M : Type 1} → statement M
+refresh-spec =
+    tie.close
+    (tie.spec
+    environment-requires
+    mul-from
+    mul-to
+    shared-slice-read-to
+    add-to
+    sub-value-bit
+    part-value-bit-start
+    part-value-bit-end
+    value-bit-requires
+    sub-put-bit
+    put-bit-requires
+    same-length
+    returns)

@@ -1,0 +1,20 @@
+-- `trace::sweep::try_refresh` meets its contract. Assumes nothing.
+use Rattle.trace.proofs.Passes.{passed-none, passed-loose}
+use borrow.Author.Needs.{needs}
+use Rattle.trace.proofs.sweep.try_refresh.Statement.{statement}
+use Rattle.trace.proofs.sweep.try_refresh.Tie as tie
+
+returns : tie.Need-returns
+returns c = passed-none _ _ _ _ _ _ (λ q u pl h. h)
+
+refresh-requires : tie.Need-refresh-requires
+refresh-requires c κs = search needs
+
+same-length : tie.Need-same-length
+same-length c = search needs
+
+returns-2 : tie.Need-returns-2
+returns-2 c = passed-loose _ _ _ _ _ _ _ (c .before .before .refresh .ensures)
+
+pub try-refresh-spec : {M : Type 1} → statement M
+try-refresh-spec = tie.close (tie.spec returns refresh-requires same-length returns-2)

@@ -58,6 +58,9 @@ module _ (m n : ℕ) (g : Given) where
   pub some-round : (g .before .rounds ≡ 0 → ⊥) → By (noRound ∷ []) Accepted
   some-round h = cons-holds B callRule noRound [] Accepted h (nil-holds B callRule)
 
+pub none-left : (m n : ℕ) (g : Given) → Decided (CallBroken m n g) callRule [] Accepted
+none-left m n g = nil-holds (CallBroken m n g) callRule
+
 pub nonzero : (t : ℕ) → (t ≡ 0 → ⊥) → 1 ≤ t
 nonzero zero h = absurd (h refl)
 nonzero (suc t) h = omega arith

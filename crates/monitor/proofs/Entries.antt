@@ -19,7 +19,11 @@ use Rattle.circular.specs.Checks as sheets
 use Rattle.completions.specs.Live.{Pairs}
 use Rattle.completions.specs.Steps.{startSet, stepSet}
 use Rattle.monitor.specs.Checks.{CallCheck, callRule, Given, CallBroken, EntryCheck, sheet, call, rule, Broken, entryChecks}
-use Rattle.monitor.specs.Results.{width, nextSet}
+use Rattle.record.specs.declared.JournalRecord.{JournalRecord}
+use Rattle.monitor.specs.declared.PrepareAnswer.{PrepareAnswer}
+use Rattle.monitor.specs.declared.RoundAnswer.{RoundAnswer}
+use Rattle.monitor.specs.declared.ClosingAnswer.{ClosingAnswer}
+use Rattle.monitor.specs.Results.{width, nextSet, PrepareResult, RoundResult, ClosingResult}
 use Rattle.monitor.proofs.Rounding.{sheet-outputs}
 
 module _ (bs : List ℕ) (g : Given) where
@@ -51,3 +55,22 @@ next-first x L S r (suc t) e = absurd (omega arith)
 pub next-later : (x : RuleSheet) (L S : Pairs) (r : ℕ → Bool) (t : ℕ) → (t ≡ 0 → ⊥) → nextSet x L t S r ≡ stepSet x (width x) L S r
 next-later x L S r zero e = absurd (e refl)
 next-later x L S r (suc t) e = refl
+
+-- what is done is the result, where the outcome is accepted
+pub prepare-accepted : (Done : Type 0) (s t : List ℕ) (a : PrepareAnswer) (o : Outcome) → o ≡ Accepted → Done → PrepareResult Done s t a o
+prepare-accepted Done s t a o e d = subst (PrepareResult Done s t a) (sym e) d
+
+pub round-accepted : (Done : Type 0) (s t : List ℕ) (r : JournalRecord) (a : RoundAnswer) (o : Outcome) → o ≡ Accepted → Done → RoundResult Done s t r a o
+round-accepted Done s t r a o e d = subst (RoundResult Done s t r a) (sym e) d
+
+pub closing-accepted : (Done : Type 0) (r : JournalRecord) (a : ClosingAnswer) (o : Outcome) → o ≡ Accepted → Done → ClosingResult Done r a o
+closing-accepted Done r a o e d = subst (ClosingResult Done r a) (sym e) d
+
+-- the result of a call on a sheet that was read is that of the sheet's bytes
+pub round-of : (Done Done′ : Type 0) (s t : List ℕ) (r : JournalRecord) (a : RoundAnswer) (o : Outcome) → (Done → Done′) → RoundResult Done s t r a o → RoundResult Done′ s t r a o
+round-of Done Done′ s t r a Accepted f d = f d
+round-of Done Done′ s t r a (Refused e) f d = d
+
+pub closing-of : (Done Done′ : Type 0) (r : JournalRecord) (a : ClosingAnswer) (o : Outcome) → (Done → Done′) → ClosingResult Done r a o → ClosingResult Done′ r a o
+closing-of Done Done′ r a Accepted f d = f d
+closing-of Done Done′ r a (Refused e) f d = d

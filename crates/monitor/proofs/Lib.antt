@@ -3,3 +3,4 @@ pub mod Checking
 pub mod Sharing
 pub mod Rounding
 pub mod Entries
+pub mod Done

@@ -8,9 +8,20 @@ ghost use Rattle.record.specs.Record.{Fresh, recordOk};
 ghost use Rattle.monitor.specs.Checks.{callRule, CallBroken, roundChecks, closingChecks};
 ghost use Rattle.monitor.specs.Steps.{given, RoundReady, ClosingReady, Shares};
 ghost use Rattle.sheet.specs.Reading.{whenAccepted};
+ghost use mathlib.Core.List.{List};
+ghost use Rattle.sheet.specs.Reading.{ruleSheet, Usable};
+ghost use Rattle.completions.specs.Steps.{pairsVerdict};
+ghost use Rattle.letters.specs.Masks.{badMasks};
+ghost use Rattle.pairs.specs.Storage.{stored};
+ghost use Rattle.lanes.specs.Coded.{Coded, sheetOf};
+ghost use Rattle.rounds.specs.Rows.{among};
+ghost use Rattle.rounds.specs.Round.{Rounded};
+ghost use Rattle.monitor.specs.Checks.{prepareChecks, rule, Broken, entryChecks};
+ghost use Rattle.monitor.specs.Results.{nextSet, Prepared, RoundDone, ClosingDone, OfSheet, PrepareResult, RoundResult, ClosingResult};
 use record::JournalRecord;
 use refusal::Outcome;
 use refusal::Refusal;
+use sheet::Sheet;
 
 // What preparation answers: a fresh record and the number of live pairs; where it is refused, 0 of them.
 pub struct PrepareAnswer {
@@ -113,6 +124,101 @@ fn refused_preparation(e: Refusal) -> PrepareAnswer
     }
 }
 
+// ---- Preparation
+
+fn accepted_preparation(x: Sheet, storage: &mut [u64]) -> PrepareAnswer
+    requires { ⌜ Usable x × (3084 ≤ length (now storage)) ⌝ }
+    ensures { λ a. ⌜ (a .outcome ≡ Outcome.Accepted) × Prepared (ruleSheet x) (now (storage .entry)) (now (storage .exit)) a ⌝ }
+{
+    let code = x.code;
+    let len = x.len;
+    let assumed = x.assumed;
+    let found = preparation::prepare(storage, &code, &len, x.inputs as usize, x.outputs as usize, assumed);
+    PrepareAnswer {
+        outcome: Outcome::Accepted,
+        record: JournalRecord::fresh(),
+        live: found.live as u32,
+    }
+}
+
+// Prepares the storage for journals of a sheet: the live pairs, and their number.
+pub fn prepare(sheet: &[u8], storage: &mut [u64]) -> PrepareAnswer
+    ensures decided { λ a. ⌜ ((r : JournalRecord) → Decided (Broken (now (sheet .entry)) (given (length (now (storage .entry))) r 0 0)) rule (entryChecks (now (sheet .entry)) prepareChecks) (a .outcome)) ⌝ }
+    ensures result { λ a. ⌜ PrepareResult (OfSheet (now (sheet .entry)) (λ x. Prepared x (now (storage .entry)) (now (storage .exit)) a)) (now (storage .entry)) (now (storage .exit)) a (a .outcome) ⌝ }
+{
+    let got = circular::accept_sheet(sheet);
+    let outcome = got.outcome;
+    match outcome {
+        Outcome::Refused(e) => refused_preparation(e),
+        Outcome::Accepted => {
+            if storage.len() < JournalRecord::STORAGE_WORDS {
+                return refused_preparation(Refusal::Storage);
+            }
+            accepted_preparation(got.sheet, storage)
+        }
+    }
+}
+
+// ---- Rounds
+
+// One step of the reached set; the first round is known by the record's rounds.
+fn step(storage: &mut [u64], code: &[u8], len: &[usize], m: usize, n: usize, rounds: u32, letters: u64)
+    requires { ⌜ Coded m n (now code) (now len) ⌝ }
+    requires { ⌜ 3084 ≤ length (now storage) ⌝ }
+    ensures { λ r. ⌜ ((ks : List ℕ) → Rounded (2 ^ (m + n)) (now (storage .entry)) (now (storage .exit)) (nextSet (sheetOf m n (now (code .entry)) (now (len .entry)) ks) (stored (now (storage .entry)) 0) rounds (stored (now (storage .entry)) 1028) (among letters m))) ⌝ }
+{
+    if rounds == 0 {
+        rounds::first_round(storage, code, len, m, n, letters);
+        return;
+    }
+    rounds::later_round(storage, code, len, m, n, letters);
+}
+
+fn accepted_round(x: Sheet, storage: &mut [u64], r: JournalRecord, known: u8, value: u8) -> RoundAnswer
+    requires { ⌜ Usable x × RoundReady (x .inputs) (x .outputs) (given (length (now storage)) r known value) ⌝ }
+    ensures { λ a. ⌜ (a .outcome ≡ Outcome.Accepted) × RoundDone (ruleSheet x) (now (storage .entry)) (now (storage .exit)) r known value a ⌝ }
+{
+    let code = x.code;
+    let len = x.len;
+    let m = x.inputs as usize;
+    let n = x.outputs as usize;
+    let letters = letters::letters_of(known, value);
+    step(storage, &code, &len, m, n, r.rounds, letters);
+    let verdicts = rounds::round_verdicts(storage, m, n);
+    let next = record::with_round(r, n, &verdicts);
+    RoundAnswer {
+        outcome: Outcome::Accepted,
+        record: next,
+        verdicts: verdicts,
+    }
+}
+
+// A round of a sheet that was read.
+fn round_on(x: Sheet, storage: &mut [u64], r: JournalRecord, known: u8, value: u8) -> RoundAnswer
+    requires { ⌜ Usable x ⌝ }
+    ensures decided { λ a. ⌜ Decided (CallBroken (x .inputs) (x .outputs) (given (length (now (storage .entry))) r known value)) callRule roundChecks (a .outcome) ⌝ }
+    ensures result { λ a. ⌜ RoundResult (RoundDone (ruleSheet x) (now (storage .entry)) (now (storage .exit)) r known value a) (now (storage .entry)) (now (storage .exit)) r a (a .outcome) ⌝ }
+{
+    let outcome = check_round(x.inputs, x.outputs, storage.len(), r, known, value);
+    match outcome {
+        Outcome::Refused(e) => refused_round(e, r),
+        Outcome::Accepted => accepted_round(x, storage, r, known, value),
+    }
+}
+
+// One round of a journal: what was heard is the value's bits at the known places.
+pub fn round(sheet: &[u8], storage: &mut [u64], before: JournalRecord, known: u8, value: u8) -> RoundAnswer
+    ensures decided { λ a. ⌜ Decided (Broken (now (sheet .entry)) (given (length (now (storage .entry))) before known value)) rule (entryChecks (now (sheet .entry)) roundChecks) (a .outcome) ⌝ }
+    ensures result { λ a. ⌜ RoundResult (OfSheet (now (sheet .entry)) (λ x. RoundDone x (now (storage .entry)) (now (storage .exit)) before known value a)) (now (storage .entry)) (now (storage .exit)) before a (a .outcome) ⌝ }
+{
+    let got = circular::accept_sheet(sheet);
+    let outcome = got.outcome;
+    match outcome {
+        Outcome::Refused(e) => refused_round(e, before),
+        Outcome::Accepted => round_on(got.sheet, storage, before, known, value),
+    }
+}
+
 // ---- Closing
 
 // Each output's share; 0 for outputs that the sheet doesn't have.
@@ -129,4 +235,52 @@ fn shares(r: JournalRecord, n: usize) -> [u32; 7]
         k += 1;
     }
     out
+}
+
+fn accepted_closing(x: Sheet, storage: &[u64], r: JournalRecord) -> ClosingAnswer
+    requires { ⌜ Usable x × ClosingReady (x .outputs) (given (length (now storage)) r 0 0) ⌝ }
+    ensures { λ a. ⌜ (a .outcome ≡ Outcome.Accepted) × ClosingDone (ruleSheet x) (now (storage .entry)) r a ⌝ }
+{
+    let m = x.inputs as usize;
+    let n = x.outputs as usize;
+    let verdicts = rounds::closing_verdicts(storage, m, n);
+    let shares = shares(r, n);
+    let counts = r.counts;
+    let next = JournalRecord {
+        rounds: r.rounds,
+        closed: true,
+        counts: counts,
+    };
+    ClosingAnswer {
+        outcome: Outcome::Accepted,
+        record: next,
+        verdicts: verdicts,
+        shares: shares,
+    }
+}
+
+// A closing with a sheet that was read.
+fn closing_on(x: Sheet, storage: &[u64], r: JournalRecord) -> ClosingAnswer
+    requires { ⌜ Usable x ⌝ }
+    ensures decided { λ a. ⌜ Decided (CallBroken (x .inputs) (x .outputs) (given (length (now (storage .entry))) r 0 0)) callRule closingChecks (a .outcome) ⌝ }
+    ensures result { λ a. ⌜ ClosingResult (ClosingDone (ruleSheet x) (now (storage .entry)) r a) r a (a .outcome) ⌝ }
+{
+    let outcome = check_closing(x.inputs, x.outputs, storage.len(), r);
+    match outcome {
+        Outcome::Refused(e) => refused_closing(e, r),
+        Outcome::Accepted => accepted_closing(x, storage, r),
+    }
+}
+
+// Closes a journal: the verdicts over the completions that end here, and each output's share.
+pub fn close(sheet: &[u8], storage: &[u64], before: JournalRecord) -> ClosingAnswer
+    ensures decided { λ a. ⌜ Decided (Broken (now (sheet .entry)) (given (length (now (storage .entry))) before 0 0)) rule (entryChecks (now (sheet .entry)) closingChecks) (a .outcome) ⌝ }
+    ensures result { λ a. ⌜ ClosingResult (OfSheet (now (sheet .entry)) (λ x. ClosingDone x (now (storage .entry)) before a)) before a (a .outcome) ⌝ }
+{
+    let got = circular::accept_sheet(sheet);
+    let outcome = got.outcome;
+    match outcome {
+        Outcome::Refused(e) => refused_closing(e, before),
+        Outcome::Accepted => closing_on(got.sheet, storage, before),
+    }
 }

@@ -1,0 +1,41 @@
+use Prim.Native.Nat.{ℕ, _+_, _*_, _-_, _≤_, _<_, _^_}
+use mathlib.Core.Path.{_≡_, refl, sym, _∙_, ap, subst}
+use mathlib.Core.Bool.{Bool, true, false}
+use mathlib.Core.List.{List, [], _∷_}
+use denote.Ref.{now}
+use lib.ListN.{length, getD}
+use native.Mathlib.Omega.{arith}
+use Rattle.refusal.specs.declared.Outcome.the-variants.{Accepted, Refused}
+use Rattle.sheet.specs.RuleSheet.{RuleSheet}
+use Rattle.sheet.specs.Reading.{ruleSheet}
+use Rattle.monitor.specs.Checks.{roundChecks, closingChecks}
+use Rattle.monitor.specs.Results.{OfSheet, RoundDone, ClosingDone}
+use Rattle.monitor.specs.Steps.{given}
+use Rattle.monitor.proofs.Done.{closing-done}
+use borrow.Author.Needs.{needs}
+use Rattle.monitor.proofs.accepted_closing.Statement.{statement}
+use Rattle.monitor.proofs.accepted_closing.Tie as tie
+use Rattle.monitor.proofs.accepted_closing.Reads as reads
+use Rattle.monitor.proofs.accepted_closing.Lts as lts
+use Rattle.monitor.proofs.shares.Reads as shares-reads
+use Rattle.rounds.proofs.closing_verdicts.Reads as closing-verdicts-reads
+
+cast-m : tie.Need-cast-m
+cast-m c = search needs
+
+cast-n : tie.Need-cast-n
+cast-n c = search needs
+
+closing-verdicts-requires : tie.Need-closing-verdicts-requires
+closing-verdicts-requires c κs = search needs
+
+shares-requires : tie.Need-shares-requires
+shares-requires c κs = search needs
+
+returns : tie.Need-returns
+returns c = 
+    (refl, closing-done (c .before .before .before .before .before .before .args .x) (c .before .before .before .before .before .before .pre .0) (now (c .before .before .before .before .before .before .args .storage)) (c .before .before .before .before .before .before .args .r) _ (c .before .before .closing-verdicts .ensures) (c .before .shares .ensures) refl refl refl)
+
+pub accepted-closing-spec : {M : Type 1} → statement M
+accepted-closing-spec =
+    tie.close (tie.spec cast-m cast-n closing-verdicts-requires shares-requires returns)

@@ -1,0 +1,79 @@
+use Prim.Native.Nat.{ℕ, _+_, _*_, _-_, _≤_, _<_, _^_}
+use mathlib.Core.Path.{_≡_, refl, sym, _∙_, ap, subst}
+use mathlib.Core.Bool.{Bool, true, false}
+use mathlib.Core.List.{List, [], _∷_}
+use denote.Ref.{now}
+use lib.ListN.{length, getD}
+use native.Mathlib.Omega.{arith}
+use Rattle.refusal.specs.declared.Outcome.the-variants.{Accepted, Refused}
+use Rattle.sheet.specs.RuleSheet.{RuleSheet}
+use Rattle.sheet.specs.Reading.{ruleSheet}
+use Rattle.monitor.specs.Checks.{roundChecks, closingChecks}
+use Rattle.monitor.specs.Results.{OfSheet, RoundDone, ClosingDone}
+use Rattle.monitor.specs.Steps.{given}
+use Rattle.sheet.specs.RuleSheet.{requiredOf}
+use Rattle.monitor.proofs.Done.{told-are, round-done}
+use borrow.Author.Needs.{needs}
+use Rattle.monitor.proofs.accepted_round.Statement.{statement}
+use Rattle.monitor.proofs.accepted_round.Tie as tie
+use Rattle.monitor.proofs.accepted_round.Reads as reads
+use Rattle.monitor.proofs.accepted_round.Lts as lts
+use Rattle.letters.proofs.letters_of.Reads as letters-of-reads
+use Rattle.monitor.proofs.step.Reads as step-reads
+use Rattle.record.proofs.with_round.Reads as with-round-reads
+use Rattle.rounds.proofs.round_verdicts.Reads as round-verdicts-reads
+
+cast-m : tie.Need-cast-m
+cast-m c = search needs
+
+cast-n : tie.Need-cast-n
+cast-n c = search needs
+
+letters-of-requires : tie.Need-letters-of-requires
+letters-of-requires c κs = search needs
+
+slice-aggregate-step : tie.Need-slice-aggregate-step
+slice-aggregate-step c = search needs
+
+slice-aggregate-step-2 : tie.Need-slice-aggregate-step-2
+slice-aggregate-step-2 c = search needs
+
+step-requires : tie.Need-step-requires
+step-requires c κs = search needs
+
+round-verdicts-requires : tie.Need-round-verdicts-requires
+round-verdicts-requires c κs = search needs
+
+slice-aggregate-with-round : tie.Need-slice-aggregate-with-round
+slice-aggregate-with-round c = search needs
+
+with-round-requires : tie.Need-with-round-requires
+with-round-requires c κs = 
+    let p = c .before .before .before .before .before .before .before .before .before .before .before .before .before .before .before .pre in
+    (p .0 .ranges .outputs, p .1 .right, p .1 .room, c .before .round-verdicts .ensures .size, told-are _ _ _ (c .before .round-verdicts .ensures))
+
+same-length : tie.Need-same-length
+same-length c = search needs
+
+returns : tie.Need-returns
+returns c = 
+    let p = c .before .before .before .before .before .before .before .before .before .before .before .before .before .before .before .before .pre in
+    let w = c .with-round .ensures in
+    (refl, round-done (c .before .before .before .before .before .before .before .before .before .before .before .before .before .before .before .before .args .x) (p .0) (now (c .before .before .before .before .before .before .before .before .before .before .before .before .before .before .before .before .args .storage)) (c .before .before .before .before .before .before .step .last .0) (c .before .before .before .before .before .before .before .before .before .before .before .before .before .before .before .before .args .r) (c .before .before .before .before .before .before .before .before .before .before .before .before .before .before .before .before .args .known) (c .before .before .before .before .before .before .before .before .before .before .before .before .before .before .before .before .args .value) (c .before .before .before .before .before .before .before .before .before .before .letters-of .result) _ (p .1)
+    (c .before .before .before .before .before .before .before .before .before .before .letters-of .ensures) (c .before .before .before .before .before .before .step .ensures (requiredOf (c .before .before .before .before .before .before .before .before .before .before .before .before .before .before .before .before .args .x .assumed))) (c .before .before .round-verdicts .ensures) (w .0) (w .1) (w .2))
+
+pub accepted-round-spec : {M : Type 1} → statement M
+accepted-round-spec =
+    tie.close
+    (tie.spec
+    cast-m
+    cast-n
+    letters-of-requires
+    slice-aggregate-step
+    slice-aggregate-step-2
+    step-requires
+    round-verdicts-requires
+    slice-aggregate-with-round
+    with-round-requires
+    same-length
+    returns)

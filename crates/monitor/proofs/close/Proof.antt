@@ -1,0 +1,63 @@
+use Prim.Native.Nat.{ℕ}
+use mathlib.Core.Path.{_≡_, refl}
+use denote.Ref.{now}
+use lib.ListN.{length}
+use Rattle.sheet.specs.RuleSheet.{RuleSheet}
+use Rattle.sheet.specs.Reading.{ruleSheet}
+use Rattle.monitor.specs.Checks.{roundChecks, closingChecks}
+use Rattle.monitor.specs.Results.{OfSheet, RoundDone, ClosingDone}
+use Rattle.monitor.specs.Steps.{given}
+use Rattle.monitor.proofs.Entries.{sheet-refused, sheet-accepted, round-of, closing-of}
+use borrow.Author.Needs.{needs}
+use Rattle.monitor.proofs.close.Statement.{statement}
+use Rattle.monitor.proofs.close.Tie as tie
+use Rattle.monitor.proofs.close.Reads as reads
+use Rattle.monitor.proofs.close.Lts as lts
+use Rattle.circular.proofs.accept_sheet.Reads as accept-sheet-reads
+use Rattle.monitor.proofs.closing_on.Reads as closing-on-reads
+use Rattle.monitor.proofs.refused_closing.Reads as refused-closing-reads
+
+accept-sheet-requires : tie.Need-accept-sheet-requires
+accept-sheet-requires c κs = search needs
+
+enum-known-outcome : tie.Need-enum-known-outcome
+enum-known-outcome c = search needs
+
+refused-closing-requires : tie.Need-refused-closing-requires
+refused-closing-requires c κs = search needs
+
+enum-told : tie.Need-enum-told
+enum-told c = search needs
+
+closing-on-requires : tie.Need-closing-on-requires
+closing-on-requires c κs = (rw (c .enum-told .given .1) at (c .before .before .accept-sheet .ensures .1)) .usable
+
+returns : tie.Need-returns
+returns c = 
+    let a = c .refused-closing .ensures in
+    (rw (a .0) (sheet-refused (now (c .before .before .before .before .before .before .before .args .sheet)) (given (length (now (c .before .before .before .before .before .before .before .args .storage))) (c .before .before .before .before .before .before .before .args .before) 0 0) closingChecks _ (rw (c .before .before .outcome .given .1) at (c .before .before .before .before .accept-sheet .ensures .0))), rw (a .0) (a .1, a .2, a .3))
+
+returns-2 : tie.Need-returns-2
+returns-2 c = 
+    let bs = now (c .before .before .before .before .before .before .args .sheet) in
+    let x = c .before .before .before .accept-sheet .result .sheet in
+    let e = c .before .enum-told .given .1 in
+    let acc = rw e at (c .before .before .before .accept-sheet .ensures .1) in
+    let s = now (c .before .before .before .before .before .before .args .storage) in
+    let r = c .before .before .before .before .before .before .args .before in
+    let p = c .closing-on .result in (
+      sheet-accepted bs (given (length (now (c .before .before .before .before .before .before .args .storage))) (c .before .before .before .before .before .before .args .before) 0 0) x acc (rw e at (c .before .before .before .accept-sheet .ensures .0)) closingChecks (p .outcome) (c .closing-on .ensures .0),
+      closing-of (ClosingDone (ruleSheet x) s r p) (OfSheet bs (λ (y : RuleSheet). ClosingDone y s r p)) r p (p .outcome) (λ d. (ruleSheet x, acc .reads, d)) (c .closing-on .ensures .1),
+    )
+
+pub close-spec : {M : Type 1} → statement M
+close-spec =
+    tie.close
+    (tie.spec
+    accept-sheet-requires
+    enum-known-outcome
+    refused-closing-requires
+    enum-told
+    closing-on-requires
+    returns
+    returns-2)

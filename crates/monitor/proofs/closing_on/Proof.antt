@@ -1,0 +1,62 @@
+use Prim.Native.Nat.{ℕ, _+_, _*_, _-_, _≤_, _<_, _^_}
+use mathlib.Core.Path.{_≡_, refl, sym, _∙_, ap, subst}
+use mathlib.Core.Bool.{Bool, true, false}
+use mathlib.Core.List.{List, [], _∷_}
+use denote.Ref.{now}
+use lib.ListN.{length, getD}
+use native.Mathlib.Omega.{arith}
+use Rattle.refusal.specs.declared.Outcome.the-variants.{Accepted, Refused}
+use Rattle.sheet.specs.RuleSheet.{RuleSheet}
+use Rattle.sheet.specs.Reading.{ruleSheet}
+use Rattle.monitor.specs.Checks.{roundChecks, closingChecks}
+use Rattle.monitor.specs.Results.{OfSheet, RoundDone, ClosingDone}
+use Rattle.monitor.specs.Steps.{given}
+use Rattle.monitor.proofs.Entries.{closing-accepted}
+use borrow.Author.Needs.{needs}
+use Rattle.monitor.proofs.closing_on.Statement.{statement}
+use Rattle.monitor.proofs.closing_on.Tie as tie
+use Rattle.monitor.proofs.closing_on.Reads as reads
+use Rattle.monitor.proofs.closing_on.Lts as lts
+use Rattle.monitor.proofs.accepted_closing.Reads as accepted-closing-reads
+use Rattle.monitor.proofs.check_closing.Reads as check-closing-reads
+use Rattle.monitor.proofs.refused_closing.Reads as refused-closing-reads
+
+check-closing-requires : tie.Need-check-closing-requires
+check-closing-requires c κs = search needs
+
+enum-known-outcome : tie.Need-enum-known-outcome
+enum-known-outcome c = search needs
+
+refused-closing-requires : tie.Need-refused-closing-requires
+refused-closing-requires c κs = search needs
+
+enum-told : tie.Need-enum-told
+enum-told c = search needs
+
+accepted-closing-requires : tie.Need-accepted-closing-requires
+accepted-closing-requires c κs = (c .before .before .before .before .pre, rw (c .enum-told .given .1) at (c .before .before .check-closing .ensures .1))
+
+returns : tie.Need-returns
+returns c = 
+    let a = c .refused-closing .ensures in
+    (rw (a .0) (rw (c .before .before .outcome .given .1) at (c .before .before .before .before .check-closing .ensures .0)), rw (a .0) (a .1, a .2, a .3))
+
+returns-2 : tie.Need-returns-2
+returns-2 c = 
+    let a = c .accepted-closing .ensures in
+    let p = c .accepted-closing .result in (
+      rw (a .0) (rw (c .before .enum-told .given .1) at (c .before .before .before .check-closing .ensures .0)),
+      closing-accepted (ClosingDone (ruleSheet (c .before .before .before .before .before .args .x)) (now (c .before .before .before .before .before .args .storage)) (c .before .before .before .before .before .args .r) p) (c .before .before .before .before .before .args .r) p (p .outcome) (a .0) (a .1),
+    )
+
+pub closing-on-spec : {M : Type 1} → statement M
+closing-on-spec =
+    tie.close
+    (tie.spec
+    check-closing-requires
+    enum-known-outcome
+    refused-closing-requires
+    enum-told
+    accepted-closing-requires
+    returns
+    returns-2)

@@ -1,0 +1,69 @@
+use Prim.Native.Nat.{ℕ}
+use mathlib.Core.Path.{_≡_, refl}
+use denote.Ref.{now}
+use lib.ListN.{length}
+use Rattle.sheet.specs.RuleSheet.{RuleSheet}
+use Rattle.sheet.specs.Reading.{ruleSheet}
+use Rattle.monitor.specs.Checks.{roundChecks, closingChecks}
+use Rattle.monitor.specs.Results.{OfSheet, RoundDone, ClosingDone}
+use Rattle.monitor.specs.Steps.{given}
+use Rattle.monitor.proofs.Entries.{sheet-refused, sheet-accepted, round-of, closing-of}
+use borrow.Author.Needs.{needs}
+use Rattle.monitor.proofs.round.Statement.{statement}
+use Rattle.monitor.proofs.round.Tie as tie
+use Rattle.monitor.proofs.round.Reads as reads
+use Rattle.monitor.proofs.round.Lts as lts
+use Rattle.circular.proofs.accept_sheet.Reads as accept-sheet-reads
+use Rattle.monitor.proofs.refused_round.Reads as refused-round-reads
+use Rattle.monitor.proofs.round_on.Reads as round-on-reads
+
+accept-sheet-requires : tie.Need-accept-sheet-requires
+accept-sheet-requires c κs = search needs
+
+enum-known-outcome : tie.Need-enum-known-outcome
+enum-known-outcome c = search needs
+
+refused-round-requires : tie.Need-refused-round-requires
+refused-round-requires c κs = search needs
+
+enum-told : tie.Need-enum-told
+enum-told c = search needs
+
+round-on-requires : tie.Need-round-on-requires
+round-on-requires c κs = (rw (c .before .enum-told .given .1) at (c .before .before .before .accept-sheet .ensures .1)) .usable
+
+returns : tie.Need-returns
+returns c = 
+    let a = c .refused-round .ensures in
+    (rw (a .0) (sheet-refused (now (c .before .before .before .before .before .before .before .args .sheet)) (given (length (now (c .before .before .before .before .before .before .before .args .storage))) (c .before .before .before .before .before .before .before .args .before) (c .before .before .before .before .before .before .before .args .known) (c .before .before .before .before .before .before .before .args .value)) roundChecks _ (rw (c .before .before .outcome .given .1) at (c .before .before .before .before .accept-sheet .ensures .0))), rw (a .0) (refl, a .1, a .2))
+
+same-length : tie.Need-same-length
+same-length c = search needs
+
+returns-2 : tie.Need-returns-2
+returns-2 c = 
+    let bs = now (c .before .before .before .before .before .before .before .before .before .args .sheet) in
+    let x = c .before .before .before .before .before .before .accept-sheet .result .sheet in
+    let e = c .before .before .before .before .enum-told .given .1 in
+    let acc = rw e at (c .before .before .before .before .before .before .accept-sheet .ensures .1) in
+    let s = now (c .before .before .before .before .before .before .before .before .before .args .storage) in
+    let t = c .before .before .round-on .last .1 .0 in
+    let r = c .before .before .before .before .before .before .before .before .before .args .before in
+    let p = c .before .before .round-on .result in (
+      sheet-accepted bs (given (length (now (c .before .before .before .before .before .before .before .before .before .args .storage))) (c .before .before .before .before .before .before .before .before .before .args .before) (c .before .before .before .before .before .before .before .before .before .args .known) (c .before .before .before .before .before .before .before .before .before .args .value)) x acc (rw e at (c .before .before .before .before .before .before .accept-sheet .ensures .0)) roundChecks (p .outcome) (c .before .before .round-on .ensures .0),
+      round-of (RoundDone (ruleSheet x) s t r (c .before .before .before .before .before .before .before .before .before .args .known) (c .before .before .before .before .before .before .before .before .before .args .value) p) (OfSheet bs (λ (y : RuleSheet). RoundDone y s t r (c .before .before .before .before .before .before .before .before .before .args .known) (c .before .before .before .before .before .before .before .before .before .args .value) p)) s t r p (p .outcome)
+      (λ d. (ruleSheet x, acc .reads, d)) (c .before .before .round-on .ensures .1),
+    )
+
+pub round-spec : {M : Type 1} → statement M
+round-spec =
+    tie.close
+    (tie.spec
+    accept-sheet-requires
+    enum-known-outcome
+    refused-round-requires
+    enum-told
+    round-on-requires
+    returns
+    same-length
+    returns-2)

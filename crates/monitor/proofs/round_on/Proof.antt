@@ -1,0 +1,68 @@
+use Prim.Native.Nat.{ℕ, _+_, _*_, _-_, _≤_, _<_, _^_}
+use mathlib.Core.Path.{_≡_, refl, sym, _∙_, ap, subst}
+use mathlib.Core.Bool.{Bool, true, false}
+use mathlib.Core.List.{List, [], _∷_}
+use denote.Ref.{now}
+use lib.ListN.{length, getD}
+use native.Mathlib.Omega.{arith}
+use Rattle.refusal.specs.declared.Outcome.the-variants.{Accepted, Refused}
+use Rattle.sheet.specs.RuleSheet.{RuleSheet}
+use Rattle.sheet.specs.Reading.{ruleSheet}
+use Rattle.monitor.specs.Checks.{roundChecks, closingChecks}
+use Rattle.monitor.specs.Results.{OfSheet, RoundDone, ClosingDone}
+use Rattle.monitor.specs.Steps.{given}
+use Rattle.monitor.proofs.Entries.{round-accepted}
+use borrow.Author.Needs.{needs}
+use Rattle.monitor.proofs.round_on.Statement.{statement}
+use Rattle.monitor.proofs.round_on.Tie as tie
+use Rattle.monitor.proofs.round_on.Reads as reads
+use Rattle.monitor.proofs.round_on.Lts as lts
+use Rattle.monitor.proofs.accepted_round.Reads as accepted-round-reads
+use Rattle.monitor.proofs.check_round.Reads as check-round-reads
+use Rattle.monitor.proofs.refused_round.Reads as refused-round-reads
+
+check-round-requires : tie.Need-check-round-requires
+check-round-requires c κs = search needs
+
+enum-known-outcome : tie.Need-enum-known-outcome
+enum-known-outcome c = search needs
+
+refused-round-requires : tie.Need-refused-round-requires
+refused-round-requires c κs = search needs
+
+enum-told : tie.Need-enum-told
+enum-told c = search needs
+
+accepted-round-requires : tie.Need-accepted-round-requires
+accepted-round-requires c κs = (c .before .before .before .before .before .pre, rw (c .before .enum-told .given .1) at (c .before .before .before .check-round .ensures .1))
+
+returns : tie.Need-returns
+returns c = 
+    let a = c .refused-round .ensures in
+    (rw (a .0) (rw (c .before .before .outcome .given .1) at (c .before .before .before .before .check-round .ensures .0)), rw (a .0) (refl, a .1, a .2))
+
+same-length : tie.Need-same-length
+same-length c = search needs
+
+returns-2 : tie.Need-returns-2
+returns-2 c = 
+    let a = c .before .before .accepted-round .ensures in
+    let p = c .before .before .accepted-round .result in
+    let s = now (c .before .before .before .before .before .before .before .before .args .storage) in
+    let t = c .before .before .accepted-round .last .1 .0 in (
+      rw (a .0) (rw (c .before .before .before .before .enum-told .given .1) at (c .before .before .before .before .before .before .check-round .ensures .0)),
+      round-accepted (RoundDone (ruleSheet (c .before .before .before .before .before .before .before .before .args .x)) s t (c .before .before .before .before .before .before .before .before .args .r) (c .before .before .before .before .before .before .before .before .args .known) (c .before .before .before .before .before .before .before .before .args .value) p) s t (c .before .before .before .before .before .before .before .before .args .r) p (p .outcome) (a .0) (a .1),
+    )
+
+pub round-on-spec : {M : Type 1} → statement M
+round-on-spec =
+    tie.close
+    (tie.spec
+    check-round-requires
+    enum-known-outcome
+    refused-round-requires
+    enum-told
+    accepted-round-requires
+    returns
+    same-length
+    returns-2)

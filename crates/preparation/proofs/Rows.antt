@@ -1,0 +1,215 @@
+-- Rows of words: their lanes, written one word after the other; and whether a set has a pair.
+use mathlib.Core.Path.{_≡_, refl, sym, ap, ap₂, _∙_}
+use mathlib.Core.Bool.{Bool, true, false, not, _&&_, _||_}
+use mathlib.Core.List.{List, []}
+use mathlib.Core.Option.{Option, none, some}
+use Prim.Native.Nat.{ℕ, zero, suc, _+_, _-_, _*_, _/_, _%_, _^_, _≤_, _<_}
+use native.Mathlib.Omega.{arith}
+use native.Mathlib.Decide.{ℕ-discrete, decLt}
+use borrow.Author.Tests.{eq-eqb, lt-ltb, le-ltb}
+use lib.Bits.{bitAnd}
+use lib.Count.{trailingZeros}
+use lib.Dec.{ltb}
+use lib.ListN.{length, getD, set, length-set}
+use lib.Pow.{pow-pos, pow-mono, pow-lt}
+use lib.Seq.{getD-set-same, getD-set-other}
+use Rattle.words.specs.Bits.{bit}
+use Rattle.words.proofs.BitLaws.{bit-all, bit-and, bit-not, bit-none, bit-high, one-shl, bit-shl, Lowest, lowest}
+use Rattle.sheet.specs.RuleSheet.{requiredOf}
+use Rattle.sheet.specs.Reading.{Below}
+use Rattle.sheet.specs.declared.OutputNo.{OutputNo}
+use Rattle.sheet.specs.declared.Assumed.{Assumed}
+use Rattle.sheet.specs.declared.Assumed.the-variants.{Nothing, Output}
+use Rattle.sheet.proofs.Sheets.{length-trees}
+use Rattle.lanes.specs.Coded.{sheetOf}
+use Rattle.completions.specs.Live.{allowed, allTrue}
+use Rattle.completions.specs.Steps.{Within}
+use Rattle.pairs.specs.Storage.{place, slot, stored}
+use Rattle.pairs.specs.Changes.{rowBit}
+use Rattle.pairs.proofs.Bools.{and-true}
+use Rattle.pairs.proofs.Sets.{place-lt, lane, lane-end}
+use Rattle.preparation.specs.Search.{Told, United}
+
+-- ---- the lanes below a bound
+
+-- the low r bits
+low-bits : (r i : ℕ) → r < 64 → bit i (1 * 2 ^ r % 2 ^ 64 - 1) ≡ ltb i r
+low-bits r i h = ap (λ (k : ℕ). bit i (k - 1)) (one-shl r h) ∙ go (decLt i r)
+  where
+    go : Dec (i < r) → bit i (2 ^ r - 1) ≡ ltb i r
+    go (yes l) = bit-all r i l ∙ sym (lt-ltb i r l)
+    go (no l) = bit-high r i (2 ^ r - 1) (let p : 1 ≤ 2 ^ r = pow-pos r in omega arith) (omega arith) ∙ sym (le-ltb i r (omega arith))
+
+pub part-below : (v j i : ℕ) → 64 * j < v → v - 64 * j < 64 → bit i (1 * 2 ^ (v - 64 * j) % 2 ^ 64 - 1) ≡ ltb (64 * j + i) v
+part-below v j i h l = low-bits (v - 64 * j) i l ∙ go (decLt i (v - 64 * j))
+  where
+    go : Dec (i < v - 64 * j) → ltb i (v - 64 * j) ≡ ltb (64 * j + i) v
+    go (yes k) = lt-ltb i (v - 64 * j) k ∙ sym (lt-ltb (64 * j + i) v (omega arith))
+    go (no k) = le-ltb i (v - 64 * j) (omega arith) ∙ sym (le-ltb (64 * j + i) v (omega arith))
+
+pub part-some : (r : ℕ) → r < 64 → 1 ≤ 1 * 2 ^ r % 2 ^ 64
+part-some r h = let p : 1 ≤ 2 ^ r = pow-pos r in omega (arith, one-shl r h)
+
+-- the number of valuations, as the code has it
+pub two-to : (k : ℕ) → k ≤ 8 → (1 * 2 ^ k % 2 ^ 64 ≡ 2 ^ k) × (1 ≤ 2 ^ k) × (2 ^ k ≤ 256)
+two-to k h = (one-shl k (omega arith), pow-pos k, pow-mono h)
+
+-- ---- allowed valuations, by the bits that the code looks at
+
+module _ (m n : ℕ) (code len : List ℕ) where
+  pub streams-are : (ks : List ℕ) → m + length (sheetOf m n code len ks .expressions) ≡ m + n
+  streams-are ks = ap (λ (k : ℕ). m + k) (length-trees (m + n) code len n)
+
+  pub streams-low : (ks : List ℕ) (k : ℕ) → 2 ^ (m + n) ≤ k → 2 ^ (m + length (sheetOf m n code len ks .expressions)) ≤ k
+  streams-low ks k h = rw (streams-are ks) h
+
+  pub allowed-free : (a : ℕ) → ltb a (2 ^ (m + n)) ≡ allowed (sheetOf m n code len (requiredOf Nothing)) a
+  unfolding allowed allTrue
+  allowed-free a = sym (and-true (ltb a (2 ^ (m + length (sheetOf m n code len [] .expressions)))) ∙ ap (λ (k : ℕ). ltb a (2 ^ k)) (streams-are []))
+
+  pub allowed-output : (k : OutputNo) (a : ℕ) → (ltb a (2 ^ (m + n)) && bit (m + k .0) a) ≡ allowed (sheetOf m n code len (requiredOf (Output k))) a
+  unfolding allowed allTrue
+  allowed-output k a =
+      sym (ap₂ (λ (i : ℕ) (u : Bool). ltb a (2 ^ i) && u) (streams-are (requiredOf (Output k))) (and-true (bit (m + k .0) a)))
+
+  -- by the assumption that the code has, the number of valuations v and the stream q
+  pub allowed-nothing : (x : Assumed) (v a : ℕ) → x ≡ Nothing → v ≡ 2 ^ (m + n) → ltb a v ≡ allowed (sheetOf m n code len (requiredOf x)) a
+  allowed-nothing x v a e f = ap (ltb a) f ∙ allowed-free a ∙ ap (λ (y : Assumed). allowed (sheetOf m n code len (requiredOf y)) a) (sym e)
+
+  pub allowed-by : (x : Assumed) (k : OutputNo) (v q a : ℕ) → x ≡ Output k → v ≡ 2 ^ (m + n) → q ≡ m + k .0 → (ltb a v && bit q a) ≡ allowed (sheetOf m n code len (requiredOf x)) a
+  allowed-by x k v q a e f g =
+      ap₂ (λ (i j : ℕ). ltb a i && bit j a) f g ∙ allowed-output k a ∙ ap (λ (y : Assumed). allowed (sheetOf m n code len (requiredOf y)) a) (sym e)
+
+  -- some valuation is allowed
+  pub some-allowed : (x : Assumed) → Below x n → m + n ≤ 8 → (a : ℕ) × (a < 256) × (allowed (sheetOf m n code len (requiredOf x)) a ≡ true)
+  some-allowed Nothing h l =
+      let p = two-to (m + n) l in
+      (0, omega arith, sym (allowed-free 0) ∙ lt-ltb 0 (2 ^ (m + n)) (p .1))
+  some-allowed (Output k) h l =
+      let p = two-to (m + n) l in
+      let g : 2 ^ (m + k .0) < 2 ^ (m + n) = pow-lt (omega arith) in (
+        2 ^ (m + k .0),
+        omega (arith, p .2),
+        sym (allowed-output k (2 ^ (m + k .0)))
+            ∙ ap₂ _&&_ (lt-ltb (2 ^ (m + k .0)) (2 ^ (m + n)) g)
+            (ap (bit (m + k .0)) (sym (one-shl (m + k .0) (omega arith))) ∙ bit-shl (m + k .0) (m + k .0) (omega arith) ∙ eq-eqb (m + k .0) (m + k .0) refl),
+      )
+
+-- an assumption is an output of the sheet
+pub below-output : (x : Assumed) (k : OutputNo) (n : ℕ) → x ≡ Output k → Below x n → k .0 < n
+below-output x k n e h = rw e at h
+
+-- ---- a row written one word after the other: f takes the number of a lane and what was there
+
+pub record Writing (old new : List ℕ) (f : ℕ → Bool → Bool) (j : ℕ) : Type 0 where
+  pub same-length : length new ≡ length old
+  pub done : (k i : ℕ) → k < j → i < 64 → bit i (getD new k 0) ≡ f (64 * k + i) (bit i (getD old k 0))
+  pub kept : (k : ℕ) → j ≤ k → getD new k 0 ≡ getD old k 0
+
+module _ (old : List ℕ) (f : ℕ → Bool → Bool) where
+  pub writing-none : Writing old old f 0
+  writing-none = record { same-length = refl; done = λ k i h l. absurd (omega arith); kept = λ k h. refl }
+
+  pub writing-more : (new : List ℕ) (j x : ℕ) → j < length old → Writing old new f j
+      → ((i : ℕ) → i < 64 → bit i x ≡ f (64 * j + i) (bit i (getD new j 0))) → Writing old (set new j x) f (j + 1)
+  writing-more new j x h p e = record {
+    same-length = length-set new j x ∙ p .same-length;
+    done = λ k i g l. go k i g l (ℕ-discrete k j);
+    kept = λ k g. getD-set-other new j k x 0 (omega arith) ∙ p .kept k (omega arith);
+  }
+    where
+      go : (k i : ℕ) → k < j + 1 → i < 64 → Dec (k ≡ j) → bit i (getD (set new j x) k 0) ≡ f (64 * k + i) (bit i (getD old k 0))
+      go k i g l (yes d) =
+          ap (λ (u : ℕ). bit i (getD (set new j x) u 0)) d ∙ ap (bit i) (getD-set-same new j x 0 (omega (arith, p .same-length))) ∙ e i l
+          ∙ ap (λ (u : ℕ). f (64 * j + i) (bit i u)) (p .kept j (omega arith)) ∙ ap (λ (u : ℕ). f (64 * u + i) (bit i (getD old u 0))) (sym d)
+      go k i g l (no d) = ap (bit i) (getD-set-other new j k x 0 (omega arith)) ∙ p .done k i (omega arith) l
+
+  pub written : (new : List ℕ) (j w a : ℕ) → w ≤ j → Writing old new f j → a < 64 * w → rowBit new 0 a ≡ f a (rowBit old 0 a)
+  unfolding rowBit
+  written new j w a l p h =
+      let e : 0 + a / 64 ≡ a / 64 = omega arith in
+      let q : 64 * (a / 64) + a % 64 ≡ a = omega arith in
+      ap (λ (k : ℕ). bit (a % 64) (getD new k 0)) e ∙ p .done (a / 64) (a % 64) (omega arith) (omega arith)
+      ∙ ap₂ (λ (i k : ℕ). f i (bit (a % 64) (getD old k 0))) q (sym e)
+
+-- lane i of word j of a row
+pub row-lane : (row : List ℕ) (j i : ℕ) → i < 64 → bit i (getD row j 0) ≡ rowBit row 0 (64 * j + i)
+unfolding rowBit
+row-lane row j i h =
+    let p : i ≡ (64 * j + i) % 64 = omega arith in
+    let q : j ≡ 0 + (64 * j + i) / 64 = omega arith in
+    ap₂ (λ (u v : ℕ). bit u (getD row v 0)) p q
+
+-- ---- whether a set has a pair
+
+pub none-told : (s : List ℕ) (base : ℕ) → ((k : ℕ) → k < 1028 → getD s (base + k) 0 ≡ 0) → Told s base false
+unfolding stored
+none-told s base f = record {
+  none-there = λ e x y hx hy. ap (bit (slot x y)) (f (place x y) (place-lt x y hx hy)) ∙ bit-none (slot x y);
+  some-there = λ e. let z : _≡_ {A = ℕ} 0 1 = cc in absurd (omega arith);
+}
+
+pub some-told : (s : List ℕ) (base k : ℕ) → k < 1028 → getD s (base + k) 0 < 2 ^ 64 → (getD s (base + k) 0 ≡ 0 → ⊥) → Told s base true
+some-told s base k h fit n = record {
+  none-there = λ e. let z : _≡_ {A = ℕ} 0 1 = cc in absurd (omega arith);
+  some-there = λ e. go (trailingZeros 64 (getD s (base + k) 0)) (lowest 64 (getD s (base + k) 0) fit n) (decLt k 1024);
+}
+  where
+    go : (t : ℕ) → Lowest 64 (getD s (base + k) 0) t → Dec (k < 1024) → (x : ℕ) × (y : Option ℕ) × (x < 256) × Within 256 y × (stored s base x y ≡ true)
+    go t r (yes d) =
+        let e : 4 * (k / 4) + k % 4 ≡ k = omega arith in (
+          k / 4,
+          some (64 * (k % 4) + t),
+          omega arith,
+          omega (arith, r .under-k),
+          sym (lane s base (k / 4) (k % 4) t (r .under-k)) ∙ ap (λ (i : ℕ). bit t (getD s (base + i) 0)) e ∙ r .is-set,
+        )
+    go t r (no d) =
+        let e : 1024 + (k - 1024) ≡ k = omega arith in (
+          64 * (k - 1024) + t,
+          none,
+          omega (arith, r .under-k),
+          tt,
+          sym (lane-end s base (k - 1024) t (r .under-k)) ∙ ap (λ (i : ℕ). bit t (getD s (base + i) 0)) e ∙ r .is-set,
+        )
+
+-- ---- a row that covers another
+
+pub covered-word : (x y i : ℕ) → i < 64 → y < 2 ^ 64 → bitAnd x ((2 ^ 64 - 1) - y) ≡ 0 → (bit i x && not (bit i y)) ≡ false
+covered-word x y i h fit e = ap (λ (u : Bool). bit i x && u) (sym (bit-not 64 i y h fit)) ∙ sym (bit-and i x ((2 ^ 64 - 1) - y)) ∙ ap (bit i) e ∙ bit-none i
+
+abbrev pub Covering : List ℕ → List ℕ → ℕ → Type 0
+Covering row ok j = (k i : ℕ) → k < j → i < 64 → (bit i (getD ok k 0) && not (bit i (getD row k 0))) ≡ false
+
+pub covering-more : (row ok : List ℕ) (j : ℕ) → getD row j 0 < 2 ^ 64 → Covering row ok j → bitAnd (getD ok j 0) ((2 ^ 64 - 1) - getD row j 0) ≡ 0 → Covering row ok (j + 1)
+covering-more row ok j fit p e k i h l = go (ℕ-discrete k j)
+  where
+    go : Dec (k ≡ j) → (bit i (getD ok k 0) && not (bit i (getD row k 0))) ≡ false
+    go (yes d) = ap (λ (u : ℕ). bit i (getD ok u 0) && not (bit i (getD row u 0))) d ∙ covered-word (getD ok j 0) (getD row j 0) i l fit e
+    go (no d) = p k i (omega arith) l
+
+pub covered : (row ok : List ℕ) (j w a : ℕ) → w ≤ j → Covering row ok j → a < 64 * w → rowBit ok 0 a ≡ true → rowBit row 0 a ≡ true
+unfolding rowBit
+covered row ok j w a l p h e =
+    let q : 0 + a / 64 ≡ a / 64 = omega arith in
+    go (bit (a % 64) (getD ok (0 + a / 64) 0)) (bit (a % 64) (getD row (0 + a / 64) 0)) e
+    (ap (λ (k : ℕ). bit (a % 64) (getD ok k 0) && not (bit (a % 64) (getD row k 0))) q ∙ p (a / 64) (a % 64) (omega arith) (omega arith))
+  where
+    go : (u v : Bool) → u ≡ true → (u && not v) ≡ false → v ≡ true
+    go u true f g = refl
+    go u false f g = sym g ∙ and-true u ∙ f
+
+-- ---- a row that gains, word by word, the lanes of another in which h holds
+
+module _ (old ok : List ℕ) (h : ℕ → Bool) where
+  pub gains-none : Writing old old (λ a u. u || (rowBit ok 0 a && h a)) 0
+  gains-none = writing-none old (λ a u. u || (rowBit ok 0 a && h a))
+
+  pub gains-more : (new : List ℕ) (j x : ℕ) → j < length old → Writing old new (λ a u. u || (rowBit ok 0 a && h a)) j
+      → ((i : ℕ) → i < 64 → bit i x ≡ (bit i (getD new j 0) || (bit i (getD ok j 0) && h (64 * j + i)))) → Writing old (set new j x) (λ a u. u || (rowBit ok 0 a && h a)) (j + 1)
+  gains-more new j x l p e =
+      writing-more old (λ a u. u || (rowBit ok 0 a && h a)) new j x l p
+      (λ i g. e i g ∙ ap (λ (u : Bool). bit i (getD new j 0) || (u && h (64 * j + i))) (row-lane ok j i g))
+
+  pub gains-all : (new : List ℕ) (j w : ℕ) → w ≤ j → Writing old new (λ a u. u || (rowBit ok 0 a && h a)) j → United w old new (λ a. rowBit ok 0 a && h a)
+  gains-all new j w l p = record { same-length = p .same-length; gains = λ a g. written old (λ a u. u || (rowBit ok 0 a && h a)) new j w a l p g }

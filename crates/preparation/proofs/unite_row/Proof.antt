@@ -1,0 +1,58 @@
+use native.Mathlib.Omega.{arith}
+use mathlib.Core.Path.{sym, _∙_}
+use borrow.Author.Tests.{not-true, not-false}
+use Rattle.lanes.specs.Table.{unless}
+use Rattle.preparation.proofs.Uniting.{united-no-end, united-end}
+use borrow.Author.Needs.{needs}
+use Rattle.preparation.proofs.unite_row.Statement.{statement}
+use Rattle.preparation.proofs.unite_row.Tie as tie
+
+unite-valuations-requires : tie.Need-unite-valuations-requires
+unite-valuations-requires c κs = search needs
+
+has-end-requires : tie.Need-has-end-requires
+has-end-requires c κs = search needs
+
+same-length : tie.Need-same-length
+same-length c = search needs
+
+same-length-2 : tie.Need-same-length-2
+same-length-2 c = search needs
+
+same-length-3 : tie.Need-same-length-3
+same-length-3 c = search needs
+
+returns : tie.Need-returns
+returns c = λ ks. united-no-end _ _ _ _ _ _ _ (sym (c .before .has-end .ensures) ∙ not-true _ (c .if1 .taken)) (c .before .before .before .before .before .before .before .before .unite-valuations .ensures ks)
+
+unite-requires : tie.Need-unite-requires
+unite-requires c κs = (c .before .before .before .before .before .before .before .before .before .before .before .before .before .before .before .before .before .before .before .before .before .before .pre .0, (c .before .before .before .before .before .before .before .before .before .before .before .before .before .before .before .before .before .before .before .before .before .before .pre .1 .0, omega arith, c .before .before .before .before .before .before .before .before .before .before .before .before .before .before .before .before .before .before .before .before .before .before .pre .1 .2, omega arith, omega arith))
+
+same-length-4 : tie.Need-same-length-4
+same-length-4 c = search needs
+
+same-length-5 : tie.Need-same-length-5
+same-length-5 c = search needs
+
+same-length-6 : tie.Need-same-length-6
+same-length-6 c = search needs
+
+returns-2 : tie.Need-returns-2
+unfolding unless
+returns-2 c = λ ks. united-end _ _ _ _ _ _ _ _ (sym (c .before .before .before .before .before .before .before .before .before .before .before .has-end .ensures) ∙ not-false _ (c .before .before .before .before .before .before .before .before .before .before .if1 .left)) (c .before .before .before .before .before .before .before .before .before .before .before .before .before .before .before .before .before .before .unite-valuations .ensures ks) (c .before .before .before .before .before .before .unite .ensures ks)
+
+pub unite-row-spec : {M : Type 1} → statement M
+unite-row-spec =
+    tie.close
+    (tie.spec
+    unite-valuations-requires
+    has-end-requires
+    same-length
+    same-length-2
+    same-length-3
+    returns
+    unite-requires
+    same-length-4
+    same-length-5
+    same-length-6
+    returns-2)

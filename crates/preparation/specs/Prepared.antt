@@ -1,0 +1,25 @@
+-- What preparation leaves in the storage, and the numbers that it returns (01, "Completions and verdicts").
+use mathlib.Core.Path.{_≡_}
+use mathlib.Core.List.{List}
+use mathlib.Core.Option.{Option}
+use Prim.Native.Nat.{ℕ, _≤_, _<_}
+use lib.ListN.{length, getD}
+use Rattle.sheet.specs.RuleSheet.{RuleSheet}
+use Rattle.completions.specs.Live.{Live, countPairs}
+use Rattle.completions.specs.Steps.{Represents}
+use Rattle.pairs.specs.Storage.{stored}
+
+-- From storage s preparation makes t, whatever s held: the live set is exactly the live pairs, the reached set and the scratch set are
+-- empty, the numbers past 3,084 are untouched. It returns the exact number of live pairs, at most 65,792.
+pub record Prepared (x : RuleSheet) (s t : List ℕ) (count : ℕ) : Type 0 where
+  pub same-length : length t ≡ length s
+  pub beyond : (k : ℕ) → 3084 ≤ k → getD t k 0 ≡ getD s k 0
+  pub live : Represents 256 (stored t 0) (Live x)
+  pub cleared : (k : ℕ) → 1028 ≤ k → k < 3084 → getD t k 0 ≡ 0
+  pub counted : count ≡ countPairs 256 (stored t 0)
+  pub bound : count ≤ 65792
+
+-- r is the greatest, over all live pairs, of the fewest further rounds from that pair to the end
+pub record Reach (x : RuleSheet) (r : ℕ) : Type 0 where
+  pub enough : (a : ℕ) (b : Option ℕ) → Live x a b → (h : Live x a b) × (length (h .rest) ≤ r)
+  pub needed : (a : ℕ) × (b : Option ℕ) × Live x a b × ((h : Live x a b) → r ≤ length (h .rest))

@@ -1,0 +1,78 @@
+-- One layer of the search for live pairs: for the contracts of private functions.
+use mathlib.Core.Path.{_≡_}
+use mathlib.Core.Bool.{Bool, true, false, not, _&&_, _||_}
+use mathlib.Core.List.{List}
+use mathlib.Core.Option.{Option, none, some}
+use Prim.Native.Nat.{ℕ, _*_, _≤_, _<_}
+use lib.Dec.{eqb, ltb}
+use lib.ListN.{length, getD}
+use Rattle.sheet.specs.RuleSheet.{RuleSheet}
+use Rattle.lola.specs.Equations.{holds}
+use Rattle.completions.specs.Live.{Pairs, allowed}
+use Rattle.completions.specs.Steps.{Within, anyNext}
+use Rattle.pairs.specs.Storage.{stored}
+use Rattle.pairs.specs.Changes.{rowBit}
+
+-- some pair (b, c) of F, with c below n or the end mark, lets a stand before b
+unfoldable pub meets : RuleSheet → ℕ → Pairs → ℕ → ℕ → Bool
+meets x n F a b = anyNext n (λ c. F b c && holds x (some a) b c)
+
+-- a is allowed, (a, b) is not in L, and the layer F lets a stand before b
+unfoldable pub joining : RuleSheet → ℕ → Pairs → Pairs → ℕ → ℕ → Bool
+joining x n L F a b = allowed x a && (not (L a (some b)) && meets x n F a b)
+
+-- these pairs, for one b
+unfoldable pub joinersAt : RuleSheet → ℕ → ℕ → Pairs → Pairs → Pairs
+joinersAt x n b L F a none = false
+joinersAt x n b L F a (some c) = eqb c b && joining x n L F a c
+
+-- these pairs, for each b below v
+unfoldable pub joiners : RuleSheet → ℕ → ℕ → Pairs → Pairs → Pairs
+joiners x n v L F a none = false
+joiners x n v L F a (some b) = ltb b v && joining x n L F a b
+
+-- the pairs (a, b) that are not in L, for one b and each a below n in the row of words
+unfoldable pub newcomers : ℕ → List ℕ → ℕ → Pairs → Pairs
+newcomers n row b L a none = false
+newcomers n row b L a (some c) = eqb c b && (ltb a n && (rowBit row 0 a && not (L a (some c))))
+
+-- the pairs (a, end), for each a below n in the row of words
+unfoldable pub enders : ℕ → List ℕ → Pairs
+enders n row a none = ltb a n && rowBit row 0 a
+enders n row a (some c) = false
+
+-- the live set and the scratch set have both gained the pairs P, and no other word is changed
+pub record Joins (s t : List ℕ) (P : Pairs) : Type 0 where
+  pub same-length : length t ≡ length s
+  pub layer : (k : ℕ) → 1028 ≤ k → k < 2056 → getD t k 0 ≡ getD s k 0
+  pub beyond : (k : ℕ) → 3084 ≤ k → getD t k 0 ≡ getD s k 0
+  pub live : (x : ℕ) (y : Option ℕ) → x < 256 → Within 256 y → stored t 0 x y ≡ (stored s 0 x y || P x y)
+  pub next : (x : ℕ) (y : Option ℕ) → x < 256 → Within 256 y → stored t 2056 x y ≡ (stored s 2056 x y || P x y)
+
+-- w words hold f
+abbrev pub Row : ℕ → List ℕ → (ℕ → Bool) → Type 0
+Row w row f = (a : ℕ) → a < 64 * w → rowBit row 0 a ≡ f a
+
+-- w words have gained f
+pub record United (w : ℕ) (s t : List ℕ) (f : ℕ → Bool) : Type 0 where
+  pub same-length : length t ≡ length s
+  pub gains : (a : ℕ) → a < 64 * w → rowBit t 0 a ≡ (rowBit s 0 a || f a)
+
+-- whether the set at `base` has a pair
+pub record Told (s : List ℕ) (base : ℕ) (r : Bool) : Type 0 where
+  pub none-there : r ≡ false → (x : ℕ) (y : Option ℕ) → x < 256 → Within 256 y → stored s base x y ≡ false
+  pub some-there : r ≡ true → (x : ℕ) × (y : Option ℕ) × (x < 256) × Within 256 y × (stored s base x y ≡ true)
+
+-- the storage where the search begins: the ends of the row's valuations are live, and they are the next layer
+pub record Started (w : ℕ) (row s t : List ℕ) : Type 0 where
+  pub same-length : length t ≡ length s
+  pub beyond : (k : ℕ) → 3084 ≤ k → getD t k 0 ≡ getD s k 0
+  pub live : (x : ℕ) (y : Option ℕ) → x < 256 → Within 256 y → stored t 0 x y ≡ enders (64 * w) row x y
+  pub next : (x : ℕ) (y : Option ℕ) → x < 256 → Within 256 y → stored t 2056 x y ≡ enders (64 * w) row x y
+
+-- one layer more
+pub record Advanced (x : RuleSheet) (n v : ℕ) (s t : List ℕ) : Type 0 where
+  pub same-length : length t ≡ length s
+  pub beyond : (k : ℕ) → 3084 ≤ k → getD t k 0 ≡ getD s k 0
+  pub live : (a : ℕ) (y : Option ℕ) → a < 256 → Within 256 y → stored t 0 a y ≡ (stored s 0 a y || joiners x n v (stored s 0) (stored s 2056) a y)
+  pub next : (a : ℕ) (y : Option ℕ) → a < 256 → Within 256 y → stored t 2056 a y ≡ joiners x n v (stored s 0) (stored s 2056) a y

@@ -1,0 +1,5 @@
+pub mod Bools
+pub mod RowLaws
+pub mod WordLaws
+pub mod RoundLaws
+pub mod VerdictLaws

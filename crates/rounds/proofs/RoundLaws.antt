@@ -1,0 +1,162 @@
+-- A round. Assumes nothing.
+use mathlib.Core.Path.{_≡_, refl, sym, ap, ap₂, _∙_}
+use mathlib.Core.Bool.{Bool, true, false, _&&_, _||_}
+use mathlib.Core.List.{List}
+use mathlib.Core.Option.{Option, none, some}
+use Prim.Native.Nat.{ℕ, _+_, _-_, _*_, _%_, _^_, _≤_, _<_}
+use native.Mathlib.Omega.{arith}
+use native.Mathlib.Decide.{decLt}
+use borrow.Author.Tests.{eq-eqb, eqb-true, lt-ltb, le-ltb}
+use lib.Bits.{bitAnd, and-le-l}
+use lib.Dec.{T, eqb, ltb}
+use lib.Pow.{pow-mono}
+use Rattle.words.specs.Below.{anyBelow}
+use Rattle.words.proofs.BitLaws.{one-shl}
+use Rattle.words.proofs.AnyLaws.{any-cong, none-any, some-any}
+use Rattle.sheet.specs.RuleSheet.{RuleSheet}
+use Rattle.lola.specs.Equations.{holds}
+use Rattle.completions.specs.Live.{Pairs}
+use Rattle.completions.specs.Steps.{Within, startSet, stepSet}
+use Rattle.completions.proofs.Tests.{true-of}
+use Rattle.completions.proofs.Search.{any-found}
+use Rattle.pairs.specs.Storage.{stored}
+use Rattle.pairs.specs.Changes.{Adds, Cleared}
+use Rattle.pairs.proofs.Bools.{and-false, iff}
+use Rattle.pairs.proofs.Sets.{cleared-none, cleared-before, cleared-beyond, adds-before}
+use Rattle.rounds.specs.Rows.{below, gains, brought, grouped}
+use Rattle.rounds.specs.Round.{Rounded}
+
+pub two-to : (k : ℕ) → k ≤ 8 → (1 * 2 ^ k % 2 ^ 64 ≡ 2 ^ k) × (1 * 2 ^ k % 2 ^ 64 ≤ 256)
+two-to k h = let g : 2 ^ k ≤ 256 = pow-mono h in (one-shl k (omega arith), omega (arith, one-shl k (omega arith)))
+
+-- ---- the first round
+
+abbrev Started : RuleSheet → ℕ → (ℕ → Bool) → List ℕ → Pairs
+Started x w r s = gains x (λ a. ltb a w && r a) (below w) (stored s 0) none
+
+pub rounded-first : (x : RuleSheet) (w : ℕ) (r : ℕ → Bool) (s t u v : List ℕ) → Cleared 1028 s t → Adds 1028 t u (Started x w r t) → Cleared 2056 u v → Rounded w s v (startSet x (stored s 0) r)
+unfolding gains startSet
+rounded-first x w r s t u v c a d = record {
+  same-length = d .same-length ∙ a .same-length ∙ c .same-length;
+  live = λ k h. d .before k (omega arith) ∙ a .before k h ∙ c .before k h;
+  beyond = λ k h. d .beyond k h ∙ a .beyond k (omega arith) ∙ c .beyond k (omega arith);
+  reached = λ b y hb hy.
+      cleared-before 2056 u v d 1028 b y hb hy (omega arith)
+      ∙ a .adds b y hb hy
+      ∙ ap₂ (λ (o l : Bool). o || ((ltb b w && r b) && (below w y && (l && holds x none b y)))) (cleared-none 1028 s t c b y hb hy) (cleared-before 1028 s t c 0 b y hb hy (omega arith))
+      ∙ order (ltb b w) (r b) (below w y) (stored s 0 b y) (holds x none b y);
+  empty = λ k h l. let e : 2056 + (k - 2056) ≡ k = omega arith in rw e at (d .zero-now (k - 2056) (omega arith));
+}
+  where
+    order : (i q y l h : Bool) → ((i && q) && (y && (l && h))) ≡ (i && (y && (l && (q && h))))
+    order true true y l h = refl
+    order true false true true h = refl
+    order true false true false h = refl
+    order true false false l h = refl
+    order false q y l h = refl
+
+-- ---- groups: those that the mask leaves alike have the same successors
+
+-- the equations see of the round before only the streams of the mask
+abbrev pub Blind : RuleSheet → ℕ → Type 0
+Blind x mask = (a b : ℕ) (c : Option ℕ) → holds x (some a) b c ≡ holds x (some (bitAnd a mask)) b c
+
+and-split : (a b : Bool) → (a && b) ≡ true → (a ≡ true) × (b ≡ true)
+and-split true b e = (refl, e)
+and-split false b e = absurd (let y : _≡_ {A = ℕ} 0 1 = cc in omega arith)
+
+found : (n : ℕ) (f : ℕ → Bool) → anyBelow n f ≡ true → (i : ℕ) × (i < n) × (f i ≡ true)
+found n f e = let z : (i : ℕ) × (i < n) × T (f i) = any-found n f (rw e tt) in (z .0, z .1, true-of (f (z .0)) (z .2))
+
+module _ (x : RuleSheet) (mask : ℕ) (blind : Blind x mask) (S : Pairs) (w b : ℕ) (c : Option ℕ) where
+  abbrev members : ℕ → Bool
+  members g = anyBelow w (λ a. eqb g (bitAnd a mask) && S a (some b))
+
+  pub groups-same : anyBelow w (λ g. members g && holds x (some g) b c) ≡ anyBelow w (λ a. S a (some b) && holds x (some a) b c)
+  groups-same = iff (anyBelow w (λ g. members g && holds x (some g) b c)) (anyBelow w (λ a. S a (some b) && holds x (some a) b c)) (λ e. there e) (λ e. back e)
+    where
+      there : anyBelow w (λ g. members g && holds x (some g) b c) ≡ true → anyBelow w (λ a. S a (some b) && holds x (some a) b c) ≡ true
+      there e =
+          let y = found w (λ g. members g && holds x (some g) b c) e in
+          let g : ℕ = y .0 in
+          let k = and-split (members g) (holds x (some g) b c) (y .2) in
+          let z = found w (λ a. eqb g (bitAnd a mask) && S a (some b)) (k .0) in
+          let a : ℕ = z .0 in
+          let l = and-split (eqb g (bitAnd a mask)) (S a (some b)) (z .2) in
+          let q : g ≡ bitAnd a mask = eqb-true g (bitAnd a mask) (l .0) in
+          some-any w (λ a. S a (some b) && holds x (some a) b c) a (z .1)
+          (ap₂ _&&_ (l .1) (blind a b c ∙ ap (λ (i : ℕ). holds x (some i) b c) (sym q) ∙ k .1))
+
+      back : anyBelow w (λ a. S a (some b) && holds x (some a) b c) ≡ true → anyBelow w (λ g. members g && holds x (some g) b c) ≡ true
+      back e =
+          let y = found w (λ a. S a (some b) && holds x (some a) b c) e in
+          let a : ℕ = y .0 in
+          let h : a < w = y .1 in
+          let k = and-split (S a (some b)) (holds x (some a) b c) (y .2) in
+          let g : ℕ = bitAnd a mask in
+          let l : g < w = omega (arith, and-le-l a mask) in
+          some-any w (λ g. members g && holds x (some g) b c) g l
+          (ap₂ _&&_ (some-any w (λ a. eqb g (bitAnd a mask) && S a (some b)) a h (ap₂ _&&_ (eq-eqb g (bitAnd a mask) refl) (k .0))) (sym (blind a b c) ∙ k .1))
+
+-- tests that do not depend on the number searched for
+out : (w : ℕ) (i q y l : Bool) (G H : ℕ → Bool) → anyBelow w (λ g. (i && (G g && q)) && (y && (l && H g))) ≡ (i && (y && (l && (q && anyBelow w (λ g. G g && H g)))))
+out w false q y l G H = none-any w _ (λ g h. refl)
+out w true q false l G H = none-any w _ (λ g h. and-false (G g && q))
+out w true q true false G H = none-any w _ (λ g h. and-false (G g && q))
+out w true false true true G H = none-any w _ (λ g h. ap (λ (u : Bool). u && H g) (and-false (G g)))
+out w true true true true G H = any-cong w _ _ (λ g h. ap (λ (u : Bool). u && H g) (and-one (G g)))
+  where
+    and-one : (u : Bool) → (u && true) ≡ u
+    and-one true = refl
+    and-one false = refl
+
+module _ (x : RuleSheet) (mask : ℕ) (blind : Blind x mask) (w n : ℕ) (r : ℕ → Bool) (hw : w ≤ 256) (hn : w ≤ 64 * n) where
+  -- the storage: at first, cleared scratch, grouped, cleared reached, brought, cleared scratch
+  module _ (s s₁ s₂ s₃ s₄ s₅ : List ℕ) (v : ℕ) (is : v ≡ w) (a : Cleared 2056 s s₁) (b : Adds 2056 s₁ s₂ (grouped (stored s₁ 1028) mask (64 * n) v)) (c : Cleared 1028 s₂ s₃)
+      (d : Adds 1028 s₃ s₄ (brought x (stored s₃ 2056) w r (stored s₃ 0) w)) (e : Cleared 2056 s₄ s₅) where
+    abbrev G₁ : Pairs
+    G₁ = grouped (stored s₁ 1028) mask (64 * n) v
+
+    live-same : (k : ℕ) (y : Option ℕ) → k < 256 → Within 256 y → stored s₃ 0 k y ≡ stored s 0 k y
+    live-same k y hk hy =
+        cleared-before 1028 s₂ s₃ c 0 k y hk hy (omega arith) ∙ adds-before 2056 s₁ s₂ G₁ b 0 k y hk hy (omega arith) ∙ cleared-before 2056 s s₁ a 0 k y hk hy (omega arith)
+
+    group-same : (g k : ℕ) → g < 256 → k < w → stored s₃ 2056 g (some k) ≡ anyBelow w (λ i. eqb g (bitAnd i mask) && stored s 1028 i (some k))
+    unfolding grouped
+    group-same g k hg hk =
+        let hk′ : k < 256 = omega arith in
+        let hm : k < 64 * n = omega arith in
+        cleared-beyond 1028 s₂ s₃ c 2056 g (some k) hg hk′ (omega arith)
+        ∙ b .adds g (some k) hg hk′
+        ∙ ap (λ (u : Bool). u || G₁ g (some k)) (cleared-none 2056 s s₁ a g (some k) hg hk′)
+        ∙ any-cong v _ (λ i. eqb g (bitAnd i mask) && stored s 1028 i (some k))
+        (λ i hi. ap₂ (λ (p q : Bool). eqb g (bitAnd i mask) && (p && q)) (lt-ltb k (64 * n) hm) (cleared-before 2056 s s₁ a 1028 i (some k) (omega arith) hk′ (omega arith)))
+        ∙ ap (λ (z : ℕ). anyBelow z (λ i. eqb g (bitAnd i mask) && stored s 1028 i (some k))) is
+
+    reached-is : (k : ℕ) (y : Option ℕ) → k < 256 → Within 256 y → stored s₅ 1028 k y ≡ (ltb k w && (below w y && stepSet x w (stored s 0) (stored s 1028) r k y))
+    unfolding brought gains stepSet
+    reached-is k y hk hy =
+        cleared-before 2056 s₄ s₅ e 1028 k y hk hy (omega arith)
+        ∙ d .adds k y hk hy
+        ∙ ap (λ (u : Bool). u || brought x (stored s₃ 2056) w r (stored s₃ 0) w k y) (cleared-none 1028 s₂ s₃ c k y hk hy)
+        ∙ out w (ltb k w) (r k) (below w y) (stored s₃ 0 k y) (λ g. stored s₃ 2056 g (some k)) (λ g. holds x (some g) k y)
+        ∙ ap (λ (l : Bool). ltb k w && (below w y && (l && (r k && anyBelow w (λ g. stored s₃ 2056 g (some k) && holds x (some g) k y))))) (live-same k y hk hy)
+        ∙ at (decLt k w)
+      where
+        at : Dec (k < w)
+            → (ltb k w && (below w y && (stored s 0 k y && (r k && anyBelow w (λ g. stored s₃ 2056 g (some k) && holds x (some g) k y)))))
+            ≡ (ltb k w && (below w y && (stored s 0 k y && (r k && anyBelow w (λ i. stored s 1028 i (some k) && holds x (some i) k y)))))
+        at (yes h) =
+            ap (λ (u : Bool). ltb k w && (below w y && (stored s 0 k y && (r k && u))))
+            (any-cong w _ _ (λ g hg. ap (λ (u : Bool). u && holds x (some g) k y) (group-same g k (omega arith) h))
+            ∙ groups-same x mask blind (stored s 1028) w k y)
+        at (no h) = let z : w ≤ k = omega arith in rw (le-ltb k w z)
+
+    pub rounded-later : Rounded w s s₅ (stepSet x w (stored s 0) (stored s 1028) r)
+    rounded-later = record {
+      same-length = e .same-length ∙ d .same-length ∙ c .same-length ∙ b .same-length ∙ a .same-length;
+      live = λ k h. e .before k (omega arith) ∙ d .before k h ∙ c .before k h ∙ b .before k (omega arith) ∙ a .before k (omega arith);
+      beyond = λ k h. e .beyond k h ∙ d .beyond k (omega arith) ∙ c .beyond k (omega arith) ∙ b .beyond k h ∙ a .beyond k h;
+      reached = reached-is;
+      empty = λ k h l. let z : 2056 + (k - 2056) ≡ k = omega arith in rw z at (e .zero-now (k - 2056) (omega arith));
+    }

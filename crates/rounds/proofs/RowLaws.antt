@@ -1,0 +1,232 @@
+-- What the reached set gains, row by row. Assumes nothing.
+use mathlib.Core.Path.{_≡_, refl, sym, ap, ap₂, _∙_, subst}
+use mathlib.Core.Bool.{Bool, true, false, _&&_, _||_}
+use mathlib.Core.List.{List}
+use mathlib.Core.Option.{Option, none, some}
+use Prim.Native.Nat.{ℕ, _+_, _*_, _/_, _≤_, _<_}
+use native.Mathlib.Omega.{arith}
+use native.Mathlib.Decide.{ℕ-discrete}
+use borrow.Author.Tests.{eq-eqb, ne-eqb, lt-ltb}
+use lib.Dec.{eqb, ltb}
+use Rattle.words.specs.Below.{anyBelow}
+use Rattle.words.proofs.AnyLaws.{any-one}
+use Rattle.sheet.specs.RuleSheet.{RuleSheet}
+use Rattle.lola.specs.Equations.{holds}
+use Rattle.completions.specs.Live.{Pairs}
+use Rattle.completions.specs.Steps.{Within}
+use Rattle.pairs.specs.Storage.{stored}
+use Rattle.pairs.specs.Changes.{eqNext, Adds, rowBit, NextBit}
+use Rattle.pairs.proofs.Bools.{and-true, and-false, or-false, or-comm, and-assoc}
+use Rattle.pairs.proofs.Sets.{adds-none, adds-as, adds-then, adds-before, adds-beyond, row-bit}
+use Rattle.rounds.specs.Rows.{below, cut, gains, heardIn, brought}
+use Rattle.rounds.proofs.Bools.{merge, merge-under, merge-both, below-one, words-one, below-none, below-within, below-wider}
+
+module _ (x : RuleSheet) where
+  lump : (B : ℕ → Bool) (C : Option ℕ → Bool) (L : Pairs) (p : Option ℕ) (b : ℕ) (c : Option ℕ) → gains x B C L p b c ≡ ((B b && C c) && (L b c && holds x p b c))
+  unfolding gains
+  lump B C L p b c = sym (and-assoc (B b) (C c) (L b c && holds x p b c))
+
+  pub gains-none : (s : List ℕ) (B : ℕ → Bool) (C : Option ℕ → Bool) (L : Pairs) (p : Option ℕ) → ((b : ℕ) (c : Option ℕ) → (B b && C c) ≡ false) → Adds 1028 s s (gains x B C L p)
+  gains-none s B C L p f = adds-none 1028 s (gains x B C L p) (λ b c. lump B C L p b c ∙ ap (λ (u : Bool). u && (L b c && holds x p b c)) (f b c))
+
+  pub gains-as : (s t : List ℕ) (B B′ : ℕ → Bool) (C C′ : Option ℕ → Bool) (L : Pairs) (p : Option ℕ) → Adds 1028 s t (gains x B C L p)
+      → ((b : ℕ) (c : Option ℕ) → b < 256 → Within 256 c → (B b && C c) ≡ (B′ b && C′ c)) → Adds 1028 s t (gains x B′ C′ L p)
+  gains-as s t B B′ C C′ L p a f =
+      adds-as 1028 s t (gains x B C L p) (gains x B′ C′ L p) a
+      (λ b c hb hc. ap (λ (u : Bool). stored s 1028 b c || u)
+      (lump B C L p b c ∙ ap (λ (u : Bool). u && (L b c && holds x p b c)) (f b c hb hc) ∙ sym (lump B′ C′ L p b c)))
+
+  -- one gain after the other
+  pub gains-join : (s t u : List ℕ) (B B′ B″ : ℕ → Bool) (C C′ C″ : Option ℕ → Bool) (p : Option ℕ) → Adds 1028 s t (gains x B C (stored s 0) p) → Adds 1028 t u (gains x B′ C′ (stored t 0) p)
+      → ((b : ℕ) (c : Option ℕ) → b < 256 → Within 256 c → ((B b && C c) || (B′ b && C′ c)) ≡ (B″ b && C″ c)) → Adds 1028 s u (gains x B″ C″ (stored s 0) p)
+  gains-join s t u B B′ B″ C C′ C″ p f g e =
+      adds-then 1028 s t u (gains x B C (stored s 0) p) (gains x B′ C′ (stored t 0) p) (gains x B″ C″ (stored s 0) p) f g
+      (λ b c hb hc.
+      ap₂ _||_ (lump B C (stored s 0) p b c)
+      (lump B′ C′ (stored t 0) p b c
+      ∙ ap (λ (l : Bool). (B′ b && C′ c) && (l && holds x p b c)) (adds-before 1028 s t (gains x B C (stored s 0) p) f 0 b c hb hc (omega arith)))
+      ∙ merge (B b && C c) (B′ b && C′ c) (B″ b && C″ c) (stored s 0 b c && holds x p b c) (e b c hb hc)
+      ∙ sym (lump B″ C″ (stored s 0) p b c))
+
+  -- ---- the words of a row, and the end
+
+  abbrev Row : ℕ → ℕ → (ℕ → Bool) → List ℕ → Option ℕ → Pairs
+  Row b v f s p = gains x (λ a. eqb a b) (cut (λ c. f c && ltb c v)) (stored s 0) p
+
+  pub row-none : (s : List ℕ) (b v : ℕ) (p : Option ℕ) → Adds 1028 s s (Row b v (λ c. ltb c (64 * 0)) s p)
+  row-none s b v p = gains-none s (λ a. eqb a b) (cut (λ c. ltb c (64 * 0) && ltb c v)) (stored s 0) p (λ a c. go a c)
+    where
+      go : (a : ℕ) (c : Option ℕ) → (eqb a b && cut (λ c. ltb c (64 * 0) && ltb c v) c) ≡ false
+      go a none = and-false (eqb a b)
+      go a (some c) = ap (λ (u : Bool). eqb a b && u) (below-none c (ltb c v)) ∙ and-false (eqb a b)
+
+  pub row-more : (s t u : List ℕ) (b v j : ℕ) (p : Option ℕ) → Adds 1028 s t (Row b v (λ c. ltb c (64 * j)) s p) → Adds 1028 t u (Row b v (λ c. eqb (c / 64) j) t p)
+      → Adds 1028 s u (Row b v (λ c. ltb c (64 * (j + 1))) s p)
+  row-more s t u b v j p f g =
+      gains-join s t u (λ a. eqb a b) (λ a. eqb a b) (λ a. eqb a b) (cut (λ c. ltb c (64 * j) && ltb c v)) (cut (λ c. eqb (c / 64) j && ltb c v)) (cut (λ c. ltb c (64 * (j + 1)) && ltb c v)) p f g
+      (λ a c ha hc. go a c)
+    where
+      go : (a : ℕ) (c : Option ℕ)
+          → ((eqb a b && cut (λ c. ltb c (64 * j) && ltb c v) c) || (eqb a b && cut (λ c. eqb (c / 64) j && ltb c v) c)) ≡ (eqb a b && cut (λ c. ltb c (64 * (j + 1)) && ltb c v) c)
+      go a none = ap (λ (u : Bool). (eqb a b && false) || u) (and-false (eqb a b)) ∙ or-false (eqb a b && false)
+      go a (some c) = merge-under (eqb a b) (ltb c (64 * j)) (eqb (c / 64) j) (ltb c (64 * (j + 1))) (ltb c v) (words-one c j)
+
+  pub row-all : (s t : List ℕ) (b v w j : ℕ) (p : Option ℕ) → v ≡ w → v ≤ 64 * j → Adds 1028 s t (Row b v (λ c. ltb c (64 * j)) s p)
+      → Adds 1028 s t (gains x (λ a. eqb a b) (cut (λ c. ltb c w)) (stored s 0) p)
+  row-all s t b v w j p q h f = gains-as s t (λ a. eqb a b) (λ a. eqb a b) (cut (λ c. ltb c (64 * j) && ltb c v)) (cut (λ c. ltb c w)) (stored s 0) p f (λ a c ha hc. go a c)
+    where
+      go : (a : ℕ) (c : Option ℕ) → (eqb a b && cut (λ c. ltb c (64 * j) && ltb c v) c) ≡ (eqb a b && cut (λ c. ltb c w) c)
+      go a none = refl
+      go a (some c) = ap (λ (u : Bool). eqb a b && u) (below-within c v (64 * j) h ∙ ap (ltb c) q)
+
+  abbrev Ended : ℕ → List ℕ → Option ℕ → Pairs
+  Ended b s p = gains x (λ a. eqb a b) (λ y. eqNext y none) (stored s 0) p
+
+  end-false : (s : List ℕ) (b : ℕ) (p : Option ℕ) → (stored s 0 b none && holds x p b none) ≡ false → Adds 1028 s s (Ended b s p)
+  unfolding gains eqNext
+  end-false s b p e = adds-none 1028 s (Ended b s p) (λ a c. go a c)
+    where
+      at : (a : ℕ) → Dec (a ≡ b) → (eqb a b && (true && (stored s 0 a none && holds x p a none))) ≡ false
+      at a (yes d) = rw (eq-eqb a b d) (ap (λ (k : ℕ). stored s 0 k none && holds x p k none) d ∙ e)
+      at a (no d) = rw (ne-eqb a b d)
+
+      go : (a : ℕ) (c : Option ℕ) → Ended b s p a c ≡ false
+      go a none = at a (ℕ-discrete a b)
+      go a (some c) = and-false (eqb a b)
+
+  pub end-dead : (s : List ℕ) (b : ℕ) (p : Option ℕ) → stored s 0 b none ≡ false → Adds 1028 s s (Ended b s p)
+  end-dead s b p e = end-false s b p (ap (λ (u : Bool). u && holds x p b none) e)
+
+  pub end-breaks : (s : List ℕ) (b : ℕ) (p : Option ℕ) → holds x p b none ≡ false → Adds 1028 s s (Ended b s p)
+  end-breaks s b p e = end-false s b p (ap (λ (u : Bool). stored s 0 b none && u) e ∙ and-false (stored s 0 b none))
+
+  pub end-set : (s t : List ℕ) (b : ℕ) (p : Option ℕ) → stored s 0 b none ≡ true → holds x p b none ≡ true → Adds 1028 s t (λ a c. eqb a b && eqNext c none) → Adds 1028 s t (Ended b s p)
+  unfolding gains eqNext
+  end-set s t b p e f a = adds-as 1028 s t (λ a c. eqb a b && eqNext c none) (Ended b s p) a (λ k c hk hc. ap (λ (u : Bool). stored s 1028 k c || u) (go k c))
+    where
+      at : (k : ℕ) → Dec (k ≡ b) → (eqb k b && true) ≡ (eqb k b && (true && (stored s 0 k none && holds x p k none)))
+      at k (yes d) = ap (λ (u : Bool). eqb k b && u) (sym (ap (λ (z : ℕ). stored s 0 z none && holds x p z none) d ∙ ap₂ _&&_ e f))
+      at k (no d) = rw (ne-eqb k b d)
+
+      go : (k : ℕ) (c : Option ℕ) → (eqb k b && eqNext c none) ≡ Ended b s p k c
+      go k none = at k (ℕ-discrete k b)
+      go k (some c) = refl
+
+  -- a row with its end
+  pub row-end : (s t u : List ℕ) (b w : ℕ) (p : Option ℕ) → Adds 1028 s t (gains x (λ a. eqb a b) (cut (λ c. ltb c w)) (stored s 0) p) → Adds 1028 t u (Ended b t p)
+      → Adds 1028 s u (gains x (λ a. eqb a b) (below w) (stored s 0) p)
+  unfolding eqNext
+  row-end s t u b w p f g =
+      gains-join s t u (λ a. eqb a b) (λ a. eqb a b) (λ a. eqb a b) (cut (λ c. ltb c w)) (λ y. eqNext y none) (below w) p f g (λ a c ha hc. go a c)
+    where
+      go : (a : ℕ) (c : Option ℕ) → ((eqb a b && cut (λ c. ltb c w) c) || (eqb a b && eqNext c none)) ≡ (eqb a b && below w c)
+      go a none = ap (λ (u : Bool). u || (eqb a b && true)) (and-false (eqb a b))
+      go a (some c) = ap (λ (u : Bool). (eqb a b && ltb c w) || u) (and-false (eqb a b)) ∙ or-false (eqb a b && ltb c w)
+
+  -- ---- rows whose letter is in the set
+
+  abbrev One : ℕ → (ℕ → Bool) → ℕ → List ℕ → Option ℕ → Pairs
+  One b r w s p = gains x (λ a. eqb a b && r a) (below w) (stored s 0) p
+
+  pub unheard : (s : List ℕ) (b w : ℕ) (r : ℕ → Bool) (p : Option ℕ) → r b ≡ false → Adds 1028 s s (One b r w s p)
+  unheard s b w r p e = gains-none s (λ a. eqb a b && r a) (below w) (stored s 0) p (λ a c. ap (λ (u : Bool). u && below w c) (go a (ℕ-discrete a b)))
+    where
+      go : (a : ℕ) → Dec (a ≡ b) → (eqb a b && r a) ≡ false
+      go a (yes d) = ap (λ (u : Bool). eqb a b && u) (ap r d ∙ e) ∙ and-false (eqb a b)
+      go a (no d) = ap (λ (u : Bool). u && r a) (ne-eqb a b d)
+
+  pub heard : (s t : List ℕ) (b w : ℕ) (r : ℕ → Bool) (p : Option ℕ) → r b ≡ true → Adds 1028 s t (gains x (λ a. eqb a b) (below w) (stored s 0) p) → Adds 1028 s t (One b r w s p)
+  heard s t b w r p e f =
+      gains-as s t (λ a. eqb a b) (λ a. eqb a b && r a) (below w) (below w) (stored s 0) p f (λ a c ha hc. ap (λ (u : Bool). u && below w c) (go a (ℕ-discrete a b)))
+    where
+      go : (a : ℕ) → Dec (a ≡ b) → eqb a b ≡ (eqb a b && r a)
+      go a (yes d) = sym (ap (λ (u : Bool). eqb a b && u) (ap r d ∙ e) ∙ and-true (eqb a b))
+      go a (no d) = ne-eqb a b d ∙ sym (ap (λ (u : Bool). u && r a) (ne-eqb a b d))
+
+  -- the rows below b
+  abbrev Rows : ℕ → (ℕ → Bool) → ℕ → List ℕ → Option ℕ → Pairs
+  Rows b r w s p = gains x (λ a. ltb a b && r a) (below w) (stored s 0) p
+
+  pub rows-none : (s : List ℕ) (w : ℕ) (r : ℕ → Bool) (p : Option ℕ) → Adds 1028 s s (Rows 0 r w s p)
+  rows-none s w r p = gains-none s (λ a. ltb a 0 && r a) (below w) (stored s 0) p (λ a c. ap (λ (u : Bool). u && below w c) (below-none a (r a)))
+
+  pub rows-more : (s t u : List ℕ) (b w : ℕ) (r : ℕ → Bool) (p : Option ℕ) → Adds 1028 s t (Rows b r w s p) → Adds 1028 t u (One b r w t p) → Adds 1028 s u (Rows (b + 1) r w s p)
+  rows-more s t u b w r p f g =
+      gains-join s t u (λ a. ltb a b && r a) (λ a. eqb a b && r a) (λ a. ltb a (b + 1) && r a) (below w) (below w) (below w) p f g
+      (λ a c ha hc. merge-both (ltb a b) (eqb a b) (ltb a (b + 1)) (r a) (below w c) (below-one a b))
+
+  pub rows-all : (s t : List ℕ) (b v w : ℕ) (r : ℕ → Bool) (p : Option ℕ) → b ≤ v → v ≤ b → v ≡ w → Adds 1028 s t (Rows b r w s p) → Adds 1028 s t (Rows w r w s p)
+  rows-all s t b v w r p h l q f = let e : b ≡ w = omega arith in subst (λ (k : ℕ). Adds 1028 s t (Rows k r w s p)) e f
+
+  -- ---- the rows that one row of a set G names
+
+  -- those below b are done; b is the next, or at least w
+  pub record Bringing (s t : List ℕ) (w g : ℕ) (r : ℕ → Bool) (b : ℕ) : Type 0 where
+    pub sofar : Adds 1028 s t (Rows b (heardIn (stored s 2056) w r g) w s (some g))
+    pub next : b < w → stored s 2056 g (some b) ≡ true
+
+  module _ (s : List ℕ) (w g : ℕ) (r : ℕ → Bool) (hw : w ≤ 256) (hg : g < 256) where
+    abbrev In : ℕ → Bool
+    In = heardIn (stored s 2056) w r g
+
+    not-in : (a : ℕ) → stored s 2056 g (some a) ≡ false → In a ≡ false
+    not-in a e = ap (λ (u : Bool). ltb a w && (u && r a)) e ∙ and-false (ltb a w)
+
+    row-same : (t : List ℕ) (P : Pairs) → Adds 1028 s t P → (a : ℕ) → a < 256 → rowBit t (2056 + 4 * g) a ≡ stored s 2056 g (some a)
+    row-same t P f a h = row-bit t 2056 g a ∙ adds-beyond 1028 s t P f 2056 g (some a) hg h (omega arith)
+
+    wider : (t : List ℕ) (b b′ : ℕ) → b ≤ b′ → ((a : ℕ) → a < 256 → b ≤ a → a < b′ → stored s 2056 g (some a) ≡ false) → Adds 1028 s t (Rows b In w s (some g)) → Adds 1028 s t (Rows b′ In w s (some g))
+    wider t b b′ l f a =
+        gains-as s t (λ k. ltb k b && In k) (λ k. ltb k b′ && In k) (below w) (below w) (stored s 0) (some g) a
+        (λ k c hk hc. ap (λ (u : Bool). u && below w c) (below-wider k b b′ (In k) l (λ h i. not-in k (f k hk h i))))
+
+    pub bring-first : (n b : ℕ) → w ≤ 64 * n → NextBit s (2056 + 4 * g) n 0 b → Bringing s s w g r b
+    bring-first n b hn z =
+        let same : (a : ℕ) → a < 256 → rowBit s (2056 + 4 * g) a ≡ stored s 2056 g (some a) = λ a h. row-bit s 2056 g a in
+        record {
+          sofar = wider s 0 b (omega arith) (λ a h l i. sym (same a h) ∙ z .skipped a l i) (rows-none s w In (some g));
+          next = λ h. sym (same b (omega arith)) ∙ z .found (omega arith);
+        }
+
+    pub bring-more : (t u : List ℕ) (n b b′ : ℕ) → w ≤ 64 * n → b < w → Bringing s t w g r b → Adds 1028 t u (One b r w t (some g)) → NextBit u (2056 + 4 * g) n (b + 1) b′ → Bringing s u w g r b′
+    bring-more t u n b b′ hn hb f q z =
+        let one : Adds 1028 t u (One b In w t (some g)) =
+        gains-as t u (λ a. eqb a b && r a) (λ a. eqb a b && In a) (below w) (below w) (stored t 0) (some g) q (λ a c ha hc. ap (λ (v : Bool). v && below w c) (at a (ℕ-discrete a b))) in
+        let all : Adds 1028 s u (Rows (b + 1) In w s (some g)) = rows-more s t u b w In (some g) (f .sofar) one in
+        record {
+          sofar = wider u (b + 1) b′ (z .onward) (λ a h l i. sym (row-same u (Rows (b + 1) In w s (some g)) all a h) ∙ z .skipped a l i) all;
+          next = λ h. sym (row-same u (Rows (b + 1) In w s (some g)) all b′ (omega arith)) ∙ z .found (omega arith);
+        }
+      where
+        at : (a : ℕ) → Dec (a ≡ b) → (eqb a b && r a) ≡ (eqb a b && In a)
+        at a (yes d) =
+            let h : a < w = omega arith in
+            ap (λ (v : Bool). eqb a b && v) (sym (ap₂ (λ (p q : Bool). p && (q && r a)) (lt-ltb a w h) (ap (λ (k : ℕ). stored s 2056 g (some k)) d ∙ f .next hb)))
+        at a (no d) = rw (ne-eqb a b d)
+
+    pub bring-all : (t : List ℕ) (b : ℕ) → w ≤ b → Bringing s t w g r b → Adds 1028 s t (gains x (heardIn (stored s 2056) w r g) (below w) (stored s 0) (some g))
+    bring-all t b h f =
+        gains-as s t (λ a. ltb a b && In a) In (below w) (below w) (stored s 0) (some g) (f .sofar)
+        (λ a c ha hc. ap (λ (u : Bool). u && below w c) (sym (and-assoc (ltb a b) (ltb a w) (stored s 2056 g (some a) && r a)) ∙ ap (λ (u : Bool). u && (stored s 2056 g (some a) && r a)) (below-within a w b h)))
+
+  -- ---- all rows of G
+
+  pub brought-none : (s : List ℕ) (G L : Pairs) (w : ℕ) (r : ℕ → Bool) → Adds 1028 s s (brought x G w r L 0)
+  unfolding brought anyBelow
+  brought-none s G L w r = adds-none 1028 s (brought x G w r L 0) (λ b c. refl)
+
+  pub brought-more : (s t u : List ℕ) (w g : ℕ) (r : ℕ → Bool) → g < 256 → Adds 1028 s t (brought x (stored s 2056) w r (stored s 0) g)
+      → Adds 1028 t u (gains x (heardIn (stored t 2056) w r g) (below w) (stored t 0) (some g)) → Adds 1028 s u (brought x (stored s 2056) w r (stored s 0) (g + 1))
+  unfolding brought gains
+  brought-more s t u w g r hg f q =
+      adds-then 1028 s t u (brought x (stored s 2056) w r (stored s 0) g) (gains x (heardIn (stored t 2056) w r g) (below w) (stored t 0) (some g)) (brought x (stored s 2056) w r (stored s 0) (g + 1)) f q
+      (λ b c hb hc.
+      or-comm (brought x (stored s 2056) w r (stored s 0) g b c) _
+      ∙ ap (λ (v : Bool). v || brought x (stored s 2056) w r (stored s 0) g b c)
+      (ap₂ (λ (k l : Bool). (ltb b w && (k && r b)) && (below w c && (l && holds x (some g) b c)))
+      (adds-beyond 1028 s t (brought x (stored s 2056) w r (stored s 0) g) f 2056 g (some b) hg hb (omega arith))
+      (adds-before 1028 s t (brought x (stored s 2056) w r (stored s 0) g) f 0 b c hb hc (omega arith)))
+      ∙ sym (any-one g (λ a. gains x (heardIn (stored s 2056) w r a) (below w) (stored s 0) (some a) b c)))
+
+  pub brought-all : (s t : List ℕ) (G L : Pairs) (w g v : ℕ) (r : ℕ → Bool) → g ≤ v → v ≤ g → v ≡ w → Adds 1028 s t (brought x G w r L g) → Adds 1028 s t (brought x G w r L w)
+  brought-all s t G L w g v r h l q f = let e : g ≡ w = omega arith in subst (λ (k : ℕ). Adds 1028 s t (brought x G w r L k)) e f

@@ -1,0 +1,76 @@
+-- `rounds::ends` meets its contract: the words below j are done. Assumes nothing.
+use borrow.Author.Needs.{needs}
+use mathlib.Core.Path.{refl}
+use Prim.Native.Nat.{_+_, _-_, _^_}
+use mathlib.Core.Option.{none}
+use mathlib.Core.Bool.{_&&_}
+use lib.Dec.{ltb}
+use Rattle.pairs.specs.Storage.{stored}
+use Rattle.rounds.proofs.VerdictLaws.{Filling, filling-none, filling-more, filling-all, ends-lane}
+use Rattle.rounds.proofs.ends.Statement.{statement}
+use Rattle.rounds.proofs.ends.Tie as tie
+
+abbrev Inv-loop : tie.InvT-loop
+Inv-loop s m n v f₀ j₀ f j = Filling (λ b. ltb b (2 ^ (m + n)) && stored s 1028 b none) f j
+
+abbrev μ-loop : tie.MeasureT-loop
+μ-loop s m n v f₀ j₀ f j = 4 - j
+
+valuations-requires : tie.Need-valuations-requires Inv-loop μ-loop
+valuations-requires c κs = c .before .pre .0
+
+loop-holds : tie.Need-loop-holds Inv-loop μ-loop
+loop-holds c = filling-none _ _ refl
+
+add-f : tie.Need-add-f Inv-loop μ-loop
+add-f c = search needs
+
+add-f-2 : tie.Need-add-f-2 Inv-loop μ-loop
+add-f-2 c = search needs
+
+mul-f : tie.Need-mul-f Inv-loop μ-loop
+mul-f c = search needs
+
+shared-slice-read-f : tie.Need-shared-slice-read-f Inv-loop μ-loop
+shared-slice-read-f c = search needs
+
+lanes-below-requires : tie.Need-lanes-below-requires Inv-loop μ-loop
+lanes-below-requires c κs = search needs
+
+mul-f-2 : tie.Need-mul-f-2 Inv-loop μ-loop
+mul-f-2 c = search needs
+
+array-write-f : tie.Need-array-write-f Inv-loop μ-loop
+array-write-f c = search needs
+
+add-j : tie.Need-add-j Inv-loop μ-loop
+add-j c = search needs
+
+loop-less : tie.Need-loop-less Inv-loop μ-loop
+loop-less c = search needs
+
+loop-again : tie.Need-loop-again Inv-loop μ-loop
+loop-again c = filling-more _ _ _ _ (c .before .before .loop-test .taken) (c .before .before .before .loop .inv) (ends-lane _ _ _ _ _ (c .before .before .before .before .valuations .ensures .0) (c .lanes-below .ensures))
+
+returns : tie.Need-returns Inv-loop μ-loop
+returns c = filling-all _ _ _ (c .loop-test .left) (c .before .loop .inv)
+
+pub ends-spec : {M : Type 1} → statement M
+ends-spec =
+    tie.close
+    (tie.spec
+    Inv-loop
+    μ-loop
+    valuations-requires
+    loop-holds
+    add-f
+    add-f-2
+    mul-f
+    shared-slice-read-f
+    lanes-below-requires
+    mul-f-2
+    array-write-f
+    add-j
+    loop-less
+    loop-again
+    returns)

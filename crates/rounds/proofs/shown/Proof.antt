@@ -1,0 +1,82 @@
+-- `rounds::shown` meets its contract: no word below j shows it. Assumes nothing.
+use native.Mathlib.Omega.{arith}
+use borrow.Author.Needs.{needs}
+use mathlib.Core.Path.{_≡_, refl, sym, ap, ap₂, _∙_}
+use Prim.Native.Nat.{ℕ, _-_, _≤_}
+use mathlib.Core.Bool.{Bool, false, not, _||_, Bool·beq}
+use borrow.Author.Tests.{ne-eqb, eq-eqb}
+use Rattle.words.specs.Below.{anyBelow}
+use Rattle.words.proofs.AnyLaws.{some-any, any-one}
+use Rattle.rounds.proofs.VerdictLaws.{shownIn, shows-words, shown-word}
+use Rattle.rounds.proofs.shown.Statement.{statement}
+use Rattle.rounds.proofs.shown.Tie as tie
+
+abbrev Inv-loop : tie.InvT-loop
+Inv-loop f q b j₀ j = (j ≤ 4) × (anyBelow j (shownIn f q b) ≡ false)
+
+abbrev μ-loop : tie.MeasureT-loop
+μ-loop f q b j₀ j = 4 - j
+
+loop-holds : tie.Need-loop-holds Inv-loop μ-loop
+unfolding anyBelow
+loop-holds c = (omega arith, refl)
+
+stream-word-requires : tie.Need-stream-word-requires Inv-loop μ-loop
+stream-word-requires c κs = search needs
+
+agree-requires : tie.Need-agree-requires Inv-loop μ-loop
+agree-requires c κs = search needs
+
+mul-if1 : tie.Need-mul-if1 Inv-loop μ-loop
+mul-if1 c = search needs
+
+shared-slice-read-if1 : tie.Need-shared-slice-read-if1 Inv-loop μ-loop
+shared-slice-read-if1 c = search needs
+
+returns : tie.Need-returns Inv-loop μ-loop
+returns c =
+    let a = c .before .before .before .before .before .before .before .args in
+    let j = c .before .before .before .before .before .loop .j in
+    sym (shows-words (a .f .now) (a .q) (a .b) ∙ some-any 4 (shownIn (a .f .now) (a .q) (a .b)) j (c .before .before .before .before .loop-test .taken)
+    (shown-word (a .f .now) (a .q) (a .b) j (c .before .before .agree .result) (c .before .shared-slice-known2 .given j .fits) (c .before .before .agree .ok)
+    (λ i h. c .before .before .agree .ensures i h ∙ ap (λ (u : Bool). Bool·beq u (a .b)) (c .before .before .before .stream-word .ensures i h)) ∙ ap not (ne-eqb _ _ (c .if1 .taken))))
+
+add-j : tie.Need-add-j Inv-loop μ-loop
+add-j c = search needs
+
+loop-less : tie.Need-loop-less Inv-loop μ-loop
+loop-less c = search needs
+
+loop-again : tie.Need-loop-again Inv-loop μ-loop
+loop-again c =
+    let a = c .before .before .before .before .before .before .before .args in
+    let j = c .before .before .before .before .before .loop .j in (
+      omega arith,
+      any-one j (shownIn (a .f .now) (a .q) (a .b)) ∙ ap₂ _||_
+          (shown-word (a .f .now) (a .q) (a .b) j (c .before .before .agree .result) (c .before .shared-slice-known2 .given j .fits) (c .before .before .agree .ok)
+          (λ i h. c .before .before .agree .ensures i h ∙ ap (λ (u : Bool). Bool·beq u (a .b)) (c .before .before .before .stream-word .ensures i h)) ∙ ap not (eq-eqb _ _ (c .if1 .left)))
+          (c .before .before .before .before .before .loop .inv .1),
+    )
+
+returns-2 : tie.Need-returns-2 Inv-loop μ-loop
+returns-2 c =
+    let a = c .before .before .before .args in
+    let e : c .before .loop .j ≡ 4 = omega arith in
+    sym (shows-words (a .f .now) (a .q) (a .b) ∙ ap (λ (k : ℕ). anyBelow k (shownIn (a .f .now) (a .q) (a .b))) (sym e) ∙ c .before .loop .inv .1)
+
+pub shown-spec : {M : Type 1} → statement M
+shown-spec =
+    tie.close
+    (tie.spec
+    Inv-loop
+    μ-loop
+    loop-holds
+    stream-word-requires
+    agree-requires
+    mul-if1
+    shared-slice-read-if1
+    returns
+    add-j
+    loop-less
+    loop-again
+    returns-2)

@@ -1,0 +1,54 @@
+-- `rounds::verdicts` meets its contract: the outputs below k are done. Assumes nothing.
+use borrow.Author.Needs.{needs}
+use Prim.Native.Nat.{_+_, _-_}
+use mathlib.Core.Bool.{true, false}
+use Rattle.completions.specs.Steps.{verdictOf}
+use Rattle.rounds.specs.Firsts.{shows}
+use Rattle.rounds.proofs.VerdictLaws.{Telling, telling-none, telling-more, telling-all}
+use Rattle.rounds.proofs.verdicts.Statement.{statement}
+use Rattle.rounds.proofs.verdicts.Tie as tie
+
+abbrev Inv-loop : tie.InvT-loop
+Inv-loop f m n vs₀ k₀ vs k = Telling n (λ k. verdictOf (shows f (m + k) true) (shows f (m + k) false)) vs k
+
+abbrev μ-loop : tie.MeasureT-loop
+μ-loop f m n vs₀ k₀ vs k = n - k
+
+loop-holds : tie.Need-loop-holds Inv-loop μ-loop
+loop-holds c = telling-none _ _
+
+add-verdict : tie.Need-add-verdict Inv-loop μ-loop
+add-verdict c = search needs
+
+verdict-requires : tie.Need-verdict-requires Inv-loop μ-loop
+verdict-requires c κs = search needs
+
+array-write-vs : tie.Need-array-write-vs Inv-loop μ-loop
+array-write-vs c = search needs
+
+add-k : tie.Need-add-k Inv-loop μ-loop
+add-k c = search needs
+
+loop-less : tie.Need-loop-less Inv-loop μ-loop
+loop-less c = search needs
+
+loop-again : tie.Need-loop-again Inv-loop μ-loop
+loop-again c = telling-more _ _ _ _ _ (c .before .loop-test .taken) (c .before .before .before .before .pre .1) (c .before .before .loop .inv) (c .verdict .ensures)
+
+returns : tie.Need-returns Inv-loop μ-loop
+returns c = telling-all _ _ _ _ (c .loop-test .left) (c .before .loop .inv)
+
+pub verdicts-spec : {M : Type 1} → statement M
+verdicts-spec =
+    tie.close
+    (tie.spec
+    Inv-loop
+    μ-loop
+    loop-holds
+    add-verdict
+    verdict-requires
+    array-write-vs
+    add-k
+    loop-less
+    loop-again
+    returns)

@@ -1,0 +1,26 @@
+-- For the contracts of private functions: valuations as the bits of four words, and the verdicts read off them.
+use mathlib.Core.Path.{_≡_}
+use mathlib.Core.Bool.{Bool, _&&_, Bool·beq}
+use mathlib.Core.List.{List}
+use Prim.Native.Nat.{ℕ, _<_, _≤_}
+use lib.ListN.{length, getD}
+use Rattle.words.specs.Bits.{bit}
+use Rattle.words.specs.Below.{anyBelow}
+use Rattle.refusal.specs.declared.Verdict.{Verdict}
+use Rattle.refusal.specs.Numbers.{verdictNo}
+use Rattle.pairs.specs.Changes.{rowBit}
+
+-- the four words have the valuations that pass the test
+pub record Words (f : List ℕ) (g : ℕ → Bool) : Type 0 where
+  pub size : length f ≡ 4
+  pub bits : (b : ℕ) → b < 256 → rowBit f 0 b ≡ g b
+
+-- some valuation of the words has v in stream q
+unfoldable pub shows : List ℕ → ℕ → Bool → Bool
+shows f q v = anyBelow 256 (λ b. rowBit f 0 b && Bool·beq (bit q b) v)
+
+-- the numbers of n verdicts, and 0 after them
+pub record Told (n : ℕ) (f : ℕ → Verdict) (vs : List ℕ) : Type 0 where
+  pub size : length vs ≡ 7
+  pub each : (k : ℕ) → k < n → getD vs k 0 ≡ verdictNo (f k)
+  pub beyond : (k : ℕ) → n ≤ k → getD vs k 0 ≡ 0

@@ -88,9 +88,9 @@ module _ (x : Sheet) (u : Usable x) where
         empty = d .empty;
         verdicts = told-verdicts _ (λ k. pairsVerdict (width X) R (output X k)) (a .verdicts)
             (λ k.
-              ap (λ (w : ℕ). pairsVerdict w (stored t 1028) (bit (x .inputs + k))) (sym (sheet-width x))
-              ∙ pairs-verdict-as (width X) (stored t 1028) R (output X k)
-              (λ b c hb hc. same b c (omega (arith, small)) (wider (width X) small c hc) ∙ within-same (width X) R b c hb hc))
+            ap (λ (w : ℕ). pairsVerdict w (stored t 1028) (bit (x .inputs + k))) (sym (sheet-width x))
+            ∙ pairs-verdict-as (width X) (stored t 1028) R (output X k)
+            (λ b c hb hc. same b c (omega (arith, small)) (wider (width X) small c hc) ∙ within-same (width X) R b c hb hc))
             v;
         rounds = e₁;
         closed = e₂;

@@ -43,9 +43,9 @@ pub heard-as : (x : RuleSheet) (letters known val : ℕ) → x .inputs ≤ 6 →
     → ((l : ℕ) → l < 64 → bit l letters ≡ matches known val 6 l) → (λ (v : ℕ). bit (v % 2 ^ x .inputs) letters) ≡ heard x (masked known val)
 heard-as x letters known val h e f =
     fun-ext (λ v.
-      let l : v % 2 ^ x .inputs < 2 ^ x .inputs = mod-lt v (pow-pos (x .inputs)) in
-      let g : 2 ^ x .inputs ≤ 2 ^ 6 = pow-mono h in
-      f (v % 2 ^ x .inputs) (omega arith) ∙ matches-masked known val (v % 2 ^ x .inputs) (valid (x .inputs) known val h e))
+    let l : v % 2 ^ x .inputs < 2 ^ x .inputs = mod-lt v (pow-pos (x .inputs)) in
+    let g : 2 ^ x .inputs ≤ 2 ^ 6 = pow-mono h in
+    f (v % 2 ^ x .inputs) (omega arith) ∙ matches-masked known val (v % 2 ^ x .inputs) (valid (x .inputs) known val h e))
 
 -- ---- verdicts read off sets that are the same below w
 

@@ -133,7 +133,14 @@ fn accepted_preparation(x: Sheet, storage: &mut [u64]) -> PrepareAnswer
     let code = x.code;
     let len = x.len;
     let assumed = x.assumed;
-    let found = preparation::prepare(storage, &code, &len, x.inputs as usize, x.outputs as usize, assumed);
+    let found = preparation::prepare(
+        storage,
+        &code,
+        &len,
+        x.inputs as usize,
+        x.outputs as usize,
+        assumed,
+    );
     PrepareAnswer {
         outcome: Outcome::Accepted,
         record: JournalRecord::fresh(),
@@ -162,7 +169,15 @@ pub fn prepare(sheet: &[u8], storage: &mut [u64]) -> PrepareAnswer
 // ---- Rounds
 
 // One step of the reached set; the first round is known by the record's rounds.
-fn step(storage: &mut [u64], code: &[u8], len: &[usize], m: usize, n: usize, rounds: u32, letters: u64)
+fn step(
+    storage: &mut [u64],
+    code: &[u8],
+    len: &[usize],
+    m: usize,
+    n: usize,
+    rounds: u32,
+    letters: u64,
+)
     requires { ⌜ Coded m n (now code) (now len) ⌝ }
     requires { ⌜ 3084 ≤ length (now storage) ⌝ }
     ensures { λ r. ⌜ ((ks : List ℕ) → Rounded (2 ^ (m + n)) (now (storage .entry)) (now (storage .exit)) (nextSet (sheetOf m n (now (code .entry)) (now (len .entry)) ks) (stored (now (storage .entry)) 0) rounds (stored (now (storage .entry)) 1028) (among letters m))) ⌝ }
@@ -174,7 +189,13 @@ fn step(storage: &mut [u64], code: &[u8], len: &[usize], m: usize, n: usize, rou
     rounds::later_round(storage, code, len, m, n, letters);
 }
 
-fn accepted_round(x: Sheet, storage: &mut [u64], r: JournalRecord, known: u8, value: u8) -> RoundAnswer
+fn accepted_round(
+    x: Sheet,
+    storage: &mut [u64],
+    r: JournalRecord,
+    known: u8,
+    value: u8,
+) -> RoundAnswer
     requires { ⌜ Usable x × RoundReady (x .inputs) (x .outputs) (given (length (now storage)) r known value) ⌝ }
     ensures { λ a. ⌜ (a .outcome ≡ Outcome.Accepted) × RoundDone (ruleSheet x) (now (storage .entry)) (now (storage .exit)) r known value a ⌝ }
 {
@@ -207,7 +228,13 @@ fn round_on(x: Sheet, storage: &mut [u64], r: JournalRecord, known: u8, value: u
 }
 
 // One round of a journal: what was heard is the value's bits at the known places.
-pub fn round(sheet: &[u8], storage: &mut [u64], before: JournalRecord, known: u8, value: u8) -> RoundAnswer
+pub fn round(
+    sheet: &[u8],
+    storage: &mut [u64],
+    before: JournalRecord,
+    known: u8,
+    value: u8,
+) -> RoundAnswer
     ensures decided { λ a. ⌜ Decided (Broken (now (sheet .entry)) (given (length (now (storage .entry))) before known value)) rule (entryChecks (now (sheet .entry)) roundChecks) (a .outcome) ⌝ }
     ensures result { λ a. ⌜ RoundResult (OfSheet (now (sheet .entry)) (λ x. RoundDone x (now (storage .entry)) (now (storage .exit)) before known value a)) (now (storage .entry)) (now (storage .exit)) before a (a .outcome) ⌝ }
 {

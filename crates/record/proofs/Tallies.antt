@@ -82,9 +82,9 @@ pub countable : (n : ℕ) (r : JournalRecord) (vs : List ℕ) → RecordOk n r �
 countable n r vs ok h are = record {
   are = are;
   low = λ i l.
-    let e : i ≡ 4 * (i / 4) + (i - 4 * (i / 4)) = omega arith in
-    let k : i / 4 < n = omega arith in
-    rw e (omega (arith, part-of (r .counts) (i / 4) (i - 4 * (i / 4)) (omega arith), ok .sums (i / 4) k));
+      let e : i ≡ 4 * (i / 4) + (i - 4 * (i / 4)) = omega arith in
+      let k : i / 4 < n = omega arith in
+      rw e (omega (arith, part-of (r .counts) (i / 4) (i - 4 * (i / 4)) (omega arith), ok .sums (i / 4) k));
 }
 
 -- ---- counting

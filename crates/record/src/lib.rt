@@ -15,6 +15,7 @@ pub struct JournalRecord {
 
 impl JournalRecord {
     pub const MAX_ROUNDS: u32 = 1_000_000;
+
     pub const STORAGE_WORDS: usize = 3_084;
 
     // Rounds 0, not closed, all tallies 0.

@@ -24,44 +24,47 @@ module _ {C D : Type 0} (f : C → D) where
       → ((c : C) → BD (f c) → BC c) → ((c : C) → BC c → BD (f c)) → ((c : C) → rD (f c) ≡ rC c)
       → (cs : List C) (o : Outcome) → Decided BC rC cs o → Decided BD rD (map f cs) o
   decided-map BC rC BD rD to from same cs Accepted h = mem-map (λ d. BD d → ⊥) cs (λ c m b. h c m (to c b))
-  decided-map BC rC BD rD to from same cs (Refused r) (c, x, e) =
-      (f c,
-      record {
-        before = map f (x .before);
-        others = map f (x .others);
-        split = ap (map f) (x .split) ∙ map-append-split (x .before) c (x .others);
-        hold = mem-map (λ d. BD d → ⊥) (x .before) (λ a m b. x .hold a m (to a b));
-        breaks = from c (x .breaks);
-      },
-      same c ∙ e)
+  decided-map BC rC BD rD to from same cs (Refused r) (c, x, e) = (
+    f c,
+    record {
+      before = map f (x .before);
+      others = map f (x .others);
+      split = ap (map f) (x .split) ∙ map-append-split (x .before) c (x .others);
+      hold = mem-map (λ d. BD d → ⊥) (x .before) (λ a m b. x .hold a m (to a b));
+      breaks = from c (x .breaks);
+    },
+    same c ∙ e,
+  )
 
 module _ {C : Type 0} (B : C → Type 0) (rule : C → Refusal) where
   -- what stands behind a broken check doesn't matter
   pub decided-refused : (cs ds : List C) (r : Refusal) → Decided B rule cs (Refused r) → Decided B rule (cs ++ ds) (Refused r)
-  decided-refused cs ds r (c, x, e) =
-      (c,
-      record {
-        before = x .before;
-        others = x .others ++ ds;
-        split = ap (λ (l : List C). l ++ ds) (x .split) ∙ append-assoc (x .before) (c ∷ x .others) ds;
-        hold = x .hold;
-        breaks = x .breaks;
-      },
-      e)
+  decided-refused cs ds r (c, x, e) = (
+    c,
+    record {
+      before = x .before;
+      others = x .others ++ ds;
+      split = ap (λ (l : List C). l ++ ds) (x .split) ∙ append-assoc (x .before) (c ∷ x .others) ds;
+      hold = x .hold;
+      breaks = x .breaks;
+    },
+    e,
+  )
 
   -- where no check is broken, the checks behind decide
   pub decided-accepted : (cs ds : List C) (o : Outcome) → Decided B rule cs Accepted → Decided B rule ds o → Decided B rule (cs ++ ds) o
   decided-accepted cs ds Accepted h g = λ c m. ⊎-elim (λ k. h c k) (λ k. g c k) (List·Memᴰ·append-cases cs m)
-  decided-accepted cs ds (Refused r) h (c, x, e) =
-      (c,
-      record {
-        before = cs ++ x .before;
-        others = x .others;
-        split = ap (λ (l : List C). cs ++ l) (x .split) ∙ sym (append-assoc cs (x .before) (c ∷ x .others));
-        hold = λ d m. ⊎-elim (λ k. h d k) (λ k. x .hold d k) (List·Memᴰ·append-cases cs m);
-        breaks = x .breaks;
-      },
-      e)
+  decided-accepted cs ds (Refused r) h (c, x, e) = (
+    c,
+    record {
+      before = cs ++ x .before;
+      others = x .others;
+      split = ap (λ (l : List C). cs ++ l) (x .split) ∙ sym (append-assoc cs (x .before) (c ∷ x .others));
+      hold = λ d m. ⊎-elim (λ k. h d k) (λ k. x .hold d k) (List·Memᴰ·append-cases cs m);
+      breaks = x .breaks;
+    },
+    e,
+  )
 
   -- one check
   pub decided-broken : (c : C) → B c → Decided B rule (c ∷ []) (Refused (rule c))

@@ -32,10 +32,13 @@ loop-less : tie.Need-loop-less Inv-loop μ-loop
 loop-less c = omega arith
 
 loop-again : tie.Need-loop-again Inv-loop μ-loop
-loop-again c = (omega arith, λ l h.
-    c .narrowed .ensures l h
-    ∙ ap (λ (z : Bool). z && agrees (c .before .before .before .args .known) (c .before .before .before .args .value) (c .before .before .loop .i) l) (c .before .before .loop .inv .1 l h)
-    ∙ sym (matches-more (c .before .before .before .args .known) (c .before .before .before .args .value) (c .before .before .loop .i) l))
+loop-again c = (
+  omega arith,
+  λ l h.
+      c .narrowed .ensures l h
+      ∙ ap (λ (z : Bool). z && agrees (c .before .before .before .args .known) (c .before .before .before .args .value) (c .before .before .loop .i) l) (c .before .before .loop .inv .1 l h)
+      ∙ sym (matches-more (c .before .before .before .args .known) (c .before .before .before .args .value) (c .before .before .loop .i) l),
+)
 
 returns : tie.Need-returns Inv-loop μ-loop
 returns c = λ l h.

@@ -33,7 +33,7 @@ shares-requires : tie.Need-shares-requires
 shares-requires c κs = search needs
 
 returns : tie.Need-returns
-returns c = 
+returns c =
     (refl, closing-done (c .before .before .before .before .before .before .args .x) (c .before .before .before .before .before .before .pre .0) (now (c .before .before .before .before .before .before .args .storage)) (c .before .before .before .before .before .before .args .r) _ (c .before .before .closing-verdicts .ensures) (c .before .shares .ensures) refl refl refl)
 
 pub accepted-closing-spec : {M : Type 1} → statement M

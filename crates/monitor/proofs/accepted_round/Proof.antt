@@ -48,7 +48,7 @@ slice-aggregate-with-round : tie.Need-slice-aggregate-with-round
 slice-aggregate-with-round c = search needs
 
 with-round-requires : tie.Need-with-round-requires
-with-round-requires c κs = 
+with-round-requires c κs =
     let p = c .before .before .before .before .before .before .before .before .before .before .before .before .before .before .before .pre in
     (p .0 .ranges .outputs, p .1 .right, p .1 .room, c .before .round-verdicts .ensures .size, told-are _ _ _ (c .before .round-verdicts .ensures))
 
@@ -56,11 +56,13 @@ same-length : tie.Need-same-length
 same-length c = search needs
 
 returns : tie.Need-returns
-returns c = 
+returns c =
     let p = c .before .before .before .before .before .before .before .before .before .before .before .before .before .before .before .before .pre in
-    let w = c .with-round .ensures in
-    (refl, round-done (c .before .before .before .before .before .before .before .before .before .before .before .before .before .before .before .before .args .x) (p .0) (now (c .before .before .before .before .before .before .before .before .before .before .before .before .before .before .before .before .args .storage)) (c .before .before .before .before .before .before .step .last .0) (c .before .before .before .before .before .before .before .before .before .before .before .before .before .before .before .before .args .r) (c .before .before .before .before .before .before .before .before .before .before .before .before .before .before .before .before .args .known) (c .before .before .before .before .before .before .before .before .before .before .before .before .before .before .before .before .args .value) (c .before .before .before .before .before .before .before .before .before .before .letters-of .result) _ (p .1)
-    (c .before .before .before .before .before .before .before .before .before .before .letters-of .ensures) (c .before .before .before .before .before .before .step .ensures (requiredOf (c .before .before .before .before .before .before .before .before .before .before .before .before .before .before .before .before .args .x .assumed))) (c .before .before .round-verdicts .ensures) (w .0) (w .1) (w .2))
+    let w = c .with-round .ensures in (
+      refl,
+      round-done (c .before .before .before .before .before .before .before .before .before .before .before .before .before .before .before .before .args .x) (p .0) (now (c .before .before .before .before .before .before .before .before .before .before .before .before .before .before .before .before .args .storage)) (c .before .before .before .before .before .before .step .last .0) (c .before .before .before .before .before .before .before .before .before .before .before .before .before .before .before .before .args .r) (c .before .before .before .before .before .before .before .before .before .before .before .before .before .before .before .before .args .known) (c .before .before .before .before .before .before .before .before .before .before .before .before .before .before .before .before .args .value) (c .before .before .before .before .before .before .before .before .before .before .letters-of .result) _ (p .1)
+          (c .before .before .before .before .before .before .before .before .before .before .letters-of .ensures) (c .before .before .before .before .before .before .step .ensures (requiredOf (c .before .before .before .before .before .before .before .before .before .before .before .before .before .before .before .before .args .x .assumed))) (c .before .before .round-verdicts .ensures) (w .0) (w .1) (w .2),
+    )
 
 pub accepted-round-spec : {M : Type 1} → statement M
 accepted-round-spec =

@@ -33,12 +33,12 @@ closing-on-requires : tie.Need-closing-on-requires
 closing-on-requires c κs = (rw (c .enum-told .given .1) at (c .before .before .accept-sheet .ensures .1)) .usable
 
 returns : tie.Need-returns
-returns c = 
+returns c =
     let a = c .refused-closing .ensures in
     (rw (a .0) (sheet-refused (now (c .before .before .before .before .before .before .before .args .sheet)) (given (length (now (c .before .before .before .before .before .before .before .args .storage))) (c .before .before .before .before .before .before .before .args .before) 0 0) closingChecks _ (rw (c .before .before .outcome .given .1) at (c .before .before .before .before .accept-sheet .ensures .0))), rw (a .0) (a .1, a .2, a .3))
 
 returns-2 : tie.Need-returns-2
-returns-2 c = 
+returns-2 c =
     let bs = now (c .before .before .before .before .before .before .args .sheet) in
     let x = c .before .before .before .accept-sheet .result .sheet in
     let e = c .before .enum-told .given .1 in

@@ -37,12 +37,12 @@ accepted-closing-requires : tie.Need-accepted-closing-requires
 accepted-closing-requires c κs = (c .before .before .before .before .pre, rw (c .enum-told .given .1) at (c .before .before .check-closing .ensures .1))
 
 returns : tie.Need-returns
-returns c = 
+returns c =
     let a = c .refused-closing .ensures in
     (rw (a .0) (rw (c .before .before .outcome .given .1) at (c .before .before .before .before .check-closing .ensures .0)), rw (a .0) (a .1, a .2, a .3))
 
 returns-2 : tie.Need-returns-2
-returns-2 c = 
+returns-2 c =
     let a = c .accepted-closing .ensures in
     let p = c .accepted-closing .result in (
       rw (a .0) (rw (c .before .enum-told .given .1) at (c .before .before .before .check-closing .ensures .0)),

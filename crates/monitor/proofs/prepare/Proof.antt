@@ -38,25 +38,25 @@ refused-preparation-requires-2 : tie.Need-refused-preparation-requires-2
 refused-preparation-requires-2 c κs = search needs
 
 returns : tie.Need-returns
-returns c = 
+returns c =
     let bs = now (c .before .before .before .before .before .before .before .args .sheet) in
     let x = c .before .before .before .before .accept-sheet .result .sheet in
     let e = c .before .before .enum-told .given .1 in
     let a = c .refused-preparation2 .ensures in (
       (λ r. rw (a .0)
-      (sheet-accepted bs (given (length (now (c .before .before .before .before .before .before .before .args .storage))) r 0 0) x (rw e at (c .before .before .before .before .accept-sheet .ensures .1)) (rw e at (c .before .before .before .before .accept-sheet .ensures .0)) prepareChecks (Refused Storage)
-      (short-storage (x .inputs) (x .outputs) (given (length (now (c .before .before .before .before .before .before .before .args .storage))) r 0 0) [] (c .before .if1 .taken)))),
+          (sheet-accepted bs (given (length (now (c .before .before .before .before .before .before .before .args .storage))) r 0 0) x (rw e at (c .before .before .before .before .accept-sheet .ensures .1)) (rw e at (c .before .before .before .before .accept-sheet .ensures .0)) prepareChecks (Refused Storage)
+          (short-storage (x .inputs) (x .outputs) (given (length (now (c .before .before .before .before .before .before .before .args .storage))) r 0 0) [] (c .before .if1 .taken)))),
       rw (a .0) (refl, a .1, a .2),
     )
 
 accepted-preparation-requires : tie.Need-accepted-preparation-requires
-accepted-preparation-requires c κs = 
+accepted-preparation-requires c κs =
     let e = c .before .before .enum-told .given .1 in
     let a = rw e at (c .before .before .before .before .accept-sheet .ensures .1) in
     (a .usable, c .before .if1 .left)
 
 returns-2 : tie.Need-returns-2
-returns-2 c = 
+returns-2 c =
     let bs = now (c .before .before .before .before .before .before .before .args .sheet) in
     let e = c .before .before .outcome .given .1 in
     let a = c .refused-preparation .ensures in (
@@ -68,7 +68,7 @@ same-length : tie.Need-same-length
 same-length c = search needs
 
 returns-3 : tie.Need-returns-3
-returns-3 c = 
+returns-3 c =
     let bs = now (c .before .before .before .before .before .before .before .before .before .before .args .sheet) in
     let x = c .before .before .before .before .before .before .before .accept-sheet .result .sheet in
     let e = c .before .before .before .before .before .enum-told .given .1 in
@@ -78,9 +78,9 @@ returns-3 c =
     let p = c .before .before .accepted-preparation .result in
     let a = c .before .before .accepted-preparation .ensures in (
       (λ r. rw (a .0)
-      (sheet-accepted bs (given (length (now (c .before .before .before .before .before .before .before .before .before .before .args .storage))) r 0 0) x acc (rw e at (c .before .before .before .before .before .before .before .accept-sheet .ensures .0)) prepareChecks Accepted
-      (past-storage (x .inputs) (x .outputs) (given (length (now (c .before .before .before .before .before .before .before .before .before .before .args .storage))) r 0 0) [] Accepted (c .before .before .before .before .if1 .left)
-      (none-left (x .inputs) (x .outputs) (given (length (now (c .before .before .before .before .before .before .before .before .before .before .args .storage))) r 0 0))))),
+          (sheet-accepted bs (given (length (now (c .before .before .before .before .before .before .before .before .before .before .args .storage))) r 0 0) x acc (rw e at (c .before .before .before .before .before .before .before .accept-sheet .ensures .0)) prepareChecks Accepted
+          (past-storage (x .inputs) (x .outputs) (given (length (now (c .before .before .before .before .before .before .before .before .before .before .args .storage))) r 0 0) [] Accepted (c .before .before .before .before .if1 .left)
+          (none-left (x .inputs) (x .outputs) (given (length (now (c .before .before .before .before .before .before .before .before .before .before .args .storage))) r 0 0))))),
       prepare-accepted (OfSheet bs (λ (y : RuleSheet). Prepared y s t p)) s t p (p .outcome) (a .0) (ruleSheet x, acc .reads, a .1),
     )
 

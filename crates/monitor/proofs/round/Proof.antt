@@ -33,7 +33,7 @@ round-on-requires : tie.Need-round-on-requires
 round-on-requires c κs = (rw (c .before .enum-told .given .1) at (c .before .before .before .accept-sheet .ensures .1)) .usable
 
 returns : tie.Need-returns
-returns c = 
+returns c =
     let a = c .refused-round .ensures in
     (rw (a .0) (sheet-refused (now (c .before .before .before .before .before .before .before .args .sheet)) (given (length (now (c .before .before .before .before .before .before .before .args .storage))) (c .before .before .before .before .before .before .before .args .before) (c .before .before .before .before .before .before .before .args .known) (c .before .before .before .before .before .before .before .args .value)) roundChecks _ (rw (c .before .before .outcome .given .1) at (c .before .before .before .before .accept-sheet .ensures .0))), rw (a .0) (refl, a .1, a .2))
 
@@ -41,7 +41,7 @@ same-length : tie.Need-same-length
 same-length c = search needs
 
 returns-2 : tie.Need-returns-2
-returns-2 c = 
+returns-2 c =
     let bs = now (c .before .before .before .before .before .before .before .before .before .args .sheet) in
     let x = c .before .before .before .before .before .before .accept-sheet .result .sheet in
     let e = c .before .before .before .before .enum-told .given .1 in
@@ -52,7 +52,7 @@ returns-2 c =
     let p = c .before .before .round-on .result in (
       sheet-accepted bs (given (length (now (c .before .before .before .before .before .before .before .before .before .args .storage))) (c .before .before .before .before .before .before .before .before .before .args .before) (c .before .before .before .before .before .before .before .before .before .args .known) (c .before .before .before .before .before .before .before .before .before .args .value)) x acc (rw e at (c .before .before .before .before .before .before .accept-sheet .ensures .0)) roundChecks (p .outcome) (c .before .before .round-on .ensures .0),
       round-of (RoundDone (ruleSheet x) s t r (c .before .before .before .before .before .before .before .before .before .args .known) (c .before .before .before .before .before .before .before .before .before .args .value) p) (OfSheet bs (λ (y : RuleSheet). RoundDone y s t r (c .before .before .before .before .before .before .before .before .before .args .known) (c .before .before .before .before .before .before .before .before .before .args .value) p)) s t r p (p .outcome)
-      (λ d. (ruleSheet x, acc .reads, d)) (c .before .before .round-on .ensures .1),
+          (λ d. (ruleSheet x, acc .reads, d)) (c .before .before .round-on .ensures .1),
     )
 
 pub round-spec : {M : Type 1} → statement M

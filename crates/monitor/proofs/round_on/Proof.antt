@@ -37,7 +37,7 @@ accepted-round-requires : tie.Need-accepted-round-requires
 accepted-round-requires c κs = (c .before .before .before .before .before .pre, rw (c .before .enum-told .given .1) at (c .before .before .before .check-round .ensures .1))
 
 returns : tie.Need-returns
-returns c = 
+returns c =
     let a = c .refused-round .ensures in
     (rw (a .0) (rw (c .before .before .outcome .given .1) at (c .before .before .before .before .check-round .ensures .0)), rw (a .0) (refl, a .1, a .2))
 
@@ -45,7 +45,7 @@ same-length : tie.Need-same-length
 same-length c = search needs
 
 returns-2 : tie.Need-returns-2
-returns-2 c = 
+returns-2 c =
     let a = c .before .before .accepted-round .ensures in
     let p = c .before .before .accepted-round .result in
     let s = now (c .before .before .before .before .before .before .before .before .args .storage) in

@@ -30,7 +30,7 @@ array-read-share-of : tie.Need-array-read-share-of Inv-loop μ-loop
 array-read-share-of c = omega arith
 
 share-of-requires : tie.Need-share-of-requires Inv-loop μ-loop
-share-of-requires c κs = 
+share-of-requires c κs =
     let ok = record-is (c .before .before .before .args .n) (c .before .before .before .args .r) (c .before .before .before .pre .1) in
     let same : 4 * c .before .loop .k + 0 ≡ 4 * c .before .loop .k = omega arith in
     let e = ap (λ (z : ℕ). getD (c .before .before .before .args .r .counts) z 0) same in

@@ -34,7 +34,7 @@ slice-read-counts : tie.Need-slice-read-counts Inv-loop μ-loop
 slice-read-counts c = omega (arith, column-lt (getD (now (c .before .before .before .before .before .before .before .args .verdicts)) (c .before .before .before .before .loop .k) 0) (c .before .before .before .before .before .before .before .pre .3 .are (c .before .before .before .before .loop .k) (omega arith)))
 
 add-counts : tie.Need-add-counts Inv-loop μ-loop
-add-counts c = 
+add-counts c =
     let v = getD (now (c .before .before .before .before .before .before .before .args .verdicts)) (c .before .before .before .before .loop .k) 0 in
     let at = 4 * c .before .before .before .before .loop .k + columnNo v in
     let l = column-lt v (c .before .before .before .before .before .before .before .pre .3 .are (c .before .before .before .before .loop .k) (omega arith)) in
@@ -54,12 +54,14 @@ loop-less : tie.Need-loop-less Inv-loop μ-loop
 loop-less c = omega arith
 
 loop-again : tie.Need-loop-again Inv-loop μ-loop
-loop-again c = 
+loop-again c =
     let vs = now (c .before .before .before .before .before .before .before .args .verdicts) in
     let p = c .before .before .before .before in
-    rw (c .before .place-of .ensures)
-    (omega arith, length-set (p .loop .counts) _ _ ∙ p .loop .inv .1,
-    counted-more (p .loop .k) vs (now (c .before .before .before .before .before .before .before .args .counts)) (p .loop .counts) (omega arith) (c .before .before .before .before .before .before .before .pre .3 .are (p .loop .k) (omega arith)) (p .loop .inv .2))
+    rw (c .before .place-of .ensures) (
+      omega arith,
+      length-set (p .loop .counts) _ _ ∙ p .loop .inv .1,
+      counted-more (p .loop .k) vs (now (c .before .before .before .before .before .before .before .args .counts)) (p .loop .counts) (omega arith) (c .before .before .before .before .before .before .before .pre .3 .are (p .loop .k) (omega arith)) (p .loop .inv .2),
+    )
 
 same-length : tie.Need-same-length Inv-loop μ-loop
 same-length c = c .before .loop .inv .1 ∙ sym (c .before .before .before .before .pre .1)

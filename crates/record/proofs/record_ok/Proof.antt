@@ -37,7 +37,7 @@ sum-at-requires : tie.Need-sum-at-requires Inv-loop μ-loop
 sum-at-requires c κs = (omega arith, search needs)
 
 returns-2 : tie.Need-returns-2 Inv-loop μ-loop
-returns-2 c = 
+returns-2 c =
     sym (by-counts (c .before .before .before .before .before .before .before .before .before .args .n) (c .before .before .before .before .before .before .before .before .before .args .r) false (omega arith)
     (add-up-not (c .before .before .before .before .before .before .before .before .before .args .r .counts) (c .before .before .before .before .before .before .before .before .before .args .r .rounds) (c .before .before .before .before .loop .k) (c .before .before .before .before .before .before .before .before .before .args .n) (omega arith)
     (λ e. c .if2 .taken (c .before .sum-at .ensures ∙ e ∙ sym (c .before .before .before .before .before .before .wide .ensures)))))
@@ -52,7 +52,7 @@ loop-again : tie.Need-loop-again Inv-loop μ-loop
 loop-again c = (omega arith, add-up-more (c .before .before .before .before .before .before .before .before .before .args .r .counts) (c .before .before .before .before .before .before .wide .result) (c .before .before .before .before .loop .k) (sym (c .before .sum-at .ensures) ∙ c .if2 .left) (c .before .before .before .before .loop .inv .1))
 
 returns-3 : tie.Need-returns-3 Inv-loop μ-loop
-returns-3 c = 
+returns-3 c =
     let e : c .before .loop .k ≡ c .before .before .before .before .before .before .args .n = omega arith in
     sym (by-counts (c .before .before .before .before .before .before .args .n) (c .before .before .before .before .before .before .args .r) true (omega arith)
     (ap (addUp (c .before .before .before .before .before .before .args .r .counts) (c .before .before .before .before .before .before .args .r .rounds)) (sym e) ∙ rw (c .before .before .before .wide .ensures) at (c .before .loop .inv .1)))

@@ -1,7 +1,8 @@
 //! Inputs with answers worked out by hand: the marked examples, the example of each refusal, and
 //! the places where an order of checks or a definition is easily got wrong.
 
-use crate::sheet::{write, NO_ASSUMPTION};
+use crate::journal::{round, Call, Held, ANSWER_NUMBERS, MOST_ROUNDS, RECORD_NUMBERS, STORAGE_WORDS, WRONG_LENGTH};
+use crate::sheet::{byte_of_read, write, NO_ASSUMPTION};
 
 pub struct SheetCase {
     pub name: &'static str,
@@ -23,6 +24,29 @@ pub struct EvaluationRefusal {
     pub letters: Vec<u8>,
     /// Length of the buffer.
     pub room: usize,
+    pub number: u32,
+}
+
+pub struct JournalCase {
+    pub name: &'static str,
+    pub sheet: Vec<u8>,
+    /// The calls after preparation as lines of the journal program, each with the verdicts as that
+    /// program prints them, or with the number of the refusal.
+    pub calls: Vec<(&'static str, &'static str)>,
+}
+
+pub struct LiveCount {
+    pub name: &'static str,
+    pub sheet: Vec<u8>,
+    pub live: usize,
+}
+
+pub struct JournalRefusal {
+    pub name: &'static str,
+    pub sheet: Vec<u8>,
+    pub held: Held,
+    pub call: Call,
+    /// 0 for calls that are accepted although they look wrong.
     pub number: u32,
 }
 
@@ -336,4 +360,306 @@ pub fn evaluation_refusals() -> Vec<EvaluationRefusal> {
     });
     let cases = own.into_iter().chain(by_sheet);
     cases.map(|(name, sheet, letters, room, number)| EvaluationRefusal { name, sheet, letters, room, number }).collect()
+}
+
+pub fn journals() -> Vec<JournalCase> {
+    let groups = [marked_journals(), assuming_journals(), plain_journals()];
+    let cases = groups.into_iter().flatten();
+    cases.map(|(name, sheet, calls)| JournalCase { name, sheet, calls }).collect()
+}
+
+type Lines = (&'static str, Vec<u8>, Vec<(&'static str, &'static str)>);
+
+fn marked_journals() -> Vec<Lines> {
+    let session = vec![("10", "?1"), ("?1", "11"), ("1?", "?1"), ("00", "11"), ("01", "!!"), (".", "!!"), ("00", "12")];
+    let h = || assuming(1, 1, &["40", "40 02 60 04"]);
+    let i = || assuming(1, 1, &["40", "40 02 68 04"]);
+    vec![
+        ("whole session", session_sheet(), session),
+        ("example a", plain(1, &["69"]), vec![("?", "1")]),
+        ("example b", plain(1, &["61"]), vec![("?", "0")]),
+        ("example c", plain(1, &["51"]), vec![("?", "0")]),
+        ("example d", plain(1, &["68 60 02 03"]), vec![("?", "?"), ("1", "?"), (".", "1")]),
+        ("example d, closed at once", plain(1, &["68 60 02 03"]), vec![("?", "?"), (".", "1")]),
+        ("example g", plain(1, &["40 40 02 04"]), vec![("?", "1"), ("?", "1"), (".", "1")]),
+        ("example h", h(), vec![("?", "01"), ("?", "01"), (".", "01")]),
+        ("example h, broken", h(), vec![("?", "01"), ("1", "!!"), ("0", "!!"), (".", "!!")]),
+        ("example i", i(), vec![("?", "?1"), ("0", "01"), ("?", "?1"), (".", "?1")]),
+        ("example i, broken", i(), vec![("1", "11"), ("?", "11"), ("0", "!!"), ("1", "!!"), (".", "!!")]),
+        ("example j", assuming(1, 0, &["00"]), vec![("?", "!"), ("1", "!"), (".", "!")]),
+        ("example k", plain(1, &["40"]), vec![("?", "?"), ("1", "1"), ("0", "0"), (".", "0")]),
+        ("example k as the assumption", assuming(1, 0, &["40"]), vec![("?", "1"), ("1", "1"), ("0", "!")]),
+    ]
+}
+
+fn assuming_journals() -> Vec<Lines> {
+    let ahead = || assuming(1, 1, &["40", "40 60 04"]);
+    let rising = || assuming(1, 1, &["50", "40 50 02 04"]);
+    let behind = || assuming(1, 1, &["40", "58"]);
+    vec![
+        ("closing breaks what the round left whole", ahead(), vec![("0", "01"), (".", "!!")]),
+        ("a further round mends it", ahead(), vec![("0", "01"), ("1", "11"), (".", "11")]),
+        ("or does not", ahead(), vec![("0", "01"), ("0", "!!"), ("1", "!!"), (".", "!!")]),
+        ("a known round settles an unknown one before it", rising(), vec![("?", "01"), ("0", "01"), ("1", "01")]),
+        ("and one after it", rising(), vec![("1", "01"), ("?", "11"), ("?", "11"), ("0", "!!"), (".", "!!")]),
+        ("the round after the last is not asked for", behind(), vec![("?", "?1"), (".", "?1")]),
+        ("nothing may follow", behind(), vec![("0", "01"), ("?", "!!"), (".", "!!")]),
+        ("nothing followed", behind(), vec![("1", "11"), ("0", "01"), (".", "01")]),
+        ("no trace may end", assuming(1, 0, &["60 68 02 04"]), vec![("?", "!"), (".", "!")]),
+        ("no trace may begin", assuming(1, 1, &["40", "50"]), vec![("1", "!!"), (".", "!!")]),
+        ("traces of one round only", assuming(1, 0, &["58 50 02 03 68 60 02 03 03"]), vec![("?", "1"), ("?", "!")]),
+        ("the assumption is an output's number", assuming(2, 1, &["40", "41"]), vec![("0?", "01"), ("10", "!!")]),
+        ("the assumption is output 0", assuming(2, 0, &["40", "41"]), vec![("??", "1?"), ("?0", "10"), ("0?", "!!")]),
+        ("a closed journal stays so", ahead(), vec![("1", "11"), (".", "11"), (".", "12"), ("0", "12"), ("0", "12")]),
+    ]
+}
+
+fn plain_journals() -> Vec<Lines> {
+    let copies = || plain(1, &["40", "41", "42", "43", "44", "45", "46"]);
+    let all = "40 41 42 43 44 45 03 03 03 03 03";
+    let six = vec![("?????1", "1?"), ("111111", "11"), ("????0?", "?0"), ("000001", "10"), (".", "10")];
+    vec![
+        ("input earlier", plain(1, &["50"]), vec![("1", "0"), ("?", "1"), ("0", "?"), ("?", "0"), (".", "0")]),
+        ("input earlier, true first", plain(1, &["58"]), vec![("0", "1"), ("?", "0"), (".", "0")]),
+        ("input later", plain(1, &["60"]), vec![("1", "?"), ("1", "?"), (".", "0")]),
+        ("input later, true last", plain(1, &["68"]), vec![("0", "?"), ("0", "?"), (".", "1")]),
+        ("now or later", plain(1, &["40 61 04"]), vec![("0", "?"), ("1", "1"), ("0", "?"), (".", "0")]),
+        ("now and ever after", plain(1, &["40 69 03"]), vec![("1", "?"), ("0", "0"), ("1", "?"), (".", "1")]),
+        ("now or earlier", plain(1, &["40 51 04"]), vec![("?", "?"), ("0", "?"), ("1", "1"), ("?", "1"), (".", "1")]),
+        ("one unknown, several reads", plain(1, &["40", "41 02", "41 42 03", "41 42 04"]), vec![("?", "??01")]),
+        ("seven outputs", copies(), vec![("?", "???????"), ("1", "1111111"), ("0", "0000000"), (".", "0000000")]),
+        ("six inputs", plain(6, &["45", all]), six),
+        ("closing first", plain(1, &["40"]), vec![(".", "14"), ("1", "1"), ("?", "?"), (".", "?"), ("?", "12")]),
+    ]
+}
+
+pub fn live_counts() -> Vec<LiveCount> {
+    let cases = vec![
+        ("example k", plain(1, &["40"]), 12),
+        ("example k as the assumption", assuming(1, 0, &["40"]), 4),
+        ("example j", assuming(1, 0, &["00"]), 2),
+        ("no trace may end", assuming(1, 0, &["60 68 02 04"]), 2),
+        ("session sheet", session_sheet(), 44),
+        ("128 valuations, 64 of which satisfy", plain(6, &["40"]), 128 + 128 * 64),
+        ("256 valuations, 2 of which satisfy", counts(1, 7, 255), 256 + 256 * 2),
+        ("256 valuations, 64 of which satisfy", counts(6, 2, 255), 256 + 256 * 64),
+        ("all pairs of 4 valuations", plain(1, &["60"]), 4 * 5),
+        ("all pairs of 256 valuations", plain(6, &["60", "61"]), 65_792),
+    ];
+    cases.into_iter().map(|(name, sheet, live)| LiveCount { name, sheet, live }).collect()
+}
+
+/// Six outputs count the rounds before this one, output 0 lowest, and no trace may end unless all
+/// are true: 64 rounds are the fewest.
+pub fn counter() -> Vec<u8> {
+    let earlier = |output: usize| byte_of_read(1 + output, -1, false);
+    let mut expressions = vec![bytes("59 02")];
+    for output in 1..6 {
+        let mut carry: Vec<u8> = (0..output).map(earlier).collect();
+        carry.extend(vec![0x03; output - 1]);
+        expressions.push(differs(&[earlier(output)], &carry));
+    }
+    expressions.push(bytes("60 68 02 04 41 42 43 44 45 46 03 03 03 03 03 04"));
+    write(1, 6, &expressions)
+}
+
+/// Six inputs of two rounds make a shift register of 12 bits: the assumption moves input i to input
+/// i + 1 two rounds on, and brings input 5 back to input 0, changed where input 0 was true one round
+/// on. Only few contents may be the last ones, so that some are thousands of rounds from the end.
+pub fn register() -> Vec<u8> {
+    let follows = "60 68 02 04";
+    let full = "40 41 42 43 44 45 03 03 03 03 03";
+    let back = differs(&[0x55], &[0x40]);
+    let feed =
+        [bytes(follows), back, bytes("03"), bytes(follows), bytes("02"), bytes(full), bytes("02 03 04")].concat();
+    let alike = |left: u8, right: u8| vec![left, right, 0x03, left, 0x02, right, 0x02, 0x03, 0x04];
+    let mut moves = alike(0x60, 0x46);
+    for input in 1..6 {
+        moves.extend(alike(byte_of_read(input, 1, false), byte_of_read(input - 1, -1, false)));
+        moves.push(0x03);
+    }
+    write(6, 1, &[feed, moves])
+}
+
+/// Exclusive or of two expressions.
+fn differs(left: &[u8], right: &[u8]) -> Vec<u8> {
+    [left, right, &[0x02, 0x03], left, &[0x02], right, &[0x03, 0x04]].concat()
+}
+
+/// Storage and record as somebody may hand them in, with all storage bits 1 and junk beyond the
+/// outputs counted.
+pub fn forged(rounds: u32, closed: u32, counts: &[[u32; 4]]) -> Held {
+    let mut held = Held {
+        storage: vec![u64::MAX; STORAGE_WORDS],
+        record: vec![0xDEAD_BEEF; RECORD_NUMBERS],
+        answer: vec![7; ANSWER_NUMBERS],
+    };
+    held.forge(rounds, closed, counts);
+    held
+}
+
+pub fn journal_refusals() -> Vec<JournalRefusal> {
+    let groups = [record_refusals(), order_refusals(), mask_refusals(), length_refusals(), sheet_refusals()];
+    let cases = groups.into_iter().flatten();
+    cases.map(|(name, sheet, held, call, number)| JournalRefusal { name, sheet, held, call, number }).collect()
+}
+
+type Refused = (&'static str, Vec<u8>, Held, Call, u32);
+
+/// The same number for a round and for a closing.
+fn both(name: &'static str, sheet: Vec<u8>, held: Held, number: u32) -> Vec<Refused> {
+    vec![(name, sheet.clone(), held.clone(), round(0, 0), number), (name, sheet, held, Call::Close, number)]
+}
+
+/// Rule 18, and what it does not look at.
+fn record_refusals() -> Vec<Refused> {
+    let one =
+        |name, rounds, closed, four, number| both(name, plain(1, &["40"]), forged(rounds, closed, &[four]), number);
+    let half = 1 << 31;
+    let (full, over) = (MOST_ROUNDS, MOST_ROUNDS + 1);
+    let good = [1, 1, 1, 0];
+    let two = || plain(1, &["40", "40"]);
+    vec![
+        one("rounds 1, counts 0", 1, 0, [0, 0, 0, 0], 18),
+        one("rounds 0, a count 1", 0, 0, [0, 0, 0, 1], 18),
+        one("counts one too many", 3, 0, [1, 1, 1, 1], 18),
+        one("counts one too few", 3, 0, [0, 1, 1, 0], 18),
+        one("counts add up", 3, 0, [0, 2, 0, 1], 0),
+        one("two halves of 2^32", 0, 0, [half, half, 0, 0], 18),
+        one("two other halves of 2^32", 0, 0, [0, 0, half, half], 18),
+        one("four quarters of 2^32", 0, 0, [1 << 30; 4], 18),
+        one("2^32 in two parts", 0, 0, [u32::MAX, 1, 0, 0], 18),
+        one("2^32 and the rounds", 3, 0, [half, half, 1, 2], 18),
+        one("2^32 and the rounds at once", 5, 0, [u32::MAX, 0, 0, 6], 18),
+        one("twice 2^32", 0, 0, [u32::MAX, u32::MAX, 1, 1], 18),
+        one("four times 2^32", 0, 0, [u32::MAX, u32::MAX, u32::MAX, 3], 18),
+        one("1,000,001 rounds", over, 0, [over, 0, 0, 0], 18),
+        one("1,000,001 rounds and closed", over, 1, [0, over, 0, 0], 18),
+        one("2^32 - 1 rounds", u32::MAX, 0, [u32::MAX, 0, 0, 0], 18),
+        one("1,000,001 rounds, counts 1,000,000", over, 0, [full, 0, 0, 0], 18),
+        one("1,000,000 rounds, counts 1,000,001", full, 0, [full, 1, 0, 0], 18),
+        one("closed is 2", 3, 2, good, 18),
+        one("closed is 256", 3, 256, good, 18),
+        one("closed is 257", 3, 257, good, 18),
+        one("closed is 65,536", 3, 1 << 16, good, 18),
+        one("closed is 2^32 - 1", 3, u32::MAX, good, 18),
+        both("second output's counts", two(), forged(3, 0, &[good, [0; 4]]), 18),
+        both("first output's counts", two(), forged(3, 0, &[[0; 4], good]), 18),
+        both("sums of both together", two(), forged(3, 0, &[[1, 1, 0, 0], [1, 1, 1, 1]]), 18),
+        both("both outputs' counts", two(), forged(3, 0, &[good, [0, 0, 3, 0]]), 0),
+        both(
+            "the last of seven",
+            counts(1, 7, 255),
+            forged(3, 0, &[good, good, good, good, good, good, [3, 1, 0, 0]]),
+            18,
+        ),
+        both("all seven", counts(1, 7, 255), forged(3, 0, &[good; 7]), 0),
+        both("junk after the third", plain(1, &["40", "40", "40"]), forged(3, 0, &[good; 3]), 0),
+    ]
+    .concat()
+}
+
+/// What comes first: 15, 18, 12, then 11 and 13, or 14.
+fn order_refusals() -> Vec<Refused> {
+    let sheet = || plain(1, &["40"]);
+    let short = |mut held: Held| {
+        held.storage.pop();
+        held
+    };
+    let (open, closed) = (|| forged(1, 0, &[[1, 0, 0, 0]]), || forged(1, 1, &[[1, 0, 0, 0]]));
+    let full = |closed| forged(MOST_ROUNDS, closed, &[[MOST_ROUNDS - 7, 3, 3, 1]]);
+    let wrong = |closed| forged(1, closed, &[[0; 4]]);
+    let empty = |closed| forged(0, closed, &[[0; 4]]);
+    let (good, beyond, unknown) = (round(1, 1), round(2, 0), round(0, 1));
+    vec![
+        ("preparation, 3,083 numbers", sheet(), short(open()), Call::Prepare, 15),
+        ("preparation, 3,083 numbers and a wrong record", sheet(), short(wrong(1)), Call::Prepare, 15),
+        ("preparation with a wrong record", sheet(), wrong(9), Call::Prepare, 0),
+        ("preparation with a closed record", sheet(), closed(), Call::Prepare, 0),
+        ("preparation with 1,000,000 rounds", sheet(), full(1), Call::Prepare, 0),
+        ("round, 3,083 numbers", sheet(), short(open()), good, 15),
+        ("closing, 3,083 numbers", sheet(), short(open()), Call::Close, 15),
+        ("round, 3,083 numbers and wrong sums", sheet(), short(wrong(0)), good, 15),
+        ("closing, 3,083 numbers and wrong sums", sheet(), short(wrong(0)), Call::Close, 15),
+        ("round, 3,083 numbers, closed, bad masks", sheet(), short(closed()), beyond, 15),
+        ("closing, 3,083 numbers and no round", sheet(), short(empty(0)), Call::Close, 15),
+        ("round, wrong sums and closed", sheet(), wrong(1), good, 18),
+        ("closing, wrong sums and closed", sheet(), wrong(1), Call::Close, 18),
+        ("round, wrong sums and bad masks", sheet(), wrong(0), beyond, 18),
+        ("round after closing", sheet(), closed(), good, 12),
+        ("closing after closing", sheet(), closed(), Call::Close, 12),
+        ("round after closing, known bit beyond", sheet(), closed(), beyond, 12),
+        ("round after closing, value bit not known", sheet(), closed(), unknown, 12),
+        ("round after closing, 1,000,000 rounds", sheet(), full(1), good, 12),
+        ("closing, closed and without a round", sheet(), empty(1), Call::Close, 12),
+        ("round, closed and without a round", sheet(), empty(1), good, 12),
+        ("1,000,000 rounds and bad masks", sheet(), full(0), beyond, 11),
+        ("1,000,000 rounds and a value bit not known", sheet(), full(0), unknown, 11),
+        ("1,000,000 rounds and one more", sheet(), full(0), good, 13),
+        ("1,000,000 rounds closed", sheet(), full(0), Call::Close, 0),
+        ("closing with no round", sheet(), empty(0), Call::Close, 14),
+        ("first round", sheet(), empty(0), good, 0),
+    ]
+}
+
+fn mask_refusals() -> Vec<Refused> {
+    let one =
+        |name, known, value, number| (name, plain(1, &["40"]), forged(0, 0, &[[0; 4]]), round(known, value), number);
+    let six = |name, known, value, number| {
+        (name, plain(6, &["40", "41"]), forged(2, 0, &[[1, 1, 0, 0], [0, 0, 2, 0]]), round(known, value), number)
+    };
+    vec![
+        one("known 0, value 1", 0, 1, 11),
+        one("known 1, value 1", 1, 1, 0),
+        one("known 2, value 0", 2, 0, 11),
+        one("known 3, value 3", 3, 3, 11),
+        one("known 1, value 2", 1, 2, 11),
+        one("known 1, value 3", 1, 3, 11),
+        one("known 128, value 128", 128, 128, 11),
+        one("known 255, value 0", 255, 0, 11),
+        one("known 0, value 128", 0, 128, 11),
+        six("known 63, value 63", 63, 63, 0),
+        six("known 0, value 0", 0, 0, 0),
+        six("known 64, value 0", 64, 0, 11),
+        six("known 191, value 63", 191, 63, 11),
+        six("known 62, value 1", 62, 1, 11),
+        six("known 63, value 64", 63, 64, 11),
+        six("known 63, value 255", 63, 255, 11),
+    ]
+}
+
+fn length_refusals() -> Vec<Refused> {
+    let lengths = [
+        ("record of 29 numbers", 29, 16),
+        ("record of 31 numbers", 31, 16),
+        ("no record", 0, 16),
+        ("answer of 15 numbers", 30, 15),
+        ("no answer", 30, 0),
+        ("neither", 0, 0),
+    ];
+    let mut cases = Vec::new();
+    for (name, record, answer) in lengths {
+        for call in [Call::Prepare, round(1, 1), Call::Close] {
+            let mut held = forged(1, 0, &[[1, 0, 0, 0]]);
+            held.record.resize(record, 0);
+            held.answer.resize(answer, 0);
+            cases.push((name, plain(1, &["40"]), held, call, WRONG_LENGTH));
+        }
+    }
+    cases
+}
+
+/// A refused sheet comes before everything else.
+fn sheet_refusals() -> Vec<Refused> {
+    let mut cases = Vec::new();
+    for case in sheets().into_iter().filter(|case| case.number != 0) {
+        let full = forged(1, 1, &[[1, 1, 0, 0]; 7]);
+        let none = Held { storage: vec![], ..full.clone() };
+        for held in [full, none] {
+            for call in [Call::Prepare, round(0, 1), round(0, 0), Call::Close] {
+                cases.push((case.name, case.sheet.clone(), held.clone(), call, case.number));
+            }
+        }
+    }
+    cases
 }

@@ -1,5 +1,7 @@
-//! Random sheets and letters from a fixed start, so that every run makes the same ones.
+//! Random sheets, letters and rounds from a fixed start, so that every run makes the same ones.
 
+use crate::journal::Book;
+use crate::monitor::Heard;
 use crate::sheet::{byte_of_read, write, HEADER, LONGEST_EXPRESSION, NO_ASSUMPTION};
 
 /// Marsaglia's xorshift generator on 64 bits, its output multiplied by an odd constant.
@@ -53,6 +55,38 @@ impl Random {
     /// Letters of a sheet with so many inputs.
     pub fn letters(&mut self, inputs: usize, rounds: usize) -> Vec<u8> {
         (0..rounds).map(|_| self.below(1 << inputs) as u8).collect()
+    }
+
+    /// A round in which about so many of a hundred inputs were not heard.
+    pub fn heard(&mut self, inputs: usize, unknown: usize) -> Heard {
+        let letter = self.below(1 << inputs) as u8;
+        self.heard_of(letter, inputs, unknown)
+    }
+
+    /// The same with a letter that leaves the journal a completion, if there is one.
+    pub fn heard_along(&mut self, book: &Book, unknown: usize) -> Heard {
+        let letters = book.letters_ahead();
+        if letters.is_empty() {
+            return self.heard(book.inputs(), unknown);
+        }
+        let letter = self.pick(&letters);
+        self.heard_of(letter, book.inputs(), unknown)
+    }
+
+    fn heard_of(&mut self, letter: u8, inputs: usize, unknown: usize) -> Heard {
+        let bits = (0..inputs).map(|input| ((self.below(100) >= unknown) as u8) << input);
+        let known = bits.sum();
+        Heard { known, value: letter & known }
+    }
+
+    /// Any masks at all, most of which rule 11 turns down.
+    pub fn masks(&mut self) -> Heard {
+        Heard { known: self.byte(), value: self.byte() }
+    }
+
+    /// Numbers without any order.
+    pub fn fill(&mut self, words: &mut [u64]) {
+        words.iter_mut().for_each(|word| *word = self.next());
     }
 
     /// The numbers below `count` in some order.
@@ -220,6 +254,16 @@ pub fn accepted(random: &mut Random) -> Vec<u8> {
         })
         .collect();
     write(inputs as u8, assumption(random, outputs), &expressions)
+}
+
+/// An accepted sheet with so many streams at most.
+pub fn small(random: &mut Random, most: u8) -> Vec<u8> {
+    loop {
+        let sheet = accepted(random);
+        if sheet[5] + sheet[6] <= most {
+            return sheet;
+        }
+    }
 }
 
 /// Exclusive or of two reads.

@@ -59,7 +59,7 @@ impl Sheet {
 }
 
 impl Expression {
-    fn for_each_read(&self, visit: &mut impl FnMut(&Read)) {
+    pub fn for_each_read(&self, visit: &mut impl FnMut(&Read)) {
         match self {
             Expression::Constant(_) => {}
             Expression::Not(part) => part.for_each_read(visit),

@@ -2,3 +2,4 @@ pub mod BookLaws
 pub mod Refusals
 pub mod ThirdDemand
 pub mod Further
+pub mod Longest

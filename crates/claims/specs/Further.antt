@@ -1,4 +1,4 @@
--- Further sentences of 01, "Completions and verdicts" and "Tallies", as types.
+-- Further sentences of 01, "The sheet", "Completions and verdicts" and "Tallies", as types.
 use mathlib.Core.Path.{_≡_}
 use mathlib.Core.Bool.{true}
 use mathlib.Core.List.{List, [], _∷_, _++_}
@@ -8,7 +8,7 @@ use Rattle.refusal.specs.declared.Verdict.{Verdict}
 use Rattle.refusal.specs.declared.Verdict.the-variants.{Broken}
 use Rattle.refusal.specs.declared.Outcome.the-variants.{Accepted}
 use Rattle.refusal.specs.Decided.{Decided}
-use Rattle.sheet.specs.RuleSheet.{RuleSheet, outputs, streams}
+use Rattle.sheet.specs.RuleSheet.{RuleSheet, outputs, streams, accepted, readSheet}
 use Rattle.completions.specs.Live.{Pairs, Live, countPairs}
 use Rattle.completions.specs.Completion.{LetterSet, Completion}
 use Rattle.completions.specs.Judged.{RoundVerdict, ClosingVerdict}
@@ -21,6 +21,10 @@ use Rattle.monitor.specs.declared.PrepareAnswer.{PrepareAnswer}
 use Rattle.claims.specs.Book.{Call, Answer}
 use Rattle.claims.specs.Session.{Held, Session}
 use Rattle.claims.specs.Demands.{lent}
+
+-- a sheet that is read has at most 463 bytes (01, "The sheet")
+abbrev pub LongestSheet : Type 0
+LongestSheet = (bs : List ℕ) (x : RuleSheet) → readSheet bs ≡ accepted x → length bs ≤ 463
 
 -- no two verdicts fit a round, nor a closing
 abbrev pub OneVerdict : Type 0

@@ -47,7 +47,6 @@ size-in bs (suc r) k (suc j) h =
     (List·Memᴰ·tail (subst (λ (i : ℕ). List·Memᴰ (size i) (outputChecks bs (suc k) r)) e (size-in bs r (suc k) j (omega arith)))))
 
 module _ (bs : List ℕ) (holds : Decided (Broken bs) rule (checksOf bs) Accepted) where
-
   short-size : (k : ℕ) → k < outputsOf bs → sizeOf bs k ≤ 64
   unfolding checksOf broken?
   short-size k h =

@@ -14,6 +14,7 @@ ghost use Rattle.lola.specs.Reads.{hasRead};
 ghost use Rattle.lola.specs.Equations.{holds};
 ghost use Rattle.lanes.specs.Table.{tableLook, Stepped, Put, PutNear, Seen, Ahead, unless, earlierByte};
 ghost use Rattle.lanes.specs.Coded.{Coded, sheetOf, agreed};
+use sheet::OutputNo;
 
 // ---- The evaluator
 
@@ -78,6 +79,24 @@ pub fn value_word(st: &mut [u64], t: &[u64], expr: &[u8]) -> u64
     st[sp - 1]
 }
 
+// The number of output k's stream, in a sheet of m inputs.
+pub fn output_stream(m: usize, k: usize) -> usize
+    requires { ⌜ m + k ≤ 8 ⌝ }
+    ensures { λ r. ⌜ r ≡ m + k ⌝ }
+{
+    let q = sheet::stream_of(m as u8, OutputNo(k as u8));
+    q.0 as usize
+}
+
+// The value of output k in the valuation b.
+fn output_value(b: usize, m: usize, k: usize) -> bool
+    requires { ⌜ m + k ≤ 8 ⌝ }
+    ensures { λ r. ⌜ r ≡ bit (m + k) b ⌝ }
+{
+    let q = output_stream(m, k);
+    (b >> q) % 2 == 1
+}
+
 // The lanes in which the n outputs, streams m on of b, have the values of their expressions.
 pub fn equations_word(
     st: &mut [u64],
@@ -98,8 +117,7 @@ pub fn equations_word(
         let from = 64 * k;
         let to = from + len[k];
         let x = value_word(st, t, &code[from..to]);
-        let v = (b >> (m + k)) % 2 == 1;
-        acc = acc & words::agree(x, v);
+        acc = acc & words::agree(x, output_value(b, m, k));
         if acc == 0 {
             return 0;
         }

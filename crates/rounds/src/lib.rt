@@ -403,7 +403,7 @@ fn verdicts(f: &[u64], m: usize, n: usize) -> [u8; 7]
     let mut vs = [0u8; 7];
     let mut k: usize = 0;
     while k < n {
-        vs[k] = verdict(f, m + k);
+        vs[k] = verdict(f, lanes::output_stream(m, k));
         k += 1;
     }
     vs

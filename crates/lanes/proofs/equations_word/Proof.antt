@@ -2,10 +2,10 @@
 use native.Mathlib.Omega.{arith}
 use borrow.Author.Needs.{needs}
 use Prim.Native.Nat.{ℕ, _+_, _-_, _<_, _≤_}
-use mathlib.Core.Path.{_≡_, refl, sym, ap, _∙_}
+use mathlib.Core.Path.{_≡_, sym, ap, ap₂, _∙_}
 use mathlib.Core.Bool.{Bool, Bool·beq}
 use lib.ListN.{length, length-take}
-use Rattle.words.specs.Bits.{bit, digit}
+use Rattle.words.specs.Bits.{bit}
 use Rattle.words.proofs.BitLaws.{bit-all, bit-and, bit-none}
 use Rattle.sheet.specs.Reading.{treesOf}
 use Rattle.lanes.specs.Table.{tableLook}
@@ -48,11 +48,8 @@ part-value-word-end c = omega (arith, part-room _ _ _ _ (c .before .before .befo
 value-word-requires : tie.Need-value-word-requires Inv-loop μ-loop
 value-word-requires c κs = (simp length-take (omega (arith, part-room _ _ _ _ (c .before .before .before .before .before .before .before .before .before .pre .0) (c .before .before .before .before .loop .k) (c .before .before .before .loop-test .taken))), c .before .before .before .before .loop .inv .1, c .before .before .before .before .before .before .before .before .before .pre .1 .1)
 
-add-v : tie.Need-add-v Inv-loop μ-loop
-add-v c = omega (arith, c .before .before .before .before .before .before .before .before .before .before .before .before .pre .0 .ranges .streams)
-
-shr-v : tie.Need-shr-v Inv-loop μ-loop
-shr-v c = omega (arith, c .before .before .before .before .before .before .before .before .before .before .before .before .pre .0 .ranges .streams)
+output-value-requires : tie.Need-output-value-requires Inv-loop μ-loop
+output-value-requires c κs = omega (arith, c .before .before .before .before .before .before .loop-test .taken, c .before .before .before .before .before .before .before .before .before .before .before .before .pre .0 .ranges .streams)
 
 agree-requires : tie.Need-agree-requires Inv-loop μ-loop
 agree-requires c κs = search needs
@@ -61,14 +58,12 @@ same-length : tie.Need-same-length Inv-loop μ-loop
 same-length c = search needs
 
 returns : tie.Need-returns Inv-loop μ-loop
-unfolding bit digit
 returns c = λ i h.
     bit-none i
     ∙ agreed-stop _ _ _ _ _ _ _ _ (omega arith)
     (sym (sym (ap (bit i) (c .if1 .taken)) ∙ bit-and i _ _
-    ∙ agreed-more (tableLook (c .before .before .before .before .before .before .before .before .before .before .before .before .before .before .args .t .now) i) _ _ _ _ _ (c .before .before .before .before .before .before .before .before .before .loop .k) _ _ (c .before .before .before .before .before .before .before .before .before .loop .inv .2 i h)
-    (c .before .agree .ensures i h ∙ ap (λ (u : Bool). Bool·beq u (bit (c .before .before .before .before .before .before .before .before .before .before .before .before .before .before .args .m + c .before .before .before .before .before .before .before .before .before .loop .k) (c .before .before .before .before .before .before .before .before .before .before .before .before .before .before .args .b)))
-    (c .before .before .before .before .value-word .ensures _ _ (part-parses _ _ _ _ (c .before .before .before .before .before .before .before .before .before .before .before .before .before .before .pre .0) _ (c .before .before .before .before .before .before .before .before .loop-test .taken)) i h)))
+    ∙ agreed-more (tableLook (c .before .before .before .before .before .before .before .before .before .before .before .before .before .before .before .args .t .now) i) _ _ _ _ _ (c .before .before .before .before .before .before .before .before .before .before .loop .k) _ _ (c .before .before .before .before .before .before .before .before .before .before .loop .inv .2 i h)
+    (c .before .agree .ensures i h ∙ ap₂ Bool·beq (c .before .before .before .before .before .value-word .ensures _ _ (part-parses _ _ _ _ (c .before .before .before .before .before .before .before .before .before .before .before .before .before .before .before .pre .0) _ (c .before .before .before .before .before .before .before .before .before .loop-test .taken)) i h) (c .before .before .output-value .ensures)))
     ∙ bit-none i)
 
 add-k : tie.Need-add-k Inv-loop μ-loop
@@ -78,15 +73,13 @@ loop-less : tie.Need-loop-less Inv-loop μ-loop
 loop-less c = search needs
 
 loop-again : tie.Need-loop-again Inv-loop μ-loop
-unfolding bit digit
 loop-again c = (
   omega arith,
   omega arith,
   λ i h.
       bit-and i _ _
-      ∙ agreed-more (tableLook (c .before .before .before .before .before .before .before .before .before .before .before .before .before .before .args .t .now) i) _ _ _ _ _ (c .before .before .before .before .before .before .before .before .before .loop .k) _ _ (c .before .before .before .before .before .before .before .before .before .loop .inv .2 i h)
-      (c .before .agree .ensures i h ∙ ap (λ (u : Bool). Bool·beq u (bit (c .before .before .before .before .before .before .before .before .before .before .before .before .before .before .args .m + c .before .before .before .before .before .before .before .before .before .loop .k) (c .before .before .before .before .before .before .before .before .before .before .before .before .before .before .args .b)))
-      (c .before .before .before .before .value-word .ensures _ _ (part-parses _ _ _ _ (c .before .before .before .before .before .before .before .before .before .before .before .before .before .before .pre .0) _ (c .before .before .before .before .before .before .before .before .loop-test .taken)) i h)),
+      ∙ agreed-more (tableLook (c .before .before .before .before .before .before .before .before .before .before .before .before .before .before .before .args .t .now) i) _ _ _ _ _ (c .before .before .before .before .before .before .before .before .before .before .loop .k) _ _ (c .before .before .before .before .before .before .before .before .before .before .loop .inv .2 i h)
+      (c .before .agree .ensures i h ∙ ap₂ Bool·beq (c .before .before .before .before .before .value-word .ensures _ _ (part-parses _ _ _ _ (c .before .before .before .before .before .before .before .before .before .before .before .before .before .before .before .pre .0) _ (c .before .before .before .before .before .before .before .before .before .loop-test .taken)) i h) (c .before .before .output-value .ensures)),
 )
 
 same-length-2 : tie.Need-same-length-2 Inv-loop μ-loop
@@ -110,8 +103,7 @@ equations-word-spec =
     part-value-word-start
     part-value-word-end
     value-word-requires
-    add-v
-    shr-v
+    output-value-requires
     agree-requires
     same-length
     returns

@@ -1,7 +1,9 @@
 -- `rounds::verdicts` meets its contract: the outputs below k are done. Assumes nothing.
 use borrow.Author.Needs.{needs}
-use Prim.Native.Nat.{_+_, _-_}
+use Prim.Native.Nat.{ℕ, _+_, _-_}
+use mathlib.Core.Path.{ap, _∙_}
 use mathlib.Core.Bool.{true, false}
+use Rattle.refusal.specs.Numbers.{verdictNo}
 use Rattle.completions.specs.Steps.{verdictOf}
 use Rattle.rounds.specs.Firsts.{shows}
 use Rattle.rounds.proofs.VerdictLaws.{Telling, telling-none, telling-more, telling-all}
@@ -17,8 +19,8 @@ abbrev μ-loop : tie.MeasureT-loop
 loop-holds : tie.Need-loop-holds Inv-loop μ-loop
 loop-holds c = telling-none _ _
 
-add-verdict : tie.Need-add-verdict Inv-loop μ-loop
-add-verdict c = search needs
+output-stream-requires : tie.Need-output-stream-requires Inv-loop μ-loop
+output-stream-requires c κs = search needs
 
 verdict-requires : tie.Need-verdict-requires Inv-loop μ-loop
 verdict-requires c κs = search needs
@@ -33,7 +35,8 @@ loop-less : tie.Need-loop-less Inv-loop μ-loop
 loop-less c = search needs
 
 loop-again : tie.Need-loop-again Inv-loop μ-loop
-loop-again c = telling-more _ _ _ _ _ (c .before .loop-test .taken) (c .before .before .before .before .pre .1) (c .before .before .loop .inv) (c .verdict .ensures)
+loop-again c = telling-more _ _ _ _ _ (c .before .before .loop-test .taken) (c .before .before .before .before .before .pre .1) (c .before .before .before .loop .inv)
+    (c .verdict .ensures ∙ ap (λ (q : ℕ). verdictNo (verdictOf (shows (c .before .before .before .before .before .args .f .now) q true) (shows (c .before .before .before .before .before .args .f .now) q false))) (c .before .output-stream .ensures))
 
 returns : tie.Need-returns Inv-loop μ-loop
 returns c = telling-all _ _ _ _ (c .loop-test .left) (c .before .loop .inv)
@@ -45,7 +48,7 @@ verdicts-spec =
     Inv-loop
     μ-loop
     loop-holds
-    add-verdict
+    output-stream-requires
     verdict-requires
     array-write-vs
     add-k

@@ -14,7 +14,6 @@ mod ffi {
     }
 }
 
-#[cfg(feature = "journal")]
 mod journal_ffi {
     extern "C" {
         pub fn jigwaret_prepare(
@@ -75,7 +74,6 @@ pub fn evaluate(sheet: &[u8], letters: &[u8], out: &mut [u8]) -> u32 {
 
 /// Makes the record fresh, writes the live count into `answer` and returns 0, or returns a refusal's
 /// number.
-#[cfg(feature = "journal")]
 pub fn prepare(sheet: &[u8], storage: &mut [u64], record: &mut [u32], answer: &mut [u32]) -> u32 {
     // SAFETY: the library reads the sheet and writes only inside the other slices.
     unsafe {
@@ -94,7 +92,6 @@ pub fn prepare(sheet: &[u8], storage: &mut [u64], record: &mut [u32], answer: &m
 
 /// Takes a round into the record and storage, writes the verdicts into `answer` and returns 0, or
 /// returns a refusal's number.
-#[cfg(feature = "journal")]
 pub fn round(sheet: &[u8], storage: &mut [u64], record: &mut [u32], known: u8, value: u8, answer: &mut [u32]) -> u32 {
     // SAFETY: the library reads the sheet and writes only inside the other slices.
     unsafe {
@@ -115,7 +112,6 @@ pub fn round(sheet: &[u8], storage: &mut [u64], record: &mut [u32], known: u8, v
 
 /// Marks the record closed, writes the closing verdicts and the shares into `answer` and returns 0,
 /// or returns a refusal's number.
-#[cfg(feature = "journal")]
 pub fn close(sheet: &[u8], storage: &[u64], record: &mut [u32], answer: &mut [u32]) -> u32 {
     // SAFETY: the library reads the sheet and the storage and writes only inside the other slices.
     unsafe {

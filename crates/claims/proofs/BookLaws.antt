@@ -1,31 +1,27 @@
 -- The verdicts read off the reached set are the book's, and the book leaves nothing open.
-use mathlib.Core.Bool.{Bool, true, false, not, cond}
+use mathlib.Core.Bool.{Bool, true, false}
 use mathlib.Core.Path.{_≡_, refl, sym, ap, ap₂, subst, _∙_}
 use mathlib.Core.List.{List, [], _∷_, _++_, map, append-nil, append-assoc}
-use mathlib.Core.Option.{Option, none, some}
-use Prim.Native.Nat.{ℕ, zero, suc, _+_, _^_, _≤_, _<_}
+use mathlib.Core.Option.{none, some}
+use Prim.Native.Nat.{ℕ, zero, suc, _+_, _^_, _≤_}
 use native.Mathlib.Omega.{arith}
-use native.Mathlib.Nat.{add-zero, zero-add, add-suc, suc-add}
-use lib.Dec.{T, eqb}
+use lib.Dec.{T}
 use lib.ListN.{length, getElem?, length-map}
-use Rattle.words.specs.Below.{one}
-use Rattle.refusal.specs.declared.Refusal.{Refusal}
 use Rattle.refusal.specs.declared.Verdict.{Verdict}
-use Rattle.refusal.specs.declared.Verdict.the-variants.{False, True, Open, Broken}
+use Rattle.refusal.specs.declared.Verdict.the-variants.{True}
 use Rattle.sheet.specs.RuleSheet.{RuleSheet, outputs, streams}
 use Rattle.lola.specs.Equations.{output}
 use Rattle.completions.specs.Live.{Pairs, Live}
 use Rattle.completions.specs.Completion.{LetterSet, masked, Completion, Closing}
 use Rattle.completions.specs.Judged.{inRound, RoundVerdict, ClosingVerdict}
-use Rattle.completions.specs.Steps.{Represents, startSet, stepSet, pairsVerdict, endsVerdict}
+use Rattle.completions.specs.Steps.{Represents, pairsVerdict, endsVerdict}
 use Rattle.completions.proofs.Runs.{Round, Reached}
-use Rattle.completions.proofs.Follow.{length-snoc}
 use Rattle.completions.proofs.Steps.{start-exact, step-exact}
 use Rattle.completions.proofs.Verdicts.{one-verdict, test-verdict, test-closing}
 use Rattle.completions.proofs.Letters.{onLetter, onLetters, letters-verdict, letters-closing}
 use Rattle.monitor.specs.Results.{width, nextSet}
 use Rattle.record.specs.Record.{share}
-use Rattle.claims.specs.Book.{Call, round, closing, Answer, refused, verdicts, closed, Book, emptyBook, isAt, counted, refusal, Each, BookStep, refuse, accept, close, BookRun, finish, next}
+use Rattle.claims.specs.Book.{Call, closing, Answer, refused, verdicts, closed, Book, counted, refusal, Each, BookStep, refuse, accept, close, BookRun, finish, next}
 
 -- ---- lists with an entry for each output
 

@@ -1,15 +1,12 @@
 -- Proofs of the further sentences.
-use mathlib.Core.Path.{_≡_, refl, sym, ap, _∙_, subst}
 use mathlib.Core.List.{List, [], _∷_, _++_, map}
-use mathlib.Core.Option.{none}
-use Prim.Native.Nat.{ℕ, suc, _+_, _^_, _≤_, _<_}
+use Prim.Native.Nat.{ℕ, _+_, _≤_}
 use native.Mathlib.Omega.{arith}
 use lib.ListN.{length, length-map}
 use lib.Pow.{pow-mono}
-use Rattle.refusal.specs.declared.Verdict.{Verdict}
-use Rattle.sheet.specs.RuleSheet.{RuleSheet, outputs, streams}
+use Rattle.sheet.specs.RuleSheet.{RuleSheet, outputs}
 use Rattle.lola.specs.Equations.{output, letter}
-use Rattle.completions.specs.Live.{Pairs, Live, countPairs}
+use Rattle.completions.specs.Live.{Live}
 use Rattle.completions.specs.Completion.{LetterSet, Match, Completion, Closing}
 use Rattle.completions.specs.Judged.{Judged, inRound, RoundVerdict, ClosingVerdict}
 use Rattle.completions.specs.Steps.{Represents}
@@ -22,7 +19,7 @@ use Rattle.record.proofs.Tallies.{RecordOk, record-is}
 use Rattle.claims.specs.Book.{Book, Call, Answer, emptyBook}
 use Rattle.claims.specs.Session.{Held, Session, finish, next}
 use Rattle.claims.specs.Demands.{lent}
-use Rattle.claims.specs.Further.{OneVerdict, SomeVerdict, StaysBroken, ShortCompletion, InOrder, StaysInOrder}
+use Rattle.claims.specs.Further.{OneVerdict, SomeVerdict, StaysBroken, ShortCompletion, StaysInOrder}
 use Rattle.claims.proofs.BookLaws.{reached-by, reaches-round, reaches-closing}
 use Rattle.claims.proofs.Refusals.{SheetOk}
 use Rattle.claims.proofs.ThirdDemand.{Tracks, Follows, one-call, prepared-tracks, sheet-accepted, storage-enough}

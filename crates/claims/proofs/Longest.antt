@@ -1,17 +1,16 @@
 -- The longest sheet that is read has 463 bytes: a header of 8, and at most 7 outputs of a length byte and 64 expression bytes.
-use mathlib.Core.Path.{_≡_, refl, sym, ap, _∙_, subst}
-use mathlib.Core.Bool.{Bool, true, false, not, _&&_, true≢false, false≢true}
-use mathlib.Core.List.{List, [], _∷_, _++_, List·Memᴰ, List·Memᴰ·head, List·Memᴰ·tail, Memᴰ·append-left, Memᴰ·append-right}
+use mathlib.Core.Path.{_≡_, refl, ap, subst}
+use mathlib.Core.Bool.{Bool, true, false, not, _&&_, false≢true}
+use mathlib.Core.List.{List, [], _∷_, List·Memᴰ, List·Memᴰ·head, List·Memᴰ·tail, Memᴰ·append-left, Memᴰ·append-right}
 use Prim.Native.Nat.{ℕ, zero, suc, _+_, _*_, _≤_, _<_}
 use native.Mathlib.Omega.{arith}
 use lib.Dec.{leb, ltb}
-use lib.ListN.{length, getD}
+use lib.ListN.{length}
 use borrow.Author.Tests.{leb-true, ltb-false}
 use Rattle.refusal.specs.declared.Outcome.the-variants.{Accepted}
 use Rattle.refusal.specs.Decided.{Decided}
 use Rattle.sheet.specs.Header.{countsOk}
-use Rattle.sheet.specs.Checks.{Check, counts, size, end, leftover, rule, inputsOf, outputsOf, placeOf, sizeOf, broken?, Broken, byteChecks, outputChecks, checksOf}
-use Rattle.sheet.specs.RuleSheet.{RuleSheet, accepted, readSheet}
+use Rattle.sheet.specs.Checks.{counts, size, leftover, rule, inputsOf, outputsOf, placeOf, sizeOf, broken?, Broken, byteChecks, outputChecks, checksOf}
 use Rattle.sheet.proofs.First.{reading-decided, readingOutcome}
 use Rattle.sheet.proofs.Headers as headers
 use Rattle.claims.specs.Further.{LongestSheet}

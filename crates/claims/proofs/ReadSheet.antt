@@ -1,9 +1,8 @@
 -- On an accepted sheet the entries that take it already read do what those that take its bytes do.
-use mathlib.Core.Path.{_≡_, subst}
+use mathlib.Core.Path.{subst}
 use mathlib.Core.List.{List}
 use Prim.Native.Nat.{ℕ}
 use Rattle.refusal.specs.declared.Outcome.{Outcome}
-use Rattle.refusal.specs.declared.Outcome.the-variants.{Accepted}
 use Rattle.refusal.specs.Decided.{Decided}
 use Rattle.sheet.specs.RuleSheet.{RuleSheet}
 use Rattle.sheet.specs.Reading.{ruleSheet}

@@ -1,10 +1,10 @@
 -- The checks of a round and of a closing decide as the book does, once the sheet, the storage and the record are right.
-use mathlib.Core.Path.{_≡_, refl, sym, ap, _∙_, subst}
+use mathlib.Core.Path.{_≡_, refl, sym, ap, _∙_}
 use mathlib.Core.Bool.{Bool, true, false, cond, true≢false, false≢true}
 use mathlib.Core.List.{List, [], _∷_, _++_, map, List·Memᴰ, List·Memᴰ·head, List·Memᴰ·tail, List·Memᴰ·not-nil, List·Memᴰ·cases-cons, Memᴰ·append-left}
 use mathlib.Core.Logic.{⊎-elim}
 use mathlib.Core.Option.{Option, none, some}
-use Prim.Native.Nat.{ℕ, zero, suc, _≤_, _<_}
+use Prim.Native.Nat.{ℕ, _≤_, _<_}
 use native.Mathlib.Omega.{arith}
 use lib.Dec.{eqb, leb}
 use lib.ListN.{getD}
@@ -22,8 +22,8 @@ use Rattle.circular.specs.Checks as sheets
 use Rattle.letters.specs.Masks.{badMasks}
 use Rattle.record.specs.Record.{recordOk}
 use Rattle.record.specs.declared.JournalRecord.{JournalRecord}
-use Rattle.monitor.specs.Checks.{CallCheck, storage, tallies, closed, masks, full, noRound, Given, EntryCheck, sheet, call, rule, Broken, entryChecks, roundChecks, closingChecks}
-use Rattle.claims.specs.Book.{Call, round, closing, limit, refusal}
+use Rattle.monitor.specs.Checks.{storage, tallies, closed, masks, full, noRound, Given, EntryCheck, sheet, call, rule, Broken, entryChecks, roundChecks, closingChecks}
+use Rattle.claims.specs.Book.{round, closing, limit, refusal}
 
 abbrev pub outcomeBy : Option Refusal → Outcome
 outcomeBy none = Accepted

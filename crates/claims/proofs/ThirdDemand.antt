@@ -1,16 +1,15 @@
 -- The third demand: after an accepted preparation every list of calls is answered as the book answers it.
 use mathlib.Core.Path.{_≡_, refl, sym, ap, ap₂, _∙_, subst}
-use mathlib.Core.Bool.{Bool, true, false, _&&_}
+use mathlib.Core.Bool.{Bool, true}
 use mathlib.Core.List.{List, [], _∷_, _++_, map, List·Memᴰ·head, Memᴰ·append-right}
 use mathlib.Core.Option.{Option, none, some}
-use Prim.Native.Nat.{ℕ, zero, suc, _+_, _*_, _^_, _≤_, _<_}
+use Prim.Native.Nat.{ℕ, zero, suc, _+_, _*_, _≤_, _<_}
 use native.Mathlib.Omega.{arith}
 use native.Mathlib.Decide.{decLt}
 use native.Mathlib.Nat.{add-zero, zero-add, add-suc, suc-add}
-use lib.Dec.{T, eqb, ltb}
-use lib.ListN.{length, getD, getElem?, length-map, replicate, getD-replicate, length-replicate}
+use lib.Dec.{eqb}
+use lib.ListN.{length, getD, getElem?, length-map, replicate}
 use lib.Pow.{pow-mono}
-use borrow.Author.Tests.{lt-ltb}
 use Rattle.words.specs.Below.{one}
 use Rattle.refusal.specs.declared.Refusal.{Refusal}
 use Rattle.refusal.specs.declared.Outcome.{Outcome}
@@ -19,7 +18,7 @@ use Rattle.refusal.specs.declared.Verdict.{Verdict}
 use Rattle.refusal.specs.declared.Verdict.the-variants.{False, True, Open, Broken}
 use Rattle.refusal.specs.Numbers.{verdictNo, verdictAt, verdictList}
 use Rattle.refusal.specs.Decided.{Decided}
-use Rattle.refusal.proofs.Decisions.{decided-once, decided-map}
+use Rattle.refusal.proofs.Decisions.{decided-once}
 use Rattle.sheet.specs.RuleSheet.{RuleSheet, outputs, streams, accepted, readSheet}
 use Rattle.sheet.specs.Checks.{outputsOf}
 use Rattle.sheet.proofs.Formed.{counts-of, read-formed}
@@ -34,11 +33,11 @@ use Rattle.completions.proofs.Follow.{length-snoc}
 use Rattle.completions.proofs.Letters.{onLetter, onLetters}
 use Rattle.pairs.specs.Storage.{stored}
 use Rattle.pairs.proofs.Sets.{stored-same}
-use Rattle.record.specs.Record.{Fresh, countAt, sumAt, addUp, recordOk, share, Counted}
+use Rattle.record.specs.Record.{Fresh, countAt, sumAt, addUp, recordOk, share}
 use Rattle.record.specs.declared.JournalRecord.{JournalRecord}
-use Rattle.record.proofs.Tallies.{RecordOk, record-is, record-more}
+use Rattle.record.proofs.Tallies.{record-is, record-more}
 use Rattle.monitor.specs.Checks as checks
-use Rattle.monitor.specs.Results.{width, nextSet, within, below, Prepared, RoundDone, ClosingDone, Verdicts, OfSheet, RoundResult, ClosingResult}
+use Rattle.monitor.specs.Results.{width, nextSet, Prepared, RoundDone, ClosingDone, Verdicts, OfSheet, RoundResult, ClosingResult}
 use Rattle.monitor.proofs.Rounding.{within-same, wider}
 use Rattle.monitor.specs.declared.PrepareAnswer.{PrepareAnswer}
 use Rattle.monitor.specs.declared.RoundAnswer.{RoundAnswer}

@@ -11,7 +11,7 @@ use Rattle.words.specs.Below.{one}
 use Rattle.refusal.specs.declared.Refusal.{Refusal}
 use Rattle.refusal.specs.declared.Refusal.the-variants.{Letter, Closed, Full, NoRound}
 use Rattle.refusal.specs.declared.Verdict.{Verdict}
-use Rattle.refusal.specs.declared.Verdict.the-variants.{False, True, Open, Broken}
+use Rattle.refusal.specs.declared.Verdict.the-variants.{True}
 use Rattle.refusal.specs.Numbers.{verdictNo}
 use Rattle.sheet.specs.RuleSheet.{RuleSheet, outputs}
 use Rattle.letters.specs.Masks.{badMasks}

@@ -1,6 +1,5 @@
 -- Further sentences of 01, "The sheet", "Completions and verdicts" and "Tallies", as types.
 use mathlib.Core.Path.{_≡_}
-use mathlib.Core.Bool.{true}
 use mathlib.Core.List.{List, [], _∷_, _++_}
 use Prim.Native.Nat.{ℕ, _+_, _≤_, _<_}
 use lib.ListN.{length}

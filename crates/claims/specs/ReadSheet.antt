@@ -11,7 +11,7 @@ use Rattle.form.specs.Form.{formOf}
 use Rattle.circular.specs.Checks.{AcceptedSheet}
 use Rattle.circular.specs.Checks as sheets
 use Rattle.record.specs.declared.JournalRecord.{JournalRecord}
-use Rattle.monitor.specs.Checks.{Given, CallCheck, CallBroken, callRule, Broken, rule, entryChecks, prepareChecks, roundChecks, closingChecks}
+use Rattle.monitor.specs.Checks.{Given, CallBroken, callRule, Broken, rule, entryChecks, prepareChecks, roundChecks, closingChecks}
 use Rattle.monitor.specs.Results.{OfSheet, AfterForm, Prepared, RoundDone, ClosingDone, PrepareResult, RoundResult, ClosingResult}
 use Rattle.monitor.specs.declared.PrepareAnswer.{PrepareAnswer}
 use Rattle.monitor.specs.declared.RoundAnswer.{RoundAnswer}

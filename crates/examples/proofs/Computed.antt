@@ -3,16 +3,15 @@ use mathlib.Core.Bool.{Bool, true, false, not, _&&_}
 use mathlib.Core.Path.{_≡_, refl, sym, ap, subst, _∙_}
 use mathlib.Core.List.{List, [], _∷_}
 use mathlib.Core.Option.{Option, none, some}
-use Prim.Native.Nat.{ℕ, zero, suc, _+_, _-_, _^_, _≤_, _<_}
+use Prim.Native.Nat.{ℕ, zero, suc, _+_, _-_, _^_, _≤_}
 use native.Mathlib.Nat.{add-zero, zero-add, add-suc, suc-add, le-refl}
 use native.Mathlib.Omega.{arith}
 use lib.Dec.{T, eqb, leb, ltb, eqb→eq, ltb→lt}
-use lib.ListN.{getElem?, getD}
+use lib.ListN.{getElem?}
 use borrow.Author.Tests.{leb-true}
 use Rattle.words.specs.Bits.{bit, digit}
 use Rattle.words.specs.Below.{anyBelow, sumBelow, countBelow}
 use Rattle.refusal.specs.declared.Verdict.{Verdict}
-use Rattle.refusal.specs.declared.Verdict.the-variants.{False, True, Open, Broken}
 use Rattle.refusal.specs.Numbers.{verdictNo, verdictAt}
 use Rattle.sheet.specs.Bytes.{opOf, readsOf}
 use Rattle.sheet.specs.Expression.{applyOp, final, parse}
@@ -21,7 +20,7 @@ use Rattle.sheet.specs.RuleSheet.{RuleSheet, outputs, streams, Reading, refused
 use Rattle.lola.specs.Value.{value, near}
 use Rattle.lola.specs.Equations.{equations, holds, first, Satisfies, joined, output}
 use Rattle.lola.specs.Reads.{hasRead}
-use Rattle.circular.specs.Circular.{edges, CircularSheet}
+use Rattle.circular.specs.Circular.{edges}
 use Rattle.circular.proofs.Decide.{circular?, circular?-true, circularAt, atLeast0, turned}
 use Rattle.circular.proofs.Closure.{Best, top, larger, plus, loop, pick, blow}
 use Rattle.completions.specs.Live.{allTrue, allowed, Pairs, Live, countPairs}
@@ -68,7 +67,7 @@ satisfied x p [] = true
 satisfied x p (v ∷ vs) = ltb v (2 ^ streams x) && (holds x p v (first vs) && satisfied x (some v) vs)
 
 -- a test of the sheet that bytes read as
-abbrev ofReading : Reading → (RuleSheet → Bool) → Bool
+abbrev pub ofReading : Reading → (RuleSheet → Bool) → Bool
 ofReading (refused r) f = false
 ofReading (accepted x) f = f x
 

@@ -11,7 +11,6 @@ use Rattle.refusal.specs.declared.Outcome.the-variants.{Accepted, Refused}
 use Rattle.sheet.specs.Header.{countsOk}
 use Rattle.sheet.specs.Expression.{parse, outcomeOf}
 use Rattle.sheet.specs.Reading.{codeAt}
-use Rattle.sheet.specs.declared.OutputNo.{OutputNo}
 use Rattle.sheet.specs.declared.Assumed.{Assumed}
 use Rattle.sheet.specs.declared.Assumed.the-variants.{Nothing, Output}
 use Rattle.sheet.specs.declared.Sheet.{Sheet}

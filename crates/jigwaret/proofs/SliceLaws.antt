@@ -1,13 +1,12 @@
 -- Numbers put into a slice, and a record taken out of one.
-use mathlib.Core.Bool.{Bool, true, false, cond}
 use mathlib.Core.Path.{_≡_, refl, sym, ap, _∙_}
-use mathlib.Core.List.{List, [], _∷_, _++_, append-nil}
-use Prim.Native.Nat.{ℕ, zero, suc, _+_, _≤_, _<_}
+use mathlib.Core.List.{List, [], _∷_, append-nil}
+use Prim.Native.Nat.{ℕ, _+_, _≤_, _<_}
 use native.Mathlib.Omega.{arith}
 use native.Mathlib.Decide.{decLt}
 use native.Mathlib.Numerals.{add-one}
 use lib.ListN.{length, getD, set, take, drop, length-set, length-drop}
-use lib.Seq.{paste, paste-zero, paste-suc, length-paste, getD-drop, getD-set-same, getD-set-other, ext-getD, take-all, drop-length}
+use lib.Seq.{paste, paste-zero, paste-suc, getD-drop, getD-set-same, getD-set-other, ext-getD, take-all, drop-length}
 
 -- the first k of xs stand in `new` from a place on
 pub record PutTo (k at : ℕ) (xs old new : List ℕ) : Type 0 where

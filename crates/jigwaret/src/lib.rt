@@ -2,8 +2,6 @@
 // length.
 mod slices;
 
-ghost use mathlib.Core.Path.{_≡_};
-ghost use lib.ListN.{length};
 ghost use Rattle.jigwaret.specs.Numbered.{Checked, EvaluatedAs};
 ghost use Rattle.jigwaret.specs.Journal.{slices as Journal·slices, PreparedAs, RoundAs, ClosedAs};
 use refusal::Outcome;

@@ -1,11 +1,10 @@
 -- Whatever chunks the input arrives in, what is written is what is said of the whole of it.
-use mathlib.Core.Path.{_≡_, sym, _∙_, subst}
-use mathlib.Core.List.{List, [], _∷_, _++_, append-assoc, append-nil}
+use mathlib.Core.List.{List, [], _++_, append-assoc, append-nil}
 use Prim.Native.Nat.{ℕ}
 use Rattle.sheet.specs.declared.Sheet.{Sheet}
 use Rattle.lines.specs.Printed.{Printed}
 use Rattle.lines.specs.Machine.{Over, Stands}
-use Rattle.lines.specs.Chunks.{Rest, finished, fed, stopped, Run, turnedDown, taken, joined, AnyChunks}
+use Rattle.lines.specs.Chunks.{Rest, finished, fed, stopped, turnedDown, taken, joined, AnyChunks}
 use Rattle.lines.specs.declared.Progress.{Progress}
 
 rest-printed : (x : Sheet) {s : Progress} {t text : List ℕ} {chunks : List (List ℕ)} → Rest x s t chunks text → (sheet seen wrote : List ℕ) → Stands sheet x s t seen wrote

@@ -1,30 +1,28 @@
 -- How a run goes on: by a byte, by a line, by a chunk, to the end of the input.
-use mathlib.Core.Path.{_≡_, refl, sym, ap, ap₂, _∙_, subst}
-use mathlib.Core.Bool.{Bool, true, false, true≢false}
+use mathlib.Core.Path.{_≡_, refl, sym, ap, _∙_, subst}
+use mathlib.Core.Bool.{Bool, true, false}
 use mathlib.Core.List.{List, [], _∷_, _++_, append-assoc, append-nil}
-use Prim.Native.Nat.{ℕ, zero, suc, _+_, _≤_, _<_}
+use Prim.Native.Nat.{ℕ, _+_, _≤_, _<_}
 use native.Mathlib.Omega.{arith}
 use native.Mathlib.Numerals.{add-one}
-use lib.Dec.{eqb}
 use lib.ListN.{length, take, drop, getD, take-append-drop}
 use lib.Seq.{append-snoc, take-suc}
 use borrow.Author.Tests.{eq-eqb, ne-eqb}
 use Rattle.refusal.specs.declared.Refusal.{Refusal}
-use Rattle.refusal.specs.declared.Outcome.the-variants.{Accepted, Refused}
+use Rattle.refusal.specs.declared.Outcome.the-variants.{Refused}
 use Rattle.refusal.specs.Decided.{Decided}
-use Rattle.sheet.specs.RuleSheet.{RuleSheet}
 use Rattle.sheet.specs.Reading.{ruleSheet}
 use Rattle.sheet.specs.declared.Sheet.{Sheet}
 use Rattle.circular.specs.Checks as sheets
-use Rattle.claims.specs.Book.{Book, emptyBook}
+use Rattle.claims.specs.Book.{emptyBook}
 use Rattle.claims.specs.Session.{Held}
 use Rattle.text.specs.Text.{sheetRefusal}
 use Rattle.text.specs.Wrote.{Wrote}
-use Rattle.lines.specs.Lines.{lastLine, linesFrom, blank, malformed, readLine}
+use Rattle.lines.specs.Lines.{linesFrom}
 use Rattle.lines.specs.Printed.{Written, ended, Printed, refusedSheet, journal}
 use Rattle.lines.specs.Scan.{Scanned}
 use Rattle.claims.specs.ReadSheet.{Accepts}
-use Rattle.lines.specs.Machine.{held, Serves, Onward, Ends, LineEnded, room, Midway, Over, Place, Stands}
+use Rattle.lines.specs.Machine.{held, Serves, Onward, Ends, LineEnded, room, Midway, Over, Stands}
 use Rattle.lines.specs.declared.pending.Pending.{Pending}
 use Rattle.lines.specs.declared.ended.Ended.{Ended}
 use Rattle.lines.specs.declared.Progress.{Progress}

@@ -1,5 +1,5 @@
 -- What a line stands for, by what was kept of it, and what its end writes.
-use mathlib.Core.Path.{_≡_, refl, sym, ap, ap₂, _∙_, subst}
+use mathlib.Core.Path.{_≡_, refl, sym, ap, _∙_, subst}
 use mathlib.Core.Bool.{Bool, true, false, cond, _&&_, true≢false}
 use mathlib.Core.List.{List, [], _∷_, _++_, append-nil}
 use Prim.Native.Nat.{ℕ, zero, suc, _+_, _≤_, _<_}
@@ -14,15 +14,15 @@ use Rattle.refusal.specs.declared.Verdict.{Verdict}
 use Rattle.sheet.specs.RuleSheet.{RuleSheet, outputs}
 use Rattle.record.specs.Record.{countAt}
 use Rattle.record.specs.declared.JournalRecord.{JournalRecord}
-use Rattle.claims.specs.Book.{Call, round, closing, Answer, refused, verdicts, closed, Book, counted, BookStep}
-use Rattle.claims.specs.Session.{Held, numberList, Matches}
+use Rattle.claims.specs.Book.{Call, round, closing, refused, verdicts, closed, Book, counted}
+use Rattle.claims.specs.Session.{Held, numberList}
 use Rattle.text.specs.Text.{verdictLine, tallyLines, closingText, lineRefusal}
 use Rattle.text.specs.Wrote.{Wrote}
 use Rattle.text.proofs.TallyLaws.{tally-lines-same}
 use Rattle.lines.specs.Lines.{isMark, allMarks, knownMask, valueMask, isDot, blank, calls, malformed, readLine}
-use Rattle.lines.specs.Printed.{nextLine, malformedRule, Written, passed, rounded, shut, turnedDown, unread}
+use Rattle.lines.specs.Printed.{nextLine, malformedRule, passed, rounded, shut, turnedDown, unread}
 use Rattle.lines.specs.Scan.{Scanned}
-use Rattle.lines.specs.Machine.{held, Serves, Answered, Ends, LineEnded, room, due}
+use Rattle.lines.specs.Machine.{held, Serves, Answered, LineEnded, room, due}
 use Rattle.lines.specs.declared.pending.Pending.{Pending}
 use Rattle.lines.specs.declared.ended.Ended.{Ended}
 use Rattle.lines.proofs.Serving.{serves-matches}

@@ -1,10 +1,9 @@
 -- What is to be written is settled: no two texts fit.
 use mathlib.Core.Path.{_≡_, refl, sym, ap, ap₂, _∙_, subst}
-use mathlib.Core.List.{List, [], _∷_, _++_}
+use mathlib.Core.List.{List, [], _++_}
 use Prim.Native.Nat.{ℕ}
 use native.Mathlib.Omega.{arith}
 use Rattle.refusal.specs.declared.Refusal.{Refusal}
-use Rattle.refusal.specs.declared.Outcome.{Outcome}
 use Rattle.refusal.specs.declared.Outcome.the-variants.{Accepted, Refused}
 use Rattle.refusal.specs.declared.Verdict.{Verdict}
 use Rattle.refusal.proofs.Decisions.{decided-once}
@@ -14,7 +13,7 @@ use Rattle.claims.specs.Book.{Call, Answer, refused, verdicts, closed, Book, em
 use Rattle.claims.proofs.BookLaws.{step-unique}
 use Rattle.text.specs.Text.{verdictLine, closingText, lineRefusal, sheetRefusal}
 use Rattle.lines.specs.Lines.{Line, blank, calls, malformed, readLine, linesOf}
-use Rattle.lines.specs.Printed.{nextLine, Written, ended, passed, rounded, shut, turnedDown, unread, Printed, refusedSheet, journal}
+use Rattle.lines.specs.Printed.{nextLine, Written, ended, passed, rounded, shut, turnedDown, unread, refusedSheet, journal}
 use Rattle.lines.specs.Chunks.{OneText}
 
 -- ---- what a line stands for

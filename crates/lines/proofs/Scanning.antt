@@ -1,6 +1,6 @@
 -- Reading a line byte by byte.
-use mathlib.Core.Path.{_≡_, refl, sym, ap, ap₂, _∙_}
-use mathlib.Core.Bool.{Bool, true, false, cond, not, _&&_, _||_}
+use mathlib.Core.Path.{_≡_, refl, sym, ap, _∙_}
+use mathlib.Core.Bool.{Bool, true, false, cond, not, _&&_}
 use mathlib.Core.List.{List, [], _∷_, _++_}
 use Prim.Native.Nat.{ℕ, zero, suc, _+_, _*_, _^_, _%_, _≤_, _<_}
 use native.Mathlib.Omega.{arith}
@@ -10,10 +10,10 @@ use lib.Dec.{eqb}
 use lib.ListN.{length, length-append}
 use lib.Pow.{shl-exact}
 use lib.Seq.{append-snoc}
-use borrow.Author.Tests.{eq-eqb, ne-eqb}
+use borrow.Author.Tests.{ne-eqb}
 use Rattle.words.specs.Below.{one}
 use Rattle.lines.specs.Lines.{isMark, allMarks, knownMask, valueMask, isDot, malformed, readLine}
-use Rattle.lines.specs.Scan.{Marks, Spoiled, Scanned}
+use Rattle.lines.specs.Scan.{Spoiled, Scanned}
 use Rattle.lines.specs.declared.pending.Pending.{Pending}
 
 -- ---- malformed lines

@@ -26,7 +26,7 @@ use Rattle.monitor.proofs.Checking.{past-storage, none-left}
 use Rattle.monitor.proofs.Entries.{sheet-accepted}
 use Rattle.claims.specs.Book.{Call, round, closing, Answer, Book, emptyBook, BookStep, BookRun}
 use Rattle.claims.specs.Book as book
-use Rattle.claims.specs.Session.{Held, roundSays, closingSays, SessionStep, a-round, a-closing, Session, Matches}
+use Rattle.claims.specs.Session.{Held, roundSays, closingSays, SessionStep, a-round, a-closing, Matches}
 use Rattle.claims.specs.Session as session
 use Rattle.claims.specs.ReadSheet.{given, Accepts, PreparedRead, RoundRead, ClosingRead}
 use Rattle.claims.proofs.ReadSheet.{prepared-bytes, round-bytes, closing-bytes}

@@ -1,7 +1,7 @@
 // The end of a line: the call that it stands for, and what is written for it.
 ghost use mathlib.Core.Path.{_≡_};
 ghost use mathlib.Core.Bool.{true, false, cond};
-ghost use mathlib.Core.List.{List, [], _∷_, _++_};
+ghost use mathlib.Core.List.{List};
 ghost use Prim.Native.Nat.{ℕ, _+_, _≤_, _<_};
 ghost use lib.ListN.{length};
 ghost use Rattle.refusal.specs.declared.Refusal.the-variants.{Closed, Line};
@@ -11,7 +11,7 @@ ghost use Rattle.claims.specs.Session.{roundSays, closingSays};
 ghost use Rattle.claims.specs.ReadSheet.{Accepts};
 ghost use Rattle.text.specs.Text.{lineRefusal};
 ghost use Rattle.text.specs.Wrote.{Wrote};
-ghost use Rattle.lines.specs.Lines.{calls, malformed, readLine};
+ghost use Rattle.lines.specs.Lines.{calls, readLine};
 ghost use Rattle.lines.specs.Printed.{nextLine};
 ghost use Rattle.lines.specs.Scan.{Scanned};
 ghost use Rattle.lines.specs.Machine.{held, Serves, Answered, LineEnded, room, due};

@@ -1,6 +1,5 @@
 // The line protocol of the journal program.
-ghost use mathlib.Core.Path.{_≡_};
-ghost use Prim.Native.Nat.{ℕ, _+_, _*_, _≤_};
+ghost use Prim.Native.Nat.{_+_, _*_, _≤_};
 ghost use lib.ListN.{length, take};
 ghost use Rattle.sheet.specs.Reading.{Usable};
 ghost use Rattle.lines.specs.Machine.{Begun, Goes, Finishes};

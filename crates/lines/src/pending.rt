@@ -3,7 +3,6 @@ ghost use mathlib.Core.Path.{_≡_};
 ghost use mathlib.Core.Bool.{true, false};
 ghost use mathlib.Core.List.{List, [], _∷_, _++_};
 ghost use Prim.Native.Nat.{ℕ, _≤_, _<_};
-ghost use lib.Bits.{bitOr};
 ghost use Rattle.lines.specs.Scan.{Scanned, Spoiled};
 
 // kind 0: `count` marks and their masks; kind 1: a lone dot; kind 2: malformed, whatever follows.

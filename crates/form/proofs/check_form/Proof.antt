@@ -1,12 +1,8 @@
-use mathlib.Core.Path.{_≡_, refl, sym, _∙_, ap}
-use mathlib.Core.Bool.{Bool, true, false, cond, not}
+use mathlib.Core.Path.{_≡_, sym, _∙_}
 use lib.ListN.{length}
 use native.Mathlib.Omega.{arith}
-use Rattle.refusal.specs.declared.Outcome.{Outcome}
-use Rattle.refusal.specs.declared.Outcome.the-variants.{Accepted, Refused}
-use Rattle.sheet.specs.Reading.{Usable, whenAccepted}
 use Rattle.sheet.proofs.Headers.{counts}
-use Rattle.form.specs.Form.{formOf, outputsForm}
+use Rattle.form.specs.Form.{formOf}
 use Rattle.form.proofs.FormLaws.{checked-usable, when-so}
 use borrow.Author.Tests.{not-true, not-false}
 use borrow.Author.Needs.{needs}

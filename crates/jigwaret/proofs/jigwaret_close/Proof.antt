@@ -3,13 +3,13 @@ use mathlib.Core.Path.{_≡_, refl, sym, ap, subst, _∙_}
 use mathlib.Core.List.{List}
 use denote.Ref.{now}
 use native.Mathlib.Omega.{arith}
-use lib.ListN.{length, getD}
+use lib.ListN.{length}
 use lib.Seq.{paste, length-paste}
 use Rattle.refusal.specs.Numbers.{outcomeNo}
 use Rattle.sheet.specs.Checks.{outputsOf}
 use Rattle.record.specs.declared.JournalRecord.{JournalRecord}
 use Rattle.claims.specs.ReadSheet.{given, ClosingBytes}
-use Rattle.jigwaret.specs.Slices.{numbersOf, recordOf}
+use Rattle.jigwaret.specs.Slices.{numbersOf}
 use Rattle.jigwaret.specs.Journal.{slices, ClosingNumbered}
 use Rattle.monitor.specs.Checks.{closingChecks}
 use Rattle.jigwaret.proofs.JournalLaws.{record-refused, answer-refused, sizes-right, written, not-written, number-of, sheet-long, few-outputs}

@@ -1,14 +1,14 @@
-use mathlib.Core.Path.{_≡_, refl, sym, _∙_, ap, subst}
+use mathlib.Core.Path.{refl, sym, ap}
 use mathlib.Core.List.{_∷_, []}
 use denote.Ref.{now}
 use native.Mathlib.Omega.{arith}
-use lib.ListN.{length, set}
+use lib.ListN.{set}
 use lib.Seq.{paste}
 use Rattle.refusal.specs.Numbers.{outcomeNo}
-use Rattle.jigwaret.specs.Slices.{numbersOf, recordOf}
+use Rattle.jigwaret.specs.Slices.{numbersOf}
 use Rattle.jigwaret.specs.Journal.{slices, PreparationNumbered}
 use Rattle.jigwaret.proofs.SliceLaws.{set-first}
-use Rattle.jigwaret.proofs.JournalLaws.{record-refused, answer-refused, sizes-right, written, not-written, number-of, sheet-long, few-outputs}
+use Rattle.jigwaret.proofs.JournalLaws.{record-refused, answer-refused, sizes-right, written, not-written, number-of}
 use borrow.Author.Needs.{needs}
 use Rattle.jigwaret.proofs.jigwaret_prepare.Statement.{statement}
 use Rattle.jigwaret.proofs.jigwaret_prepare.Tie as tie

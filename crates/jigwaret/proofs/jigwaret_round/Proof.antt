@@ -2,13 +2,13 @@ use Prim.Native.Nat.{_≤_}
 use mathlib.Core.Path.{_≡_, refl, sym, ap, subst}
 use denote.Ref.{now}
 use native.Mathlib.Omega.{arith}
-use lib.ListN.{length, getD}
-use lib.Seq.{paste, length-paste}
+use lib.ListN.{length}
+use lib.Seq.{paste}
 use Rattle.refusal.specs.Numbers.{outcomeNo}
 use Rattle.sheet.specs.Checks.{outputsOf}
 use Rattle.record.specs.declared.JournalRecord.{JournalRecord}
 use Rattle.claims.specs.ReadSheet.{given, RoundBytes}
-use Rattle.jigwaret.specs.Slices.{numbersOf, recordOf}
+use Rattle.jigwaret.specs.Slices.{numbersOf}
 use Rattle.jigwaret.specs.Journal.{slices, RoundNumbered}
 use Rattle.monitor.specs.Checks.{roundChecks}
 use Rattle.jigwaret.proofs.JournalLaws.{record-refused, answer-refused, sizes-right, written, not-written, number-of, sheet-long, few-outputs}

@@ -1,4 +1,4 @@
-use mathlib.Core.Path.{_≡_, refl}
+use mathlib.Core.Path.{refl}
 use denote.Ref.{now}
 use Rattle.claims.specs.ReadSheet.{Accepts}
 use native.Mathlib.Omega.{arith}

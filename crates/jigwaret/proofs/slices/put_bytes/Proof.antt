@@ -1,7 +1,6 @@
-use Prim.Native.Nat.{ℕ, _+_, _-_, _≤_, _<_}
-use mathlib.Core.Path.{_≡_, refl, sym, _∙_, ap}
+use Prim.Native.Nat.{_-_, _≤_}
+use mathlib.Core.Path.{_≡_}
 use denote.Ref.{now}
-use lib.ListN.{length, getD}
 use Rattle.jigwaret.proofs.SliceLaws.{PutTo, put-none, put-more}
 use native.Mathlib.Omega.{arith}
 use borrow.Author.Needs.{needs}

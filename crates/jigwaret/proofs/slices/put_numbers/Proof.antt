@@ -1,10 +1,8 @@
-use Prim.Native.Nat.{ℕ, _+_, _-_, _≤_, _<_}
-use mathlib.Core.Path.{_≡_, refl, sym, _∙_, ap}
+use Prim.Native.Nat.{_-_, _≤_}
+use mathlib.Core.Path.{_≡_, refl}
 use denote.Ref.{now}
-use lib.ListN.{length, getD}
 use Rattle.jigwaret.proofs.SliceLaws.{PutTo, put-none, put-more}
 use native.Mathlib.Omega.{arith}
-use borrow.Author.Needs.{needs}
 use Rattle.jigwaret.proofs.slices.put_numbers.Statement.{statement}
 use Rattle.jigwaret.proofs.slices.put_numbers.Tie as tie
 use Rattle.jigwaret.proofs.slices.put_numbers.Reads as reads

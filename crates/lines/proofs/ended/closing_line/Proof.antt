@@ -1,4 +1,4 @@
-use mathlib.Core.Path.{_≡_, refl, sym}
+use mathlib.Core.Path.{refl, sym}
 use native.Mathlib.Omega.{arith}
 use Rattle.monitor.proofs.Rounding.{sheet-outputs}
 use Rattle.lines.proofs.LineEnds.{refused-ends, closing-ends, room-least, over-bound}

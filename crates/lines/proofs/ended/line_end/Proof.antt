@@ -1,4 +1,4 @@
-use mathlib.Core.Path.{_≡_, refl}
+use mathlib.Core.Path.{refl}
 use native.Mathlib.Omega.{arith}
 use Rattle.text.proofs.WroteLaws.{wrote-none}
 use Rattle.lines.proofs.LineEnds.{scanned-blank, scanned-dot, scanned-round, scanned-short, scanned-spoiled, malformed-ends, blank-ends, room-least, over-bound}

@@ -1,4 +1,4 @@
-use mathlib.Core.Path.{_≡_, refl}
+use mathlib.Core.Path.{refl}
 use native.Mathlib.Omega.{arith}
 use Rattle.lines.proofs.LineEnds.{refused-ends, round-ends, room-least, over-bound}
 use borrow.Author.Needs.{needs}

@@ -1,0 +1,32 @@
+-- The sheet of 463 bytes is accepted.
+use mathlib.Core.Bool.{Bool, true, false, not, false≢true}
+use mathlib.Core.Path.{_≡_, refl}
+use lib.Dec.{T}
+use Rattle.sheet.specs.Bytes.{opOf, readsOf}
+use Rattle.sheet.specs.Expression.{applyOp, final, parse}
+use Rattle.sheet.specs.Header.{markOk, versionOf, countsOk, assumedAt, headerOf}
+use Rattle.sheet.specs.RuleSheet.{RuleSheet, outputs, Reading, refused, accepted, readOutputs, readSheet}
+use Rattle.lola.specs.Reads.{hasRead}
+use Rattle.circular.specs.Circular.{edges, CircularSheet}
+use Rattle.circular.proofs.Decide.{circular?, circular?-of, circularAt, atLeast0, turned}
+use Rattle.circular.proofs.Closure.{Best, top, larger, plus, loop, pick, blow}
+use Rattle.words.specs.Below.{anyBelow}
+use Rattle.examples.specs.Table.{one-input}
+use Rattle.examples.specs.Longest.{longOutputs, longest, LongestMet}
+use Rattle.examples.proofs.Computed.{ofReading}
+
+not-so : (b : Bool) → T (not b) → b ≡ true → ⊥
+not-so false t e = false≢true e
+not-so true t e = t
+
+level : T (ofReading (readSheet longest) (λ x. not (circular? (outputs x) (edges x))))
+unfolding longest longOutputs one-input anyBelow readSheet headerOf markOk versionOf countsOk assumedAt readOutputs parse final applyOp opOf readsOf circular? circularAt atLeast0 Best top larger plus loop pick blow turned edges hasRead
+level = tt
+
+pub longest-met : LongestMet
+unfolding longest longOutputs one-input
+longest-met = (refl, go (readSheet longest) refl level)
+  where
+    go : (r : Reading) → readSheet longest ≡ r → T (ofReading r (λ x. not (circular? (outputs x) (edges x)))) → (x : RuleSheet) × (readSheet longest ≡ accepted x) × (CircularSheet x → ⊥)
+    go (refused r) e t = absurd t
+    go (accepted x) e t = (x, e, λ c. not-so (circular? (outputs x) (edges x)) t (circular?-of (outputs x) (edges x) c))

@@ -1,0 +1,68 @@
+//! How the cost of the proved library grows with one thing at a time.
+
+use crate::measure;
+use crate::timing::shortest;
+use crate::workloads::{dense, session_lines, Unheard, Workload};
+use jigwaret::raw;
+use outside::journal::{call_of_line, Call, Held};
+use outside::random::Random;
+use outside::sheet::{byte_of_read, write, NO_ASSUMPTION};
+
+/// Seconds of a preparation and of a round in which nothing was heard.
+pub struct Cost {
+    pub what: usize,
+    pub pairs: f64,
+    pub preparation: f64,
+    pub round: f64,
+}
+
+fn cost(what: usize, sheet: Vec<u8>, unheard: usize) -> Cost {
+    let workload = Workload { name: "growth", sheet, rounds: 12 };
+    let preparation = measure::prepare(&workload).times.proved;
+    let heeded = measure::rounds(&workload, Unheard::Share(unheard));
+    Cost { what, pairs: heeded.pairs, preparation, round: heeded.times.proved }
+}
+
+/// By the number of streams, half of them inputs, with expressions of 64 bytes.
+pub fn by_streams() -> Vec<Cost> {
+    (2..=8usize).map(|streams| cost(streams, dense(streams.div_ceil(2), streams / 2), 100)).collect()
+}
+
+/// By the bytes of an expression: the same values, with negations that cancel out.
+pub fn by_length() -> Vec<Cost> {
+    let sheet = |length: usize| {
+        let expression = |output: usize| {
+            let mut bytes = vec![byte_of_read(output, -1, false), byte_of_read(output + 1, 1, true), 0x03, 0x02];
+            bytes.resize(length, 0x02);
+            bytes
+        };
+        write(4, NO_ASSUMPTION, &[0, 1, 2].map(expression))
+    };
+    [4, 8, 16, 32, 64].map(|length| cost(length, sheet(length), 100)).into()
+}
+
+/// By the share of inputs that were not heard, and so by the pairs reached.
+pub fn by_unheard() -> Vec<Cost> {
+    [0, 10, 30, 60, 100].map(|share| cost(share, dense(4, 4), share)).into()
+}
+
+/// By the rounds of a journal: seconds of one round of it.
+pub fn by_rounds() -> Vec<(usize, f64)> {
+    let sheet = outside::cases::session_sheet();
+    let mut prepared = Held::fresh();
+    assert_eq!(raw::prepare(&sheet, &mut prepared.storage, &mut prepared.record, &mut prepared.answer), 0);
+    let mut seconds = |rounds: usize| {
+        let lines = session_lines(&mut Random::new(3), rounds);
+        let calls: Vec<Call> = lines.lines().map(call_of_line).collect();
+        let [whole] = shortest([&mut || {
+            let mut held = prepared.clone();
+            for call in &calls {
+                let Call::Round(heard) = call else { break };
+                let Held { storage, record, answer } = &mut held;
+                assert_eq!(raw::round(&sheet, storage, record, heard.known, heard.value, answer), 0);
+            }
+        }]);
+        (rounds, whole / rounds as f64)
+    };
+    [1_000, 10_000, 100_000].map(&mut seconds).into()
+}

@@ -30,10 +30,6 @@ module _ (n : ℕ) (E : ℕ → ℕ → ℕ → Bool) (N : ℕ) (f : (ℕ → �
       ∙ local .only v sol s t pl (λ q u r. right .all q u (record { s-lt = r .edge .to; t-low = r .u-low; t-high = r .u-high }) (λ c. nc (shorter j h (go r c))))
       ∙ sym (good .all s t pl)
 
-  -- a place that is left alone keeps what it had
-  pub kept-right : (j : ℕ) → w s t ≡ v s t → RightAt n E N sol j v s t → RightAt n E N sol j w s t
-  kept-right j e r nc = e ∙ r nc
-
 -- the start: nothing is claimed; the end: everything is right
 module _ (n : ℕ) (E : ℕ → ℕ → ℕ → Bool) (N : ℕ) (sol : ℕ → ℕ → Bool) where
   pub right-start : (v : ℕ → ℕ → Bool) → Right n E N sol 0 v

@@ -14,7 +14,7 @@ pub mod reads; // reads.rt: the reads between the outputs of a sheet
 mod table; // table.rt: the check on a table of reads
 
 // Rule 10, for a sheet that was read.
-pub fn is_circular(x: Sheet) -> bool
+fn is_circular(x: Sheet) -> bool
     requires { ⌜ Usable x ⌝ }
     ensures yes { λ r. ⌜ (r ≡ true → CircularSheet (ruleSheet x)) ⌝ }
     ensures no { λ r. ⌜ (r ≡ false → CircularSheet (ruleSheet x) → ⊥) ⌝ }

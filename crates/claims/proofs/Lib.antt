@@ -3,3 +3,4 @@ pub mod Refusals
 pub mod ThirdDemand
 pub mod Further
 pub mod Longest
+pub mod ReadSheet

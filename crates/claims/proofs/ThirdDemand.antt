@@ -18,7 +18,7 @@ use Rattle.refusal.specs.declared.Outcome.{Outcome}
 use Rattle.refusal.specs.declared.Outcome.the-variants.{Accepted, Refused}
 use Rattle.refusal.specs.declared.Verdict.{Verdict}
 use Rattle.refusal.specs.declared.Verdict.the-variants.{False, True, Open, Broken}
-use Rattle.refusal.specs.Numbers.{verdictNo}
+use Rattle.refusal.specs.Numbers.{verdictNo, verdictAt, verdictList}
 use Rattle.refusal.specs.Decided.{Decided}
 use Rattle.refusal.proofs.Decisions.{decided-once, decided-map}
 use Rattle.sheet.specs.RuleSheet.{RuleSheet, outputs, streams, accepted, readSheet}
@@ -47,7 +47,7 @@ use Rattle.monitor.specs.declared.RoundAnswer.{RoundAnswer}
 use Rattle.monitor.specs.declared.ClosingAnswer.{ClosingAnswer}
 use Rattle.claims.specs.Book.{Call, round, closing, Answer, refused, verdicts, closed, Book, emptyBook, isAt, counted, refusal, Each, BookStep, refuse, accept, close, BookRun}
 use Rattle.claims.specs.Book as book
-use Rattle.claims.specs.Session.{Held, verdictAt, verdictList, numberList, roundSays, closingSays, handed, SessionStep, a-round, a-closing, Session, finish, next, Matches}
+use Rattle.claims.specs.Session.{Held, numberList, roundSays, closingSays, handed, SessionStep, a-round, a-closing, Session, finish, next, Matches}
 use Rattle.claims.specs.Demands.{ThirdDemand, lent}
 use Rattle.claims.proofs.BookLaws.{no-entry, same-entry, map-snoc, Reaches, next-reaches, round-right, closing-right}
 use Rattle.claims.proofs.Refusals.{outcomeBy, SheetOk, round-decided, closing-decided, by-accepted, by-refused, room, front-holds}

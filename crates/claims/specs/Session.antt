@@ -7,7 +7,7 @@ use lib.ListN.{length, getD}
 use Rattle.refusal.specs.declared.Outcome.{Outcome}
 use Rattle.refusal.specs.declared.Outcome.the-variants.{Accepted, Refused}
 use Rattle.refusal.specs.declared.Verdict.{Verdict}
-use Rattle.refusal.specs.declared.Verdict.the-variants.{False, True, Open, Broken}
+use Rattle.refusal.specs.Numbers.{verdictList}
 use Rattle.refusal.specs.Decided.{Decided}
 use Rattle.sheet.specs.Checks.{outputsOf}
 use Rattle.sheet.specs.RuleSheet.{RuleSheet, outputs}
@@ -24,18 +24,7 @@ pub record Held : Type 0 where
   pub storage : List ℕ
   pub journal : JournalRecord
 
--- the verdict of a number
-abbrev pub verdictAt : ℕ → Verdict
-verdictAt zero = False
-verdictAt (suc zero) = True
-verdictAt (suc (suc zero)) = Open
-verdictAt (suc (suc (suc n))) = Broken
-
--- the first n of an answer's numbers, from number k on: as verdicts, and as they are
-abbrev pub verdictList : List ℕ → ℕ → ℕ → List Verdict
-verdictList vs k zero = []
-verdictList vs k (suc n) = verdictAt (getD vs k 0) ∷ verdictList vs (suc k) n
-
+-- the n numbers from place k on
 abbrev pub numberList : List ℕ → ℕ → ℕ → List ℕ
 numberList xs k zero = []
 numberList xs k (suc n) = getD xs k 0 ∷ numberList xs (suc k) n

@@ -1,7 +1,7 @@
 -- The backward search finds exactly the live pairs, and fewer rounds than there are live pairs are enough.
-use mathlib.Core.Bool.{Bool, true, false, not, _&&_}
-use mathlib.Core.Logic.{_⊎_, inl, inr, _↔_}
-use mathlib.Core.Path.{_≡_, refl, sym, ap, subst, _∙_}
+use mathlib.Core.Bool.{Bool, false, not, _&&_}
+use mathlib.Core.Logic.{_⊎_, inl, inr}
+use mathlib.Core.Path.{_≡_, refl, _∙_}
 use mathlib.Core.List.{List, [], _∷_, _++_}
 use mathlib.Core.Option.{Option, none, some}
 use Prim.Native.Nat.{ℕ, zero, suc, _+_, _*_, _^_, _≤_, _<_}
@@ -12,7 +12,7 @@ use lib.ListN.{length, getElem?, take, length-append, length-take}
 use Rattle.sheet.specs.RuleSheet.{RuleSheet, streams}
 use Rattle.lola.specs.Equations.{holds, first}
 use Rattle.completions.specs.Live.{allowed, Follows, Live, countPairs, Pairs}
-use Rattle.completions.proofs.Runs.{Round, Agrees, Run, Reached}
+use Rattle.completions.proofs.Runs.{Round, Agrees, Run}
 use Rattle.completions.specs.Steps.{anyNext, anyPair, Within, Represents}
 use Rattle.completions.proofs.Tests.{and-left, and-right, and-both, either, not-both}
 use Rattle.completions.proofs.Follow.{live-at, graft, agrees-graft, agrees-some, last-there}
@@ -103,10 +103,6 @@ module _ (s : RuleSheet) (w : ℕ) where
 
     pub complete-exact : (S : Pairs) → Complete s w S → Represents w S (Live s)
     complete-exact S c a b ha hb = (c .sound a b ha hb, λ h. rw (← h .starts) (closed-list S c a (h .rest) (h .from) (h .satisfies)))
-
-    -- one more valuation in front of a live pair: what keeps a search sound
-    pub step-live : (a b : ℕ) (c : Option ℕ) → T (allowed s a) → T (holds s (some a) b c) → Live s b c → Live s a (some b)
-    step-live a b c ok e h = record { from = ok; rest = b ∷ h .rest; starts = refl; satisfies = (h .from, rw (h .starts) e, h .satisfies) }
 
     -- ---- a layer with no pair is the last
 

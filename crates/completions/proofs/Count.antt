@@ -1,7 +1,7 @@
 -- Counts of numbers and pairs that pass a test.
-use mathlib.Core.Bool.{Bool, true, false, not, _&&_}
-use mathlib.Core.Logic.{_⊎_, inl, inr, _↔_}
-use mathlib.Core.Path.{_≡_, refl, sym, ap, ap₂, subst, _∙_}
+use mathlib.Core.Bool.{Bool, true, false, not}
+use mathlib.Core.Logic.{_⊎_, inl, inr}
+use mathlib.Core.Path.{_≡_, refl, sym, ap₂, _∙_}
 use mathlib.Core.Option.{Option, none, some}
 use Prim.Native.Nat.{ℕ, zero, suc, _+_, _*_, _≤_, _<_}
 use native.Mathlib.Nat.{not-suc-le-zero, eq-or-lt-of-le, le-of-suc-le-suc, suc-mul, zero-mul, add-zero, add-suc, le-antisymm}
@@ -57,10 +57,6 @@ pub sum-groups : (n m : ℕ) (g : ℕ → ℕ) → sumBelow (n * m) g ≡ sumBel
 sum-groups zero m g = rw (zero-mul m) (sum-zero g ∙ sym (sum-zero (λ j. sumBelow m (λ i. g (j * m + i)))))
 sum-groups (suc n) m g =
     rw (suc-mul n m) (omega (arith, sum-add (n * m) m g, sum-suc n (λ j. sumBelow m (λ i. g (j * m + i))), sum-groups n m g))
-
-pub sum-shift : (n : ℕ) (g : ℕ → ℕ) → sumBelow (suc n) g ≡ g 0 + sumBelow n (λ i. g (suc i))
-sum-shift zero g = omega (arith, sum-suc 0 g, sum-zero g, sum-zero (λ i. g (suc i)))
-sum-shift (suc n) g = omega (arith, sum-suc (suc n) g, sum-shift n g, sum-suc n (λ i. g (suc i)))
 
 pub sum-nothing : (n : ℕ) (g : ℕ → ℕ) → ((i : ℕ) → i < n → g i ≡ 0) → sumBelow n g ≡ 0
 unfolding sumBelow

@@ -13,7 +13,7 @@ use Rattle.words.specs.Bits.{bit, digit}
 use Rattle.words.specs.Below.{anyBelow, sumBelow, countBelow}
 use Rattle.refusal.specs.declared.Verdict.{Verdict}
 use Rattle.refusal.specs.declared.Verdict.the-variants.{False, True, Open, Broken}
-use Rattle.refusal.specs.Numbers.{verdictNo}
+use Rattle.refusal.specs.Numbers.{verdictNo, verdictAt}
 use Rattle.sheet.specs.Bytes.{opOf, readsOf}
 use Rattle.sheet.specs.Expression.{applyOp, final, parse}
 use Rattle.sheet.specs.Header.{markOk, versionOf, countsOk, assumedAt, headerOf}
@@ -34,7 +34,6 @@ use Rattle.completions.proofs.Letters.{onLetter}
 use Rattle.completions.proofs.Steps.{start-exact}
 use Rattle.claims.proofs.BookLaws.{round-right, reaches-closing}
 use Rattle.claims.proofs.ThirdDemand.{verdict-back}
-use Rattle.claims.specs.Session.{verdictAt}
 use Rattle.monitor.specs.Results.{width}
 use Rattle.examples.specs.Table.{Case, judged, circular, lives, values, unheard, Holds, one-input, session, table, Examples}
 

@@ -1,8 +1,12 @@
 // The functions that programs in C and Rust call: 0 for accepted, or the number of the refusal. A slice passes as a pointer, then its
 // length.
+mod slices;
+
 ghost use mathlib.Core.Path.{_≡_};
 ghost use lib.ListN.{length};
 ghost use Rattle.jigwaret.specs.Numbered.{Checked, EvaluatedAs};
+ghost use Rattle.jigwaret.specs.Journal.{slices as Journal·slices, PreparedAs, RoundAs, ClosedAs};
+use refusal::Outcome;
 
 // Rules 1 to 10.
 #[no_mangle]
@@ -18,4 +22,99 @@ pub extern "C" fn jigwaret_evaluate(sheet: &[u8], letters: &[u8], out: &mut [u8]
     ensures { λ r. ⌜ EvaluatedAs (now (sheet .entry)) (now (letters .entry)) (now (out .entry)) (now (out .exit)) r ⌝ }
 {
     refusal::outcome_number(trace::evaluate(sheet, letters, &mut out[..]))
+}
+
+// From here on: 255, and nothing altered, where a record has not 30 numbers or an answer fewer than 16.
+
+// Prepares the storage, makes the record fresh and writes the number of live pairs into answer[0].
+#[no_mangle]
+pub extern "C" fn jigwaret_prepare(
+    sheet: &[u8],
+    storage: &mut [u64],
+    journal: &mut [u32],
+    answer: &mut [u32],
+) -> u32
+    ensures { λ r. ⌜ PreparedAs (now (sheet .entry)) (now (storage .entry)) (now (storage .exit)) (Journal·slices (now (journal .entry)) (now (journal .exit)) (now (answer .entry)) (now (answer .exit))) r ⌝ }
+{
+    if journal.len() != 30 {
+        return 255;
+    }
+    if answer.len() < 16 {
+        return 255;
+    }
+    let a = monitor::prepare(sheet, storage);
+    let outcome = a.outcome;
+    match outcome {
+        Outcome::Refused(e) => refusal::refusal_number(e),
+        Outcome::Accepted => {
+            slices::store(journal, a.record);
+            answer[0] = a.live;
+            0
+        }
+    }
+}
+
+// A round: writes the verdict number of output k into answer[k].
+#[no_mangle]
+pub extern "C" fn jigwaret_round(
+    sheet: &[u8],
+    storage: &mut [u64],
+    journal: &mut [u32],
+    known: u8,
+    value: u8,
+    answer: &mut [u32],
+) -> u32
+    ensures { λ r. ⌜ RoundAs (now (sheet .entry)) (now (storage .entry)) (now (storage .exit)) known value (Journal·slices (now (journal .entry)) (now (journal .exit)) (now (answer .entry)) (now (answer .exit))) r ⌝ }
+{
+    if journal.len() != 30 {
+        return 255;
+    }
+    if answer.len() < 16 {
+        return 255;
+    }
+    let before = slices::load(journal);
+    let a = monitor::round(sheet, storage, before, known, value);
+    let outcome = a.outcome;
+    match outcome {
+        Outcome::Refused(e) => refusal::refusal_number(e),
+        Outcome::Accepted => {
+            slices::store(journal, a.record);
+            let verdicts = a.verdicts;
+            slices::put_bytes(answer, 0, &verdicts, sheet[6] as usize);
+            0
+        }
+    }
+}
+
+// A closing: writes the verdict number of output k into answer[k] and its share into answer[n + k].
+#[no_mangle]
+pub extern "C" fn jigwaret_close(
+    sheet: &[u8],
+    storage: &[u64],
+    journal: &mut [u32],
+    answer: &mut [u32],
+) -> u32
+    ensures { λ r. ⌜ ClosedAs (now (sheet .entry)) (now (storage .entry)) (Journal·slices (now (journal .entry)) (now (journal .exit)) (now (answer .entry)) (now (answer .exit))) r ⌝ }
+{
+    if journal.len() != 30 {
+        return 255;
+    }
+    if answer.len() < 16 {
+        return 255;
+    }
+    let before = slices::load(journal);
+    let a = monitor::close(sheet, storage, before);
+    let outcome = a.outcome;
+    match outcome {
+        Outcome::Refused(e) => refusal::refusal_number(e),
+        Outcome::Accepted => {
+            slices::store(journal, a.record);
+            let n = sheet[6] as usize;
+            let verdicts = a.verdicts;
+            slices::put_bytes(answer, 0, &verdicts, n);
+            let shares = a.shares;
+            slices::put_numbers(answer, n, &shares, n);
+            0
+        }
+    }
 }

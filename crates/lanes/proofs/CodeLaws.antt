@@ -7,14 +7,12 @@ use Prim.Native.Nat.{ℕ, zero, suc, _+_, _-_, _*_, _≤_, _<_}
 use native.Mathlib.Nat.{add-suc}
 use native.Mathlib.Numerals.{add-one}
 use native.Mathlib.Omega.{arith}
-use native.Mathlib.Decide.{decLt}
 use lib.ListN.{length, getD, take, drop}
 use Rattle.words.specs.Bits.{bit}
 use Rattle.sheet.specs.Expression.{Expr, constant, negation, conjunction, disjunction, read, parse, tree}
 use Rattle.sheet.specs.Postfix.{InSheet}
-use Rattle.sheet.specs.Reading.{Usable, Parses, treeOf, codeAt, treesOf}
+use Rattle.sheet.specs.Reading.{treeOf, codeAt, treesOf}
 use Rattle.sheet.specs.declared.Offset.{Offset}
-use Rattle.sheet.specs.declared.Sheet.{Sheet}
 use Rattle.sheet.proofs.Sheets.{length-trees}
 use Rattle.sheet.proofs.Postfixes.{tree-exactly}
 use Rattle.lola.specs.Value.{Look, value, neighbours}
@@ -22,9 +20,6 @@ use Rattle.lola.specs.Equations.{equations, holds}
 use Rattle.lanes.specs.Table.{tableLook}
 use Rattle.lanes.specs.Coded.{Coded, sheetOf, agreed}
 use Rattle.lanes.proofs.TableLaws.{Filled, filled-look}
-
-pub usable-coded : (x : Sheet) → Usable x → Coded (x .inputs) (x .outputs) (x .code) (x .len)
-usable-coded x u = record { ranges = u .ranges; room = u .room; sizes = u .sizes; small = u .small; parts = u .parts }
 
 -- ---- one equation more
 

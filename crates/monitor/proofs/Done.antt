@@ -1,11 +1,11 @@
 -- What a step, the verdicts and the tallies come to: a round and a closing as they are defined.
-use mathlib.Core.Path.{_≡_, refl, sym, ap, ap₂, _∙_, subst}
-use mathlib.Core.Bool.{Bool, true, false}
+use mathlib.Core.Path.{_≡_, sym, ap, ap₂, _∙_, subst}
+use mathlib.Core.Bool.{Bool, true}
 use mathlib.Core.List.{List}
-use mathlib.Core.Option.{Option, none, some}
-use Prim.Native.Nat.{ℕ, zero, suc, _+_, _*_, _%_, _^_, _<_, _≤_}
+use mathlib.Core.Option.{Option}
+use Prim.Native.Nat.{ℕ, _+_, _^_, _<_, _≤_}
 use native.Mathlib.Omega.{arith}
-use lib.ListN.{length, getD}
+use lib.ListN.{length}
 use lib.Pow.{pow-mono}
 use Rattle.words.specs.Bits.{bit}
 use Rattle.refusal.specs.declared.Verdict.{Verdict}
@@ -16,10 +16,10 @@ use Rattle.sheet.specs.Reading.{ruleSheet, Usable}
 use Rattle.sheet.specs.declared.Sheet.{Sheet}
 use Rattle.sheet.proofs.Sheets.{length-trees}
 use Rattle.lola.specs.Equations.{output}
-use Rattle.lanes.specs.Coded.{Coded, sheetOf}
+use Rattle.lanes.specs.Coded.{sheetOf}
 use Rattle.completions.specs.Live.{Pairs}
 use Rattle.completions.specs.Completion.{masked}
-use Rattle.completions.specs.Steps.{Within, startSet, stepSet, pairsVerdict, endsVerdict}
+use Rattle.completions.specs.Steps.{Within, stepSet, pairsVerdict, endsVerdict}
 use Rattle.letters.specs.Matching.{matches}
 use Rattle.pairs.specs.Storage.{stored}
 use Rattle.record.specs.Record.{Counted}
@@ -43,9 +43,6 @@ verdict-small Broken = omega arith
 
 pub told-are : (n : ℕ) (f : ℕ → Verdict) (vs : List ℕ) → Told n f vs → AreVerdicts n vs
 told-are n f vs x k h = subst (λ (z : ℕ). z ≤ 3) (sym (x .each k h)) (verdict-small (f k))
-
-pub coded : (x : Sheet) → Usable x → Coded (x .inputs) (x .outputs) (x .code) (x .len)
-coded x u = record { ranges = u .ranges; room = u .room; sizes = u .sizes; small = u .small; parts = u .parts }
 
 pub later-step : (m n : ℕ) (code len ks : List ℕ) (L S : Pairs) (r : ℕ → Bool) (t : ℕ) → (t ≡ 0 → ⊥)
     → nextSet (sheetOf m n code len ks) L t S r ≡ stepSet (sheetOf m n code len ks) (2 ^ (m + n)) L S r

@@ -23,7 +23,7 @@ use Rattle.record.specs.declared.JournalRecord.{JournalRecord}
 use Rattle.monitor.specs.declared.PrepareAnswer.{PrepareAnswer}
 use Rattle.monitor.specs.declared.RoundAnswer.{RoundAnswer}
 use Rattle.monitor.specs.declared.ClosingAnswer.{ClosingAnswer}
-use Rattle.monitor.specs.Results.{width, nextSet, PrepareResult, RoundResult, ClosingResult}
+use Rattle.monitor.specs.Results.{width, nextSet, AfterForm, PrepareResult, RoundResult, ClosingResult}
 use Rattle.monitor.proofs.Rounding.{sheet-outputs}
 
 module _ (bs : List ℕ) (g : Given) where
@@ -74,3 +74,14 @@ round-of Done Done′ s t r a (Refused e) f d = d
 pub closing-of : (Done Done′ : Type 0) (r : JournalRecord) (a : ClosingAnswer) (o : Outcome) → (Done → Done′) → ClosingResult Done r a o → ClosingResult Done′ r a o
 closing-of Done Done′ r a Accepted f d = f d
 closing-of Done Done′ r a (Refused e) f d = d
+
+-- a sheet already read: the form decides first
+pub form-refused : (f o : Outcome) (e : Refusal) (Call : Outcome → Type 0) → f ≡ Refused e → o ≡ Refused e → AfterForm f Call o
+form-refused f o e Call p q = subst (λ (y : Outcome). AfterForm y Call o) (sym p) q
+
+pub form-accepted : (f o : Outcome) (Call : Outcome → Type 0) → f ≡ Accepted → Call o → AfterForm f Call o
+form-accepted f o Call p d = subst (λ (y : Outcome). AfterForm y Call o) (sym p) d
+
+pub prepare-of : (Done Done′ : Type 0) (s t : List ℕ) (a : PrepareAnswer) (o : Outcome) → (Done → Done′) → PrepareResult Done s t a o → PrepareResult Done′ s t a o
+prepare-of Done Done′ s t a Accepted f d = f d
+prepare-of Done Done′ s t a (Refused e) f d = d

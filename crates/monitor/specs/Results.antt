@@ -98,6 +98,11 @@ pub record ClosingDone (x : RuleSheet) (s : List ℕ) (r : JournalRecord) (a : C
 abbrev pub OfSheet : List ℕ → (RuleSheet → Type 0) → Type 0
 OfSheet bs P = (x : RuleSheet) × (readSheet bs ≡ accepted x) × P x
 
+-- The outcome of an entry that takes the sheet already read: the form decides, and where it is right, the call's checks do.
+abbrev pub AfterForm : Outcome → (Outcome → Type 0) → Outcome → Type 0
+AfterForm Accepted Call o = Call o
+AfterForm (Refused r) Call o = o ≡ Refused r
+
 -- What each entry gives by its outcome: what is done where it is accepted; where it is refused nothing but the refusal, and what was
 -- lent or handed in has not altered.
 abbrev pub PrepareResult : Type 0 → List ℕ → List ℕ → PrepareAnswer → Outcome → Type 0

@@ -1,4 +1,5 @@
-// Preparation, rounds and closing of a journal.
+// Preparation, rounds and closing of a journal. Each takes the bytes of the sheet, or, with `_read` in its name, the sheet already read, so that
+// a long journal reads it once.
 ghost use mathlib.Core.Path.{_≡_};
 ghost use mathlib.Core.Bool.{true, false};
 ghost use Prim.Native.Nat.{ℕ, _+_, _*_, _^_, _<_, _≤_};
@@ -17,7 +18,8 @@ ghost use Rattle.lanes.specs.Coded.{Coded, sheetOf};
 ghost use Rattle.rounds.specs.Rows.{among};
 ghost use Rattle.rounds.specs.Round.{Rounded};
 ghost use Rattle.monitor.specs.Checks.{prepareChecks, rule, Broken, entryChecks};
-ghost use Rattle.monitor.specs.Results.{nextSet, Prepared, RoundDone, ClosingDone, OfSheet, PrepareResult, RoundResult, ClosingResult};
+ghost use Rattle.form.specs.Form.{formOf};
+ghost use Rattle.monitor.specs.Results.{nextSet, AfterForm, Prepared, RoundDone, ClosingDone, OfSheet, PrepareResult, RoundResult, ClosingResult};
 use record::JournalRecord;
 use refusal::Outcome;
 use refusal::Refusal;
@@ -148,6 +150,18 @@ fn accepted_preparation(x: Sheet, storage: &mut [u64]) -> PrepareAnswer
     }
 }
 
+// Preparation with a sheet that can be used.
+fn prepare_on(x: Sheet, storage: &mut [u64]) -> PrepareAnswer
+    requires { ⌜ Usable x ⌝ }
+    ensures decided { λ a. ⌜ ((r : JournalRecord) → Decided (CallBroken (x .inputs) (x .outputs) (given (length (now (storage .entry))) r 0 0)) callRule prepareChecks (a .outcome)) ⌝ }
+    ensures result { λ a. ⌜ PrepareResult (Prepared (ruleSheet x) (now (storage .entry)) (now (storage .exit)) a) (now (storage .entry)) (now (storage .exit)) a (a .outcome) ⌝ }
+{
+    if storage.len() < JournalRecord::STORAGE_WORDS {
+        return refused_preparation(Refusal::Storage);
+    }
+    accepted_preparation(x, storage)
+}
+
 // Prepares the storage for journals of a sheet: the live pairs, and their number.
 pub fn prepare(sheet: &[u8], storage: &mut [u64]) -> PrepareAnswer
     ensures decided { λ a. ⌜ ((r : JournalRecord) → Decided (Broken (now (sheet .entry)) (given (length (now (storage .entry))) r 0 0)) rule (entryChecks (now (sheet .entry)) prepareChecks) (a .outcome)) ⌝ }
@@ -157,12 +171,19 @@ pub fn prepare(sheet: &[u8], storage: &mut [u64]) -> PrepareAnswer
     let outcome = got.outcome;
     match outcome {
         Outcome::Refused(e) => refused_preparation(e),
-        Outcome::Accepted => {
-            if storage.len() < JournalRecord::STORAGE_WORDS {
-                return refused_preparation(Refusal::Storage);
-            }
-            accepted_preparation(got.sheet, storage)
-        }
+        Outcome::Accepted => prepare_on(got.sheet, storage),
+    }
+}
+
+// The same with the sheet already read.
+pub fn prepare_read(x: Sheet, storage: &mut [u64]) -> PrepareAnswer
+    ensures decided { λ a. ⌜ ((r : JournalRecord) → AfterForm (formOf x) (Decided (CallBroken (x .inputs) (x .outputs) (given (length (now (storage .entry))) r 0 0)) callRule prepareChecks) (a .outcome)) ⌝ }
+    ensures result { λ a. ⌜ PrepareResult (Prepared (ruleSheet x) (now (storage .entry)) (now (storage .exit)) a) (now (storage .entry)) (now (storage .exit)) a (a .outcome) ⌝ }
+{
+    let outcome = form::check_form(x);
+    match outcome {
+        Outcome::Refused(e) => refused_preparation(e),
+        Outcome::Accepted => prepare_on(x, storage),
     }
 }
 
@@ -214,7 +235,7 @@ fn accepted_round(
     }
 }
 
-// A round of a sheet that was read.
+// A round with a sheet that can be used.
 fn round_on(x: Sheet, storage: &mut [u64], r: JournalRecord, known: u8, value: u8) -> RoundAnswer
     requires { ⌜ Usable x ⌝ }
     ensures decided { λ a. ⌜ Decided (CallBroken (x .inputs) (x .outputs) (given (length (now (storage .entry))) r known value)) callRule roundChecks (a .outcome) ⌝ }
@@ -243,6 +264,24 @@ pub fn round(
     match outcome {
         Outcome::Refused(e) => refused_round(e, before),
         Outcome::Accepted => round_on(got.sheet, storage, before, known, value),
+    }
+}
+
+// The same with the sheet already read.
+pub fn round_read(
+    x: Sheet,
+    storage: &mut [u64],
+    before: JournalRecord,
+    known: u8,
+    value: u8,
+) -> RoundAnswer
+    ensures decided { λ a. ⌜ AfterForm (formOf x) (Decided (CallBroken (x .inputs) (x .outputs) (given (length (now (storage .entry))) before known value)) callRule roundChecks) (a .outcome) ⌝ }
+    ensures result { λ a. ⌜ RoundResult (RoundDone (ruleSheet x) (now (storage .entry)) (now (storage .exit)) before known value a) (now (storage .entry)) (now (storage .exit)) before a (a .outcome) ⌝ }
+{
+    let outcome = form::check_form(x);
+    match outcome {
+        Outcome::Refused(e) => refused_round(e, before),
+        Outcome::Accepted => round_on(x, storage, before, known, value),
     }
 }
 
@@ -286,7 +325,7 @@ fn accepted_closing(x: Sheet, storage: &[u64], r: JournalRecord) -> ClosingAnswe
     }
 }
 
-// A closing with a sheet that was read.
+// A closing with a sheet that can be used.
 fn closing_on(x: Sheet, storage: &[u64], r: JournalRecord) -> ClosingAnswer
     requires { ⌜ Usable x ⌝ }
     ensures decided { λ a. ⌜ Decided (CallBroken (x .inputs) (x .outputs) (given (length (now (storage .entry))) r 0 0)) callRule closingChecks (a .outcome) ⌝ }
@@ -309,5 +348,17 @@ pub fn close(sheet: &[u8], storage: &[u64], before: JournalRecord) -> ClosingAns
     match outcome {
         Outcome::Refused(e) => refused_closing(e, before),
         Outcome::Accepted => closing_on(got.sheet, storage, before),
+    }
+}
+
+// The same with the sheet already read.
+pub fn close_read(x: Sheet, storage: &[u64], before: JournalRecord) -> ClosingAnswer
+    ensures decided { λ a. ⌜ AfterForm (formOf x) (Decided (CallBroken (x .inputs) (x .outputs) (given (length (now (storage .entry))) before 0 0)) callRule closingChecks) (a .outcome) ⌝ }
+    ensures result { λ a. ⌜ ClosingResult (ClosingDone (ruleSheet x) (now (storage .entry)) before a) before a (a .outcome) ⌝ }
+{
+    let outcome = form::check_form(x);
+    match outcome {
+        Outcome::Refused(e) => refused_closing(e, before),
+        Outcome::Accepted => closing_on(x, storage, before),
     }
 }

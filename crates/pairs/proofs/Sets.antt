@@ -1,9 +1,9 @@
 -- Laws of the sets in the storage.
 use mathlib.Core.Path.{_≡_, refl, sym, ap, ap₂, _∙_}
-use mathlib.Core.Bool.{Bool, true, false, not, _&&_, _||_}
+use mathlib.Core.Bool.{Bool, true, false, _&&_, _||_}
 use mathlib.Core.List.{List}
 use mathlib.Core.Option.{Option, none, some}
-use Prim.Native.Nat.{ℕ, zero, suc, _+_, _-_, _*_, _/_, _%_, _^_, _≤_, _<_}
+use Prim.Native.Nat.{ℕ, _+_, _-_, _*_, _/_, _%_, _^_, _≤_, _<_}
 use native.Mathlib.Omega.{arith}
 use native.Mathlib.Decide.{ℕ-discrete, decLt}
 use borrow.Author.Tests.{eq-eqb, ne-eqb}
@@ -160,9 +160,6 @@ module _ (s t : List ℕ) (p : Copied s t) where
 
   pub copied-live : (x : ℕ) (y : Option ℕ) → x < 256 → Within 256 y → stored t 0 x y ≡ stored s 0 x y
   copied-live x y hx hy = stored-eq s t 0 0 x y hx hy (λ k g. p .before (0 + k) (omega arith))
-
-  pub copied-scratch : (x : ℕ) (y : Option ℕ) → x < 256 → Within 256 y → stored t 2056 x y ≡ stored s 2056 x y
-  copied-scratch x y hx hy = stored-eq s t 2056 2056 x y hx hy (λ k g. p .beyond (2056 + k) (omega arith))
 
 -- ---- the code's tests of one bit
 

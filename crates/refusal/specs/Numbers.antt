@@ -1,5 +1,7 @@
 -- The numbers of the refusals and the verdicts (01, "What is turned down", the table; "Completions and verdicts").
-use Prim.Native.Nat.{ℕ}
+use mathlib.Core.List.{List, [], _∷_}
+use Prim.Native.Nat.{ℕ, zero, suc}
+use lib.ListN.{getD}
 use Rattle.refusal.specs.declared.Refusal.{Refusal}
 use Rattle.refusal.specs.declared.Refusal.the-variants.{Short, Mark, Version, Counts, Assumption, Length, Byte, Values, Leftover, Circular, Letter, Closed, Full, NoRound, Storage, Extent, Line, Record}
 use Rattle.refusal.specs.declared.Outcome.{Outcome}
@@ -57,3 +59,14 @@ verdictNo False = 0
 verdictNo True = 1
 verdictNo Open = 2
 verdictNo Broken = 3
+
+-- the verdict of a number, and those of the n numbers from place k on
+abbrev pub verdictAt : ℕ → Verdict
+verdictAt zero = False
+verdictAt (suc zero) = True
+verdictAt (suc (suc zero)) = Open
+verdictAt (suc (suc (suc n))) = Broken
+
+abbrev pub verdictList : List ℕ → ℕ → ℕ → List Verdict
+verdictList vs k zero = []
+verdictList vs k (suc n) = verdictAt (getD vs k 0) ∷ verdictList vs (suc k) n

@@ -36,8 +36,8 @@ abbrev pub outputsBy : Outcome → List Expr → Outputs
 outputsBy outcome.Accepted ts = trees ts
 outputsBy (outcome.Refused r) ts = breaks r
 
-abbrev pub outputsOf : List ℕ → ℕ → ℕ → Layout → Outputs
-outputsOf bs s n r = outputsBy (r .outcome) (firstOf bs s (r .start) (r .len) n)
+abbrev pub laidOut : List ℕ → ℕ → ℕ → Layout → Outputs
+laidOut bs s n r = outputsBy (r .outcome) (firstOf bs s (r .start) (r .len) n)
 
 -- a stretch lies in the sheet, has 1 to 64 bytes, and parses
 pub record Stretch (bs : List ℕ) (s from n : ℕ) : Type 0 where

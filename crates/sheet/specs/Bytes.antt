@@ -1,4 +1,4 @@
--- The meaning of an expression byte.
+-- The meaning of an expression byte (01, "The sheet", the list of expression bytes).
 use Prim.Native.Nat.{ℕ, _+_, _-_}
 use mathlib.Core.Bool.{Bool, true, false, cond, _&&_}
 use lib.Dec.{leb, eqb}

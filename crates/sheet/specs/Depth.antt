@@ -1,4 +1,5 @@
--- The number of values on the stack after an operation, or the rule that it breaks: what the code keeps of a stack of trees.
+-- For the contracts of private functions: the number of values on the stack after an operation, or the rule that it breaks. The code keeps
+-- no more of a stack of trees.
 use Prim.Native.Nat.{ℕ, _+_, _-_}
 use mathlib.Core.Bool.{cond}
 use mathlib.Core.List.{List, [], _∷_}

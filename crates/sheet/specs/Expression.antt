@@ -1,4 +1,5 @@
--- Expressions as trees, and how postfix bytes are read: a stack of trees, on which each byte works.
+-- Expressions as trees, and how postfix bytes are read (01, "The sheet"): a stack of trees, on which each byte works; rules 7 and 8, byte by
+-- byte (01, "What is turned down").
 use Prim.Native.Nat.{ℕ}
 use mathlib.Core.Bool.{Bool, true, false, cond}
 use mathlib.Core.List.{List, [], _∷_}

@@ -1,4 +1,4 @@
--- The first 8 bytes of a sheet: rules 1 to 5, in their order.
+-- The first 8 bytes of a sheet (01, "The sheet"): rules 1 to 5, in their order (01, "What is turned down").
 use Prim.Native.Nat.{ℕ, _+_, _*_}
 use mathlib.Core.Bool.{Bool, true, false, cond, _&&_}
 use mathlib.Core.List.{List}

@@ -8,7 +8,7 @@ ghost use Rattle.sheet.specs.Expression.{parse, outcomeOf};
 ghost use Rattle.sheet.specs.Depth.{depthAfter};
 ghost use Rattle.sheet.specs.Header.{markOk, versionOf, countsOk, assumedAt, headerOf};
 ghost use Rattle.sheet.specs.RuleSheet.{readSheet, readOutputs};
-ghost use Rattle.sheet.specs.Answer.{outputAt, outputsOf, Stretches, Put, Fits, Packed};
+ghost use Rattle.sheet.specs.Answer.{outputAt, laidOut, Stretches, Put, Fits, Packed};
 ghost use Rattle.sheet.specs.Reading.{readingOf, whenAccepted, Usable};
 ghost use lib.ListN.{length, drop};
 use refusal::Outcome;
@@ -181,7 +181,7 @@ fn version(s: &[u8]) -> u32
     wide(s[3]) + 256 * wide(s[4])
 }
 
-fn counts_fit(m: u8, n: u8) -> bool
+pub fn counts_fit(m: u8, n: u8) -> bool
     ensures { λ r. ⌜ r ≡ countsOk m n ⌝ }
 {
     if m < 1 {
@@ -291,7 +291,7 @@ fn no_layout(r: Refusal) -> Layout
 // Reads the outputs, from byte 8 on, and what is left after them.
 fn read_outputs(s: &[u8], streams: u8, n: u8) -> Layout
     requires { ⌜ (8 ≤ length (now s)) × (n ≤ 7) ⌝ }
-    ensures reading { λ r. ⌜ outputsOf (now (s .entry)) streams n r ≡ readOutputs streams n (drop 8 (now (s .entry))) ⌝ }
+    ensures reading { λ r. ⌜ laidOut (now (s .entry)) streams n r ≡ readOutputs streams n (drop 8 (now (s .entry))) ⌝ }
     ensures stretches { λ r. ⌜ whenAccepted (r .outcome) (Stretches (now (s .entry)) streams n (r .start) (r .len)) ⌝ }
 {
     let outputs = n as usize;

@@ -18,7 +18,7 @@ use Rattle.sheet.specs.RuleSheet.{RuleSheet, Outputs, trees, breaks, accepted, 
 use Rattle.sheet.specs.declared.Assumed.{Assumed}
 use Rattle.sheet.specs.declared.Assumed.the-variants.{Nothing, Output}
 use Rattle.circular.specs.Checks as circular
-use Rattle.trace.specs.Checks.{EvaluationCheck, sheet, extent, letter, rule, Broken, letterChecks, checksOf}
+use Rattle.trace.specs.Checks.{sheet, extent, letter, rule, Broken, letterChecks, checksOf}
 use Rattle.trace.specs.Passes.{FirstBad}
 
 -- ---- the number of inputs is byte 5
@@ -59,9 +59,6 @@ inputs-byte bs x h = short (ltb (length bs) 8) refl
 -- ---- rules 16 and 11
 
 module _ (bs letters : List ℕ) (room : ℕ) where
-  abbrev runChecks : List EvaluationCheck
-  runChecks = extent ∷ letterChecks 0 (length letters)
-
   abbrev pub RunDecided : Outcome → Type 0
   RunDecided o = Decided (Broken bs letters room) rule (extent ∷ letterChecks 0 (length letters)) o
 

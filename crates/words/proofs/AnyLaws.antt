@@ -1,7 +1,7 @@
 -- Laws of `anyBelow`. Assumes nothing.
 use mathlib.Core.Path.{_≡_, refl, sym, ap, ap₂, _∙_}
 use mathlib.Core.Bool.{Bool, true, false, not, _||_}
-use Prim.Native.Nat.{ℕ, zero, suc, _+_, _-_, _*_, _/_, _%_, _^_, _≤_, _<_}
+use Prim.Native.Nat.{ℕ, zero, suc, _+_, _*_, _^_, _<_}
 use native.Mathlib.Nat.{add-suc, add-zero, suc-mul, zero-mul}
 use native.Mathlib.Numerals.{add-one}
 use native.Mathlib.Omega.{arith}
@@ -26,11 +26,6 @@ any-one n p = rw (add-one n)
 or-assoc : (u v w : Bool) → (u || (v || w)) ≡ ((u || v) || w)
 or-assoc true v w = refl
 or-assoc false v w = refl
-
-or-swap : (u v w : Bool) → (u || (v || w)) ≡ (v || (u || w))
-or-swap true true w = refl
-or-swap true false w = refl
-or-swap false v w = refl
 
 or-false : (u : Bool) → u ≡ (u || false)
 or-false true = refl

@@ -1,8 +1,7 @@
 -- Two numbers side by side: l in the low m bits, o above them. Assumes nothing.
-use mathlib.Core.Path.{_≡_, refl, sym, ap, ap₂, _∙_}
-use mathlib.Core.Bool.{Bool}
+use mathlib.Core.Path.{_≡_, sym, ap, _∙_}
 use Prim.Native.Nat.{ℕ, zero, suc, _+_, _-_, _*_, _/_, _%_, _^_, _≤_, _<_}
-use native.Mathlib.Nat.{div-eq-of-lt, mod-lt, mod-eq-of-lt, div-add-mod, div-lt-iff-lt-mul, add-mul-div-left, add-mul-mod-self-left, mul-le-mul-left, mul-comm, mul-assoc, pow-suc}
+use native.Mathlib.Nat.{div-eq-of-lt, mod-lt, mod-eq-of-lt, div-add-mod, add-mul-div-left, add-mul-mod-self-left, mul-le-mul-left, mul-comm, mul-assoc, pow-suc}
 use native.Mathlib.Omega.{arith}
 use lib.Dec.{eqb}
 use lib.Pow.{pow-pos, pow-add}
@@ -53,15 +52,7 @@ join-lt m n l o b c =
     let e : 2 ^ (m + n) ≡ 2 ^ m * 2 ^ n = pow-add 2 m n in
     omega (arith, mul-le-mul-left (2 ^ m) d)
 
-pub high-lt : (m n v : ℕ) → v < 2 ^ (m + n) → v / 2 ^ m < 2 ^ n
-high-lt m n v b =
-    let e : 2 ^ (m + n) ≡ 2 ^ n * 2 ^ m = pow-add 2 m n ∙ mul-comm (2 ^ m) (2 ^ n) in
-    div-lt-iff-lt-mul (pow-pos m) .1 (omega arith)
-
 -- a bit below m is one of the low part, and a bit from m on one of the high part
 pub bit-of-low : (m q v : ℕ) → q < m → bit q (v % 2 ^ m) ≡ bit q v
 bit-of-low m q v h =
     sym (bit-low m q (v % 2 ^ m) (v / 2 ^ m) h (low-lt m v)) ∙ ap (bit q) (join-parts m v)
-
-pub bit-of-high : (m k v : ℕ) → bit k (v / 2 ^ m) ≡ bit (m + k) v
-bit-of-high m k v = bit-shr k m v

@@ -1,4 +1,4 @@
--- Searches, sums and counts over the numbers below a bound.
+-- Searches, sums and counts over the numbers below a bound (01: the counts of live pairs and of verdicts).
 use mathlib.Core.Bool.{Bool, true, false, _||_}
 use Prim.Native.Nat.{ℕ, zero, suc, _+_}
 

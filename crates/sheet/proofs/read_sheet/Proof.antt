@@ -6,7 +6,7 @@ use lib.ListN.{length, getD, drop}
 use native.Mathlib.Omega.{arith}
 use Rattle.sheet.specs.Expression.{Expr}
 use Rattle.sheet.specs.RuleSheet.{readSheet, readOutputs, withOutputs, Outputs, trees}
-use Rattle.sheet.specs.Answer.{Stretches, outputsOf}
+use Rattle.sheet.specs.Answer.{Stretches, laidOut}
 use Rattle.sheet.proofs.Headers.{fields}
 use Rattle.sheet.proofs.Sheets.{packed-trees}
 use Rattle.sheet.proofs.Packing.{usable}

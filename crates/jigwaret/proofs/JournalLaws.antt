@@ -1,0 +1,72 @@
+-- The exported functions of a journal: the slices' sizes, byte 6 of an accepted sheet, and what an outcome leaves.
+use mathlib.Core.Bool.{Bool, true, false, _&&_}
+use mathlib.Core.Path.{_≡_, refl, sym, ap, _∙_, subst}
+use mathlib.Core.List.{List, List·Memᴰ·head}
+use Prim.Native.Nat.{ℕ, _≤_, _<_}
+use native.Mathlib.Omega.{arith}
+use native.Mathlib.Decide.{decLt}
+use lib.Dec.{eqb, leb}
+use lib.ListN.{length}
+use borrow.Author.Tests.{le-leb, lt-leb, lt-ltb, eq-eqb, ne-eqb}
+use Rattle.refusal.specs.declared.Refusal.{Refusal}
+use Rattle.refusal.specs.declared.Outcome.{Outcome}
+use Rattle.refusal.specs.declared.Outcome.the-variants.{Accepted, Refused}
+use Rattle.refusal.specs.Numbers.{refusalNo, outcomeNo}
+use Rattle.refusal.specs.Decided.{Decided}
+use Rattle.sheet.specs.RuleSheet.{RuleSheet}
+use Rattle.sheet.specs.Checks.{outputsOf, short, checksOf, broken?}
+use Rattle.circular.specs.Checks.{reading}
+use Rattle.monitor.specs.Checks.{Given, CallCheck, sheet, Broken, rule, entryChecks}
+use Rattle.sheet.proofs.Formed.{counts-of, read-formed}
+use Rattle.monitor.specs.Results.{OfSheet}
+use Rattle.jigwaret.specs.Slices.{sized}
+use Rattle.jigwaret.specs.Journal.{Slices, Written, BySizes}
+
+-- ---- sizes
+
+module _ (rec ans : List ℕ) where
+  wrong-record : (length rec ≡ 30 → ⊥) → sized rec ans ≡ false
+  wrong-record h = simp (ne-eqb (length rec) 30 h)
+
+  wrong-answer : length rec ≡ 30 → length ans < 16 → sized rec ans ≡ false
+  wrong-answer e h = simp (eq-eqb (length rec) 30 e, lt-leb 16 (length ans) h)
+
+  right-sizes : length rec ≡ 30 → 16 ≤ length ans → sized rec ans ≡ true
+  right-sizes e h = simp (eq-eqb (length rec) 30 e, le-leb 16 (length ans) h)
+
+module _ (Done : Type 0) (s rec ans : List ℕ) where
+  abbrev same : Slices
+  same = record { rec = rec; rec′ = rec; ans = ans; ans′ = ans }
+
+  pub record-refused : (length rec ≡ 30 → ⊥) → BySizes (sized rec ans) Done s s same 255
+  record-refused h = subst (λ (b : Bool). BySizes b Done s s same 255) (sym (wrong-record rec ans h)) (refl, refl, refl, refl)
+
+  pub answer-refused : length rec ≡ 30 → length ans < 16 → BySizes (sized rec ans) Done s s same 255
+  answer-refused e h = subst (λ (b : Bool). BySizes b Done s s same 255) (sym (wrong-answer rec ans e h)) (refl, refl, refl, refl)
+
+pub sizes-right : (Done : Type 0) (s t : List ℕ) (z : Slices) (r : ℕ) → length (z .rec) ≡ 30 → 16 ≤ length (z .ans) → Done → BySizes (sized (z .rec) (z .ans)) Done s t z r
+sizes-right Done s t z r e h d = subst (λ (b : Bool). BySizes b Done s t z r) (sym (right-sizes (z .rec) (z .ans) e h)) d
+
+-- ---- by the outcome
+
+pub written : (new answer : List ℕ) (z : Slices) (o : Outcome) → o ≡ Accepted → z .rec′ ≡ new → z .ans′ ≡ answer → Written new answer z o
+written new answer z o e p q = subst (Written new answer z) (sym e) (p, q)
+
+pub not-written : (new answer : List ℕ) (z : Slices) (o : Outcome) (r : Refusal) → o ≡ Refused r → z .rec′ ≡ z .rec → z .ans′ ≡ z .ans → Written new answer z o
+not-written new answer z o r e p q = subst (Written new answer z) (sym e) (p, q)
+
+pub number-of : (o : Outcome) (r : Refusal) (n : ℕ) → o ≡ Refused r → n ≡ refusalNo r → n ≡ outcomeNo o
+number-of o r n e f = f ∙ sym (ap outcomeNo e)
+
+-- ---- an accepted sheet has a byte 6, and it is at most 7
+
+pub sheet-long : (bs : List ℕ) (g : Given) (cs : List CallCheck) → Decided (Broken bs g) rule (entryChecks bs cs) Accepted → 8 ≤ length bs
+unfolding checksOf broken?
+sheet-long bs g cs d = go (decLt (length bs) 8)
+  where
+    go : Dec (length bs < 8) → 8 ≤ length bs
+    go (yes h) = absurd (d (sheet (reading short)) (List·Memᴰ·head refl) (lt-ltb (length bs) 8 h))
+    go (no h) = omega arith
+
+pub few-outputs : (bs : List ℕ) (P : RuleSheet → Type 0) → OfSheet bs P → outputsOf bs ≤ 7
+few-outputs bs P (x, e, p) = omega (arith, counts-of bs x e .1, read-formed bs x e .ranges .outputs)

@@ -1,0 +1,66 @@
+-- What the exported functions of preparation, rounds and closing give and leave: what `prepare`, `round` and `close` do with the record that the
+-- slice holds, its number, and for an accepted call the new record and the answer in their slices (01, "What is turned down").
+use mathlib.Core.Path.{_≡_}
+use mathlib.Core.Bool.{Bool, true, false}
+use mathlib.Core.List.{List, _∷_, []}
+use Prim.Native.Nat.{ℕ}
+use lib.Seq.{paste}
+use Rattle.refusal.specs.declared.Outcome.{Outcome}
+use Rattle.refusal.specs.declared.Outcome.the-variants.{Accepted, Refused}
+use Rattle.refusal.specs.Numbers.{outcomeNo}
+use Rattle.sheet.specs.Checks.{outputsOf}
+use Rattle.monitor.specs.declared.PrepareAnswer.{PrepareAnswer}
+use Rattle.monitor.specs.declared.RoundAnswer.{RoundAnswer}
+use Rattle.monitor.specs.declared.ClosingAnswer.{ClosingAnswer}
+use Rattle.claims.specs.ReadSheet.{PreparedBytes, RoundBytes, ClosingBytes}
+use Rattle.jigwaret.specs.Slices.{recordOf, numbersOf, sized}
+
+-- the record's and the answer's slices before and after
+pub record Slices : Type 0 where
+  pub rec : List ℕ
+  pub rec′ : List ℕ
+  pub ans : List ℕ
+  pub ans′ : List ℕ
+
+-- by the outcome: the record and the answer are written, or both are as they were
+abbrev pub Written : List ℕ → List ℕ → Slices → Outcome → Type 0
+Written new answer z Accepted = (z .rec′ ≡ new) × (z .ans′ ≡ answer)
+Written new answer z (Refused e) = (z .rec′ ≡ z .rec) × (z .ans′ ≡ z .ans)
+
+-- preparation: a fresh record, and the number of live pairs
+pub record PreparationNumbered (bs s t : List ℕ) (z : Slices) (r : ℕ) : Type 0 where
+  pub answer : PrepareAnswer
+  pub result : PreparedBytes bs s t answer
+  pub number : r ≡ outcomeNo (answer .outcome)
+  pub written : Written (numbersOf (answer .record)) (paste (z .ans) 0 (answer .live ∷ []) 1) z (answer .outcome)
+
+-- a round: the verdict numbers of the n outputs
+pub record RoundNumbered (bs s t : List ℕ) (known val : ℕ) (z : Slices) (r : ℕ) : Type 0 where
+  pub answer : RoundAnswer
+  pub result : RoundBytes bs s t (recordOf (z .rec)) known val answer
+  pub number : r ≡ outcomeNo (answer .outcome)
+  pub written : Written (numbersOf (answer .record)) (paste (z .ans) 0 (answer .verdicts) (outputsOf bs)) z (answer .outcome)
+
+-- a closing: those, and behind them the n shares
+pub record ClosingNumbered (bs s : List ℕ) (z : Slices) (r : ℕ) : Type 0 where
+  pub answer : ClosingAnswer
+  pub result : ClosingBytes bs s (recordOf (z .rec)) answer
+  pub number : r ≡ outcomeNo (answer .outcome)
+  pub written : Written (numbersOf (answer .record)) (paste (paste (z .ans) 0 (answer .verdicts) (outputsOf bs)) (outputsOf bs) (answer .shares) (outputsOf bs)) z (answer .outcome)
+
+-- by the sizes of the slices: where they are wrong, 255, and nothing has altered
+abbrev pub BySizes : Bool → Type 0 → List ℕ → List ℕ → Slices → ℕ → Type 0
+BySizes true Done s t z r = Done
+BySizes false Done s t z r = (r ≡ 255) × (t ≡ s) × (z .rec′ ≡ z .rec) × (z .ans′ ≡ z .ans)
+
+abbrev pub slices : List ℕ → List ℕ → List ℕ → List ℕ → Slices
+slices rec rec′ ans ans′ = record { rec = rec; rec′ = rec′; ans = ans; ans′ = ans′ }
+
+abbrev pub PreparedAs : List ℕ → List ℕ → List ℕ → Slices → ℕ → Type 0
+PreparedAs bs s t z r = BySizes (sized (z .rec) (z .ans)) (PreparationNumbered bs s t z r) s t z r
+
+abbrev pub RoundAs : List ℕ → List ℕ → List ℕ → ℕ → ℕ → Slices → ℕ → Type 0
+RoundAs bs s t known val z r = BySizes (sized (z .rec) (z .ans)) (RoundNumbered bs s t known val z r) s t z r
+
+abbrev pub ClosedAs : List ℕ → List ℕ → Slices → ℕ → Type 0
+ClosedAs bs s z r = BySizes (sized (z .rec) (z .ans)) (ClosingNumbered bs s z r) s s z r

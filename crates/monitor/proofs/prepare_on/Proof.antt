@@ -1,0 +1,54 @@
+use mathlib.Core.Path.{_≡_, refl}
+use mathlib.Core.List.{[]}
+use denote.Ref.{now}
+use lib.ListN.{length}
+use Rattle.refusal.specs.declared.Outcome.the-variants.{Accepted}
+use Rattle.sheet.specs.Reading.{ruleSheet}
+use Rattle.monitor.specs.Results.{Prepared}
+use Rattle.monitor.specs.Steps.{given}
+use Rattle.monitor.proofs.Checking.{short-storage, past-storage, none-left}
+use Rattle.monitor.proofs.Entries.{prepare-accepted}
+use borrow.Author.Needs.{needs}
+use Rattle.monitor.proofs.prepare_on.Statement.{statement}
+use Rattle.monitor.proofs.prepare_on.Tie as tie
+use Rattle.monitor.proofs.prepare_on.Reads as reads
+use Rattle.monitor.proofs.prepare_on.Lts as lts
+use Rattle.monitor.proofs.accepted_preparation.Reads as accepted-preparation-reads
+use Rattle.monitor.proofs.refused_preparation.Reads as refused-preparation-reads
+
+refused-preparation-requires : tie.Need-refused-preparation-requires
+refused-preparation-requires c κs = search needs
+
+returns : tie.Need-returns
+returns c =
+    let a = c .before .before .before .args in
+    let p = c .refused-preparation .ensures in (
+      (λ r. rw (p .0) (short-storage (a .x .inputs) (a .x .outputs) (given (length (now (a .storage))) r 0 0) [] (c .before .if1 .taken))),
+      rw (p .0) (refl, p .1, p .2),
+    )
+
+accepted-preparation-requires : tie.Need-accepted-preparation-requires
+accepted-preparation-requires c κs = search needs
+
+same-length : tie.Need-same-length
+same-length c = search needs
+
+returns-2 : tie.Need-returns-2
+returns-2 c =
+    let a = c .before .before .before .before .before .before .args in
+    let p = c .before .before .accepted-preparation in (
+      (λ r. rw (p .ensures .0)
+          (past-storage (a .x .inputs) (a .x .outputs) (given (length (now (a .storage))) r 0 0) [] Accepted (c .before .before .before .before .if1 .left)
+          (none-left (a .x .inputs) (a .x .outputs) (given (length (now (a .storage))) r 0 0)))),
+      prepare-accepted (Prepared (ruleSheet (a .x)) (now (a .storage)) (p .last .1 .0) (p .result)) (now (a .storage)) (p .last .1 .0) (p .result) (p .result .outcome) (p .ensures .0) (p .ensures .1),
+    )
+
+pub prepare-on-spec : {M : Type 1} → statement M
+prepare-on-spec =
+    tie.close
+    (tie.spec
+    refused-preparation-requires
+    returns
+    accepted-preparation-requires
+    same-length
+    returns-2)

@@ -8,37 +8,44 @@ use outside::journal::{call_of_line, Call, Held};
 use outside::random::Random;
 use outside::sheet::{byte_of_read, write, NO_ASSUMPTION};
 
-/// Seconds of a preparation and of a round in which nothing was heard.
+/// Seconds of a preparation and of a round.
 pub struct Cost {
-    pub what: usize,
+    /// How much there is of the thing that grows.
+    pub amount: usize,
     pub pairs: f64,
     pub preparation: f64,
     pub round: f64,
 }
 
-fn cost(what: usize, sheet: Vec<u8>, unheard: usize) -> Cost {
+/// Expressions of so many bytes, each of two reads and negations. Each reads an input one round
+/// earlier and another one round later.
+fn padded(inputs: usize, outputs: usize, length: usize) -> Vec<u8> {
+    let expression = |output: usize| {
+        let earlier = byte_of_read(output % inputs, -1, false);
+        let later = byte_of_read((output + 1) % inputs, 1, true);
+        let mut bytes = vec![earlier, later, 0x03];
+        bytes.resize(length, 0x02);
+        bytes
+    };
+    let expressions: Vec<Vec<u8>> = (0..outputs).map(expression).collect();
+    write(inputs as u8, NO_ASSUMPTION, &expressions)
+}
+
+fn cost(amount: usize, sheet: Vec<u8>, unheard: usize) -> Cost {
     let workload = Workload { name: "growth", sheet, rounds: 12 };
     let preparation = measure::prepare(&workload).times.proved;
     let heeded = measure::rounds(&workload, Unheard::Share(unheard));
-    Cost { what, pairs: heeded.pairs, preparation, round: heeded.times.proved }
+    Cost { amount, pairs: heeded.pairs, preparation, round: heeded.times.proved }
 }
 
-/// By the number of streams, half of them inputs, with expressions of 64 bytes.
+/// By the number of streams, half of them inputs, with expressions of 15 bytes and nothing heard.
 pub fn by_streams() -> Vec<Cost> {
-    (2..=8usize).map(|streams| cost(streams, dense(streams.div_ceil(2), streams / 2), 100)).collect()
+    (2..=8usize).map(|streams| cost(streams, padded(streams.div_ceil(2), streams / 2, 15), 100)).collect()
 }
 
 /// By the bytes of an expression: the same values, with negations that cancel out.
 pub fn by_length() -> Vec<Cost> {
-    let sheet = |length: usize| {
-        let expression = |output: usize| {
-            let mut bytes = vec![byte_of_read(output, -1, false), byte_of_read(output + 1, 1, true), 0x03, 0x02];
-            bytes.resize(length, 0x02);
-            bytes
-        };
-        write(4, NO_ASSUMPTION, &[0, 1, 2].map(expression))
-    };
-    [4, 8, 16, 32, 64].map(|length| cost(length, sheet(length), 100)).into()
+    [3, 7, 15, 31, 63].map(|length| cost(length, padded(4, 3, length), 100)).into()
 }
 
 /// By the share of inputs that were not heard, and so by the pairs reached.

@@ -46,7 +46,7 @@ fn document() -> String {
         program = report::program(&program::time()),
         by_streams = report::costs("streams", &growth::by_streams()),
         by_length = report::costs("bytes of an expression", &growth::by_length()),
-        by_unheard = report::costs("of 100 inputs not heard", &growth::by_unheard()),
+        by_unheard = report::round_costs("of 100 inputs not heard", &growth::by_unheard()),
         by_rounds = report::lengths(&growth::by_rounds()),
     )
 }

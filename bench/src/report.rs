@@ -121,13 +121,22 @@ pub fn program(timed: &Result<Timed, String>) -> String {
     }
 }
 
-/// Costs as multiples of the first one's.
+/// Costs of rounds as multiples of the first one's.
+pub fn round_costs(what: &str, all: &[Cost]) -> String {
+    table(
+        &[what, "pairs reached", "a round"],
+        all.iter()
+            .map(|each| vec![each.amount.to_string(), format!("{:.0}", each.pairs), ratio(each.round / all[0].round)]),
+    )
+}
+
+/// The same with preparation.
 pub fn costs(what: &str, all: &[Cost]) -> String {
     table(
         &[what, "pairs reached", "preparation", "a round"],
         all.iter().map(|each| {
             vec![
-                each.what.to_string(),
+                each.amount.to_string(),
                 format!("{:.0}", each.pairs),
                 ratio(each.preparation / all[0].preparation),
                 ratio(each.round / all[0].round),

@@ -4,6 +4,7 @@ use crate::measure;
 use crate::timing::shortest;
 use crate::workloads::{dense, session_lines, Unheard, Workload};
 use jigwaret::raw;
+use outside::cases::session_sheet;
 use outside::journal::{call_of_line, Call, Held};
 use outside::random::Random;
 use outside::sheet::{byte_of_read, write, NO_ASSUMPTION};
@@ -53,23 +54,30 @@ pub fn by_unheard() -> Vec<Cost> {
     [0, 10, 30, 60, 100].map(|share| cost(share, dense(4, 4), share)).into()
 }
 
-/// By the rounds of a journal: seconds of one round of it.
+/// How many rounds are timed at once.
+const STRETCH: usize = 500;
+
+/// By the rounds that a journal holds: seconds of a round after so many others.
 pub fn by_rounds() -> Vec<(usize, f64)> {
-    let sheet = outside::cases::session_sheet();
-    let mut prepared = Held::fresh();
-    assert_eq!(raw::prepare(&sheet, &mut prepared.storage, &mut prepared.record, &mut prepared.answer), 0);
-    let mut seconds = |rounds: usize| {
-        let lines = session_lines(&mut Random::new(3), rounds);
-        let calls: Vec<Call> = lines.lines().map(call_of_line).collect();
-        let [whole] = shortest([&mut || {
-            let mut held = prepared.clone();
-            for call in &calls {
-                let Call::Round(heard) = call else { break };
-                let Held { storage, record, answer } = &mut held;
+    let sheet = session_sheet();
+    let lines = session_lines(&mut Random::new(3), STRETCH);
+    let calls: Vec<Call> = lines.lines().map(call_of_line).collect();
+    let play = |held: &mut Held| {
+        for call in &calls {
+            if let Call::Round(heard) = call {
+                let Held { storage, record, answer } = &mut *held;
                 assert_eq!(raw::round(&sheet, storage, record, heard.known, heard.value, answer), 0);
             }
-        }]);
-        (rounds, whole / rounds as f64)
+        }
     };
-    [1_000, 10_000, 100_000].map(&mut seconds).into()
+    let mut held = Held::fresh();
+    assert_eq!(raw::prepare(&sheet, &mut held.storage, &mut held.record, &mut held.answer), 0);
+    let seconds = |before: usize| {
+        while (held.record[0] as usize) < before {
+            play(&mut held);
+        }
+        let [time] = shortest([&mut || play(&mut held.clone())]);
+        (before, time / STRETCH as f64)
+    };
+    [0, 10_000, 100_000, 999_000].map(seconds).into()
 }

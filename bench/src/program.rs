@@ -1,5 +1,6 @@
 //! The proved program `journal` and the unproved one on the same journal.
 
+use crate::timing::clock;
 use crate::workloads::session_lines;
 use outside::cases::session_sheet;
 use outside::random::Random;
@@ -8,17 +9,17 @@ use std::fs::{self, File};
 use std::io;
 use std::path::{Path, PathBuf};
 use std::process::{Command, Stdio};
-use std::time::Instant;
 
 pub const ROUNDS: usize = 1_000_000;
 const REPEATS: usize = 5;
 
-/// Seconds of both, or what is missing.
+/// Seconds of both.
 pub struct Timed {
     pub proved: f64,
     pub fast: f64,
 }
 
+/// Times both programs, or tells what is missing.
 pub fn time() -> Result<Timed, String> {
     let package = Path::new(env!("CARGO_MANIFEST_DIR"));
     let proved = package.join("../target/bin/journal");
@@ -57,7 +58,7 @@ fn run(program: &PathBuf, folder: &Path, output: &Path) -> io::Result<f64> {
     let input = File::open(folder.join("lines"))?;
     let mut command = Command::new(program);
     command.current_dir(folder).stdin(Stdio::from(input)).stdout(Stdio::from(File::create(output)?));
-    let start = Instant::now();
+    let start = clock::of_children();
     command.status()?;
-    Ok(start.elapsed().as_secs_f64())
+    Ok(clock::of_children() - start)
 }

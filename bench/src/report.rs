@@ -147,7 +147,7 @@ pub fn costs(what: &str, all: &[Cost]) -> String {
 
 pub fn lengths(all: &[(usize, f64)]) -> String {
     table(
-        &["rounds", "a round"],
+        &["rounds before", "a round"],
         all.iter().map(|(rounds, seconds)| vec![rounds.to_string(), ratio(seconds / all[0].1)]),
     )
 }

@@ -1,12 +1,13 @@
-//! Shortest times of runs that take turns, so that a busy machine spoils all of them alike.
+//! Shortest times of runs that take turns, in processor time, so that a busy machine spoils little and
+//! all of them alike.
 
 use std::time::{Duration, Instant};
 
-/// What is timed at once lasts so long at least.
-const SHORTEST_BATCH: Duration = Duration::from_micros(300);
+/// What is timed at once lasts so long at least, in seconds.
+const SHORTEST_BATCH: f64 = 300e-6;
 /// The turns go on for so long, and there are so many at least.
-const PATIENCE: Duration = Duration::from_millis(600);
-const FEWEST_TURNS: usize = 4;
+const PATIENCE: Duration = Duration::from_millis(800);
+const FEWEST_TURNS: usize = 5;
 
 /// The shortest time of one run of each, in seconds.
 pub fn shortest<const N: usize>(mut runs: [&mut dyn FnMut(); N]) -> [f64; N] {
@@ -14,7 +15,7 @@ pub fn shortest<const N: usize>(mut runs: [&mut dyn FnMut(); N]) -> [f64; N] {
         // The first run finds cold caches.
         runs[i]();
         let once = time(&mut runs[i], 1).max(1e-8);
-        (SHORTEST_BATCH.as_secs_f64() / once).ceil() as u32
+        (SHORTEST_BATCH / once).ceil() as u32
     });
     let mut best = [f64::INFINITY; N];
     let start = Instant::now();
@@ -30,7 +31,39 @@ pub fn shortest<const N: usize>(mut runs: [&mut dyn FnMut(); N]) -> [f64; N] {
 
 /// The mean time of one run in a batch.
 fn time(run: &mut dyn FnMut(), batch: u32) -> f64 {
-    let start = Instant::now();
+    let start = clock::of_thread();
     (0..batch).for_each(|_| run());
-    start.elapsed().as_secs_f64() / batch as f64
+    (clock::of_thread() - start) / batch as f64
+}
+
+/// Processor time, from the C library that the standard library links.
+pub mod clock {
+    const THREAD_CLOCK: i32 = 3;
+    const CHILDREN: i32 = -1;
+
+    mod ffi {
+        extern "C" {
+            pub fn clock_gettime(clock: i32, seconds_and_nanoseconds: *mut [i64; 2]) -> i32;
+            pub fn getrusage(who: i32, usage: *mut [i64; 18]) -> i32;
+        }
+    }
+
+    /// Seconds that this thread has used.
+    pub fn of_thread() -> f64 {
+        let mut time = [0; 2];
+        // SAFETY: the function writes two numbers.
+        let failed = unsafe { ffi::clock_gettime(THREAD_CLOCK, &mut time) };
+        assert_eq!(failed, 0, "a clock of processor time");
+        time[0] as f64 + time[1] as f64 * 1e-9
+    }
+
+    /// Seconds that all processes used that were started from here and have ended.
+    pub fn of_children() -> f64 {
+        let mut usage = [0; 18];
+        // SAFETY: the function writes eighteen numbers, of which the first four are seconds and
+        // microseconds in the program and in the system.
+        let failed = unsafe { ffi::getrusage(CHILDREN, &mut usage) };
+        assert_eq!(failed, 0, "the times of the programs run");
+        (usage[0] + usage[2]) as f64 + (usage[1] + usage[3]) as f64 * 1e-6
+    }
 }

@@ -196,7 +196,7 @@ joined-at m (a ∷ ls) [] h i l = absurd (omega arith)
 joined-at m (a ∷ ls) (o ∷ os) h zero l = refl
 joined-at m (a ∷ ls) (o ∷ os) h (suc i) l = joined-at m ls os (omega arith) i (omega arith)
 
-joined-letters : (x : RuleSheet) (ls os : List ℕ) → Letters (x .inputs) ls → length ls ≤ length os → map (letter x) (joined (x .inputs) ls os) ≡ ls
+pub joined-letters : (x : RuleSheet) (ls os : List ℕ) → Letters (x .inputs) ls → length ls ≤ length os → map (letter x) (joined (x .inputs) ls os) ≡ ls
 joined-letters x [] os g h = refl
 joined-letters x (l ∷ ls) [] g h = absurd (omega arith)
 joined-letters x (l ∷ ls) (o ∷ os) g h = ap₂ _∷_ (join-mod (x .inputs) l o (g .0)) (joined-letters x ls os (g .1) (omega arith))

@@ -1,7 +1,7 @@
 -- The verdicts read off the reached set are the book's, and the book leaves nothing open.
 use mathlib.Core.Bool.{Bool, true, false, not, cond}
 use mathlib.Core.Path.{_≡_, refl, sym, ap, ap₂, subst, _∙_}
-use mathlib.Core.List.{List, [], _∷_, _++_, map}
+use mathlib.Core.List.{List, [], _∷_, _++_, map, append-nil, append-assoc}
 use mathlib.Core.Option.{Option, none, some}
 use Prim.Native.Nat.{ℕ, zero, suc, _+_, _^_, _≤_, _<_}
 use native.Mathlib.Omega.{arith}
@@ -73,8 +73,20 @@ module _ (x : RuleSheet) (L : Pairs) (live : Represents (width x) L (Live x)) wh
   next-reaches (q ∷ qs) S zero r e h = absurd (omega arith)
   next-reaches (q ∷ qs) S (suc t) r e h = step-exact x w small L live S q qs h r
 
+  -- some set holds what any list of rounds reaches
+  reached-from : (rest done : List LetterSet) (S : Pairs) → Reaches (onLetters x done) S → (T : Pairs) × Reaches (onLetters x (done ++ rest)) T
+  reached-from [] done S h = (S, subst (λ (z : List LetterSet). Reaches (onLetters x z) S) (sym (append-nil done)) h)
+  reached-from (r ∷ rest) done S h =
+      let N : Pairs = nextSet x L (length (onLetters x done)) S (onLetter x r) in
+      let e : Reaches (onLetters x (done ++ r ∷ [])) N = rw (map-snoc (onLetter x) done r) (next-reaches (onLetters x done) S (length (onLetters x done)) (onLetter x r) refl h) in
+      let z = reached-from rest (done ++ r ∷ []) N e in
+      (z .0, subst (λ (y : List LetterSet). Reaches (onLetters x y) (z .0)) (append-assoc done (r ∷ []) rest) (z .1))
+
+  pub reached-by : (rs : List LetterSet) → (T : Pairs) × Reaches (onLetters x rs) T
+  reached-by rs = reached-from rs [] L tt
+
   -- the verdicts of rounds, of which there is one or more
-  reaches-round : (q : LetterSet) (qs : List LetterSet) (S : Pairs) → Reaches (onLetters x (q ∷ qs)) S → (k : ℕ) → RoundVerdict x (q ∷ qs) k (pairsVerdict w S (output x k))
+  pub reaches-round : (q : LetterSet) (qs : List LetterSet) (S : Pairs) → Reaches (onLetters x (q ∷ qs)) S → (k : ℕ) → RoundVerdict x (q ∷ qs) k (pairsVerdict w S (output x k))
   unfolding RoundVerdict
   reaches-round q qs S h k =
       letters-verdict x (q ∷ qs) (suc (length qs)) (output x k) _

@@ -5,6 +5,7 @@ use mathlib.Core.Option.{none}
 use Prim.Native.Nat.{ℕ, suc, _+_, _^_, _≤_, _<_}
 use native.Mathlib.Omega.{arith}
 use lib.ListN.{length, length-map}
+use lib.Pow.{pow-mono}
 use Rattle.refusal.specs.declared.Verdict.{Verdict}
 use Rattle.sheet.specs.RuleSheet.{RuleSheet, outputs, streams}
 use Rattle.lola.specs.Equations.{output, letter}
@@ -15,11 +16,14 @@ use Rattle.completions.specs.Steps.{Represents}
 use Rattle.completions.proofs.Verdicts.{one-verdict}
 use Rattle.completions.proofs.Letters.{onLetter, onLetters, completion-of, run-of}
 use Rattle.completions.proofs.Backward.{prefix-short, small-256}
+use Rattle.monitor.specs.Results.{width}
+use Rattle.monitor.proofs.Rounding.{wider}
 use Rattle.record.proofs.Tallies.{RecordOk, record-is}
 use Rattle.claims.specs.Book.{Book, Call, Answer, emptyBook}
 use Rattle.claims.specs.Session.{Held, Session, finish, next}
 use Rattle.claims.specs.Demands.{lent}
-use Rattle.claims.specs.Further.{OneVerdict, StaysBroken, ShortCompletion, InOrder, StaysInOrder}
+use Rattle.claims.specs.Further.{OneVerdict, SomeVerdict, StaysBroken, ShortCompletion, InOrder, StaysInOrder}
+use Rattle.claims.proofs.BookLaws.{reached-by, reaches-round, reaches-closing}
 use Rattle.claims.proofs.Refusals.{SheetOk}
 use Rattle.claims.proofs.ThirdDemand.{Tracks, Follows, one-call, prepared-tracks, sheet-accepted, storage-enough}
 
@@ -29,6 +33,13 @@ one-verdict-fits x rs k v w = (
   one-verdict (Completion x rs) (λ ls c. inRound (length rs) (output x k) (c .trace)) v w,
   one-verdict (Closing x rs) (λ ls c. inRound (length rs) (output x k) (c .complete .trace)) v w,
 )
+
+pub some-verdict-fits : SomeVerdict
+some-verdict-fits x few L live r rs k =
+    let small : width x ≤ 256 = pow-mono few in
+    let own : Represents (width x) L (Live x) = λ b c hb hc. live b c (omega arith) (wider (width x) small c hc) in
+    let z = reached-by x L own (r ∷ rs) in
+    ((_, reaches-round x L own r rs (z .0) (z .1) k), (_, reaches-closing x L own r rs (z .0) (z .1) k))
 
 match-less : (rs : List LetterSet) (r : LetterSet) (ls : List ℕ) → Match (rs ++ r ∷ []) ls → Match rs ls
 match-less [] r ls g = tt

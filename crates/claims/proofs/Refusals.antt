@@ -1,7 +1,8 @@
 -- The checks of a round and of a closing decide as the book does, once the sheet, the storage and the record are right.
 use mathlib.Core.Path.{_≡_, refl, sym, ap, _∙_, subst}
 use mathlib.Core.Bool.{Bool, true, false, cond, true≢false, false≢true}
-use mathlib.Core.List.{List, [], _∷_, _++_, map, List·Memᴰ, Memᴰ·append-left}
+use mathlib.Core.List.{List, [], _∷_, _++_, map, List·Memᴰ, List·Memᴰ·head, List·Memᴰ·tail, List·Memᴰ·not-nil, List·Memᴰ·cases-cons, Memᴰ·append-left}
+use mathlib.Core.Logic.{⊎-elim}
 use mathlib.Core.Option.{Option, none, some}
 use Prim.Native.Nat.{ℕ, zero, suc, _≤_, _<_}
 use native.Mathlib.Omega.{arith}
@@ -32,6 +33,11 @@ module _ {C : Type 0} (B : C → Type 0) (rule : C → Refusal) where
   -- the checks in front hold too
   pub front-holds : (cs ds : List C) → Decided B rule (cs ++ ds) Accepted → Decided B rule cs Accepted
   front-holds cs ds h c m = h c (Memᴰ·append-left ds m)
+
+-- a check by another name
+pub mem-map : {C D : Type 0} (f : C → D) (c : C) (cs : List C) → List·Memᴰ c cs → List·Memᴰ (f c) (map f cs)
+mem-map f c [] m = absurd (List·Memᴰ·not-nil m)
+mem-map f c (d ∷ cs) m = ⊎-elim (λ e. List·Memᴰ·head (ap f e)) (λ k. List·Memᴰ·tail (mem-map f c cs k)) (List·Memᴰ·cases-cons m)
 
 -- the sheet's own checks hold
 pub record SheetOk (bs : List ℕ) (x : RuleSheet) : Type 0 where

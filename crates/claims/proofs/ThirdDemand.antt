@@ -1,8 +1,7 @@
 -- The third demand: after an accepted preparation every list of calls is answered as the book answers it.
 use mathlib.Core.Path.{_≡_, refl, sym, ap, ap₂, _∙_, subst}
 use mathlib.Core.Bool.{Bool, true, false, _&&_}
-use mathlib.Core.Logic.{_↔_, ⊎-elim}
-use mathlib.Core.List.{List, [], _∷_, _++_, map, List·Memᴰ, List·Memᴰ·head, List·Memᴰ·tail, List·Memᴰ·not-nil, List·Memᴰ·cases-cons, Memᴰ·append-right}
+use mathlib.Core.List.{List, [], _∷_, _++_, map, List·Memᴰ·head, Memᴰ·append-right}
 use mathlib.Core.Option.{Option, none, some}
 use Prim.Native.Nat.{ℕ, zero, suc, _+_, _*_, _^_, _≤_, _<_}
 use native.Mathlib.Omega.{arith}
@@ -24,7 +23,6 @@ use Rattle.refusal.proofs.Decisions.{decided-once, decided-map}
 use Rattle.sheet.specs.RuleSheet.{RuleSheet, outputs, streams, accepted, readSheet}
 use Rattle.sheet.specs.Checks.{outputsOf}
 use Rattle.sheet.proofs.Formed.{counts-of, read-formed}
-use Rattle.circular.specs.Checks.{SheetCheck}
 use Rattle.circular.specs.Checks as sheets
 use Rattle.lola.specs.Equations.{output}
 use Rattle.completions.specs.Live.{Pairs, Live}
@@ -50,7 +48,7 @@ use Rattle.claims.specs.Book as book
 use Rattle.claims.specs.Session.{Held, numberList, roundSays, closingSays, handed, SessionStep, a-round, a-closing, Session, finish, next, Matches}
 use Rattle.claims.specs.Demands.{ThirdDemand, lent}
 use Rattle.claims.proofs.BookLaws.{no-entry, same-entry, map-snoc, Reaches, next-reaches, round-right, closing-right}
-use Rattle.claims.proofs.Refusals.{outcomeBy, SheetOk, round-decided, closing-decided, by-accepted, by-refused, room, front-holds}
+use Rattle.claims.proofs.Refusals.{outcomeBy, SheetOk, round-decided, closing-decided, by-accepted, by-refused, room, front-holds, mem-map}
 
 -- ---- lists of verdicts and shares
 
@@ -325,14 +323,10 @@ module _ (bs : List ℕ) (x : RuleSheet) (ok : SheetOk bs x) where
 
 -- ---- the sheet's checks hold where preparation is accepted
 
-mem-sheet : (c : SheetCheck) (cs : List SheetCheck) → List·Memᴰ c cs → List·Memᴰ (checks.sheet c) (map checks.sheet cs)
-mem-sheet c [] m = absurd (List·Memᴰ·not-nil m)
-mem-sheet c (d ∷ cs) m = ⊎-elim (λ e. List·Memᴰ·head (ap checks.sheet e)) (λ k. List·Memᴰ·tail (mem-sheet c cs k)) (List·Memᴰ·cases-cons m)
-
 module _ (bs : List ℕ) (g : checks.Given) (d : Decided (checks.Broken bs g) checks.rule (checks.entryChecks bs checks.prepareChecks) Accepted) where
   pub sheet-accepted : Decided (sheets.Broken bs) sheets.rule (sheets.checksOf bs) Accepted
   sheet-accepted c m b =
-      front-holds (checks.Broken bs g) checks.rule (map checks.sheet (sheets.checksOf bs)) (map checks.call checks.prepareChecks) d (checks.sheet c) (mem-sheet c (sheets.checksOf bs) m) b
+      front-holds (checks.Broken bs g) checks.rule (map checks.sheet (sheets.checksOf bs)) (map checks.call checks.prepareChecks) d (checks.sheet c) (mem-map checks.sheet c (sheets.checksOf bs) m) b
 
   pub storage-enough : 3084 ≤ g .lent
   storage-enough = go (decLt (g .lent) 3084)

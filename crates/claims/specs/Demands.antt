@@ -2,16 +2,31 @@
 use mathlib.Core.Path.{_≡_}
 use mathlib.Core.List.{List}
 use Prim.Native.Nat.{ℕ}
-use lib.ListN.{length}
+use lib.ListN.{length, take}
 use Rattle.refusal.specs.declared.Outcome.the-variants.{Accepted}
 use Rattle.refusal.specs.Decided.{Decided}
 use Rattle.sheet.specs.RuleSheet.{RuleSheet, accepted, readSheet}
+use Rattle.lola.specs.Equations.{joined}
+use Rattle.circular.specs.Unique.{TraceOf}
+use Rattle.trace.specs.Checks as traces
+use Rattle.trace.specs.Evaluated.{Evaluated}
 use Rattle.record.specs.declared.JournalRecord.{JournalRecord}
 use Rattle.monitor.specs.Checks as checks
 use Rattle.monitor.specs.Results.{OfSheet, Prepared}
 use Rattle.monitor.specs.declared.PrepareAnswer.{PrepareAnswer}
 use Rattle.claims.specs.Book.{Call, Answer, Book, emptyBook, BookRun}
 use Rattle.claims.specs.Session.{Held, Session, Matches}
+
+-- The second demand, for evaluation (01, "Whole traces"): what an accepted evaluation of the letters ls writes makes with them a trace of the
+-- sheet, and there is no other. Which sheets are circular is said by `circular/specs/Circular.antt` and decided by rule 10.
+abbrev pub SecondDemand : Type 0
+SecondDemand =
+    (bs ls old new : List ℕ)
+    → Decided (traces.Broken bs ls (length old)) traces.rule (traces.checksOf bs ls) Accepted
+    → Evaluated bs ls old new Accepted
+    → (x : RuleSheet) × (readSheet bs ≡ accepted x)
+    × TraceOf x ls (joined (x .inputs) ls (take (length ls) new))
+    × ((vs : List ℕ) → TraceOf x ls vs → vs ≡ joined (x .inputs) ls (take (length ls) new))
 
 -- what preparation is handed: the storage lent; it takes no record and no masks, so these may be any
 abbrev pub lent : List ℕ → JournalRecord → checks.Given

@@ -32,6 +32,12 @@ OneVerdict =
     (x : RuleSheet) (rs : List LetterSet) (k : ℕ) (v w : Verdict)
     → (RoundVerdict x rs k v → RoundVerdict x rs k w → v ≡ w) × (ClosingVerdict x rs k v → ClosingVerdict x rs k w → v ≡ w)
 
+-- and one does, on every output, whatever was heard: L are the live pairs, as preparation leaves them
+abbrev pub SomeVerdict : Type 0
+SomeVerdict =
+    (x : RuleSheet) → streams x ≤ 8 → (L : Pairs) → Represents 256 L (Live x) → (r : LetterSet) (rs : List LetterSet) (k : ℕ)
+    → ((v : Verdict) × RoundVerdict x (r ∷ rs) k v) × ((v : Verdict) × ClosingVerdict x (r ∷ rs) k v)
+
 -- once broken, every later round is broken
 abbrev pub StaysBroken : Type 0
 StaysBroken = (x : RuleSheet) (rs : List LetterSet) (r : LetterSet) (k j : ℕ) → RoundVerdict x rs k Broken → RoundVerdict x (rs ++ r ∷ []) j Broken

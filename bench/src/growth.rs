@@ -35,8 +35,8 @@ fn padded(inputs: usize, outputs: usize, length: usize) -> Vec<u8> {
 fn cost(amount: usize, sheet: Vec<u8>, unheard: usize) -> Cost {
     let workload = Workload { name: "growth", sheet, rounds: 12 };
     let preparation = measure::prepare(&workload).times.proved;
-    let heeded = measure::rounds(&workload, Unheard::Share(unheard));
-    Cost { amount, pairs: heeded.pairs, preparation, round: heeded.times.proved }
+    let found = measure::rounds(&workload, Unheard::Share(unheard));
+    Cost { amount, pairs: found.pairs, preparation, round: found.times.proved }
 }
 
 /// By the number of streams, half of them inputs, with expressions of 15 bytes and nothing heard.

@@ -3,13 +3,16 @@
 
 use crate::fast::entries::{self, Journal};
 use crate::fast::{trace, Sheet};
-use crate::timing::shortest;
+use crate::timing::{shortest, shortest_by_parts, Parts};
 use crate::workloads::{self, Unheard, Workload};
 use jigwaret::raw;
 use outside::journal::{Answer, Book, Held};
 use outside::monitor::{Heard, Monitor};
 use outside::{circular, language};
 use std::hint::black_box;
+
+/// Rounds are timed in parts that last so long at least, in seconds.
+const SHORTEST_PART: f64 = 60e-6;
 
 /// Seconds.
 #[derive(Clone, Copy)]
@@ -20,13 +23,13 @@ pub struct Times {
     pub plain: f64,
 }
 
-pub struct Checked {
+pub struct CheckTimes {
     pub name: &'static str,
     pub bytes: usize,
     pub times: Times,
 }
 
-pub struct Prepared {
+pub struct PreparationTimes {
     pub name: &'static str,
     pub inputs: usize,
     pub outputs: usize,
@@ -35,7 +38,7 @@ pub struct Prepared {
     pub times: Times,
 }
 
-pub struct Heeded {
+pub struct RoundTimes {
     pub name: &'static str,
     pub unheard: Unheard,
     /// The mean number of pairs reached.
@@ -46,7 +49,7 @@ pub struct Heeded {
     pub kept: f64,
 }
 
-pub struct Evaluated {
+pub struct TraceTimes {
     pub name: &'static str,
     pub rounds: usize,
     pub times: Times,
@@ -57,7 +60,7 @@ fn times([proved, fast, plain]: [f64; 3]) -> Times {
 }
 
 /// Rules 1 to 10.
-pub fn check(name: &'static str, sheet: &[u8]) -> Checked {
+pub fn check(name: &'static str, sheet: &[u8]) -> CheckTimes {
     let expected = circular::accept(sheet).err().unwrap_or(0);
     assert_eq!((raw::check(sheet), Sheet::accept(sheet).err().unwrap_or(0)), (expected, expected), "{name}");
     let found = shortest([
@@ -65,10 +68,10 @@ pub fn check(name: &'static str, sheet: &[u8]) -> Checked {
         &mut || assert_eq!(Sheet::accept(black_box(sheet)).err().unwrap_or(0), expected),
         &mut || assert_eq!(circular::accept(black_box(sheet)).err().unwrap_or(0), expected),
     ]);
-    Checked { name, bytes: sheet.len(), times: times(found) }
+    CheckTimes { name, bytes: sheet.len(), times: times(found) }
 }
 
-pub fn prepare(workload: &Workload) -> Prepared {
+pub fn prepare(workload: &Workload) -> PreparationTimes {
     let sheet = &workload.sheet;
     let monitor = Monitor::new(sheet).expect("an accepted sheet");
     let journal = Journal::prepare(Sheet::accept(sheet).expect("an accepted sheet"));
@@ -83,7 +86,7 @@ pub fn prepare(workload: &Workload) -> Prepared {
         &mut || assert_eq!(entries::prepare(sheet, &mut second.storage, &mut second.record, &mut second.answer), 0),
         &mut || assert!(black_box(Monitor::new(sheet)).is_ok()),
     ]);
-    Prepared {
+    PreparationTimes {
         name: workload.name,
         inputs: sheet[5] as usize,
         outputs: sheet[6] as usize,
@@ -110,34 +113,50 @@ fn fast_round(sheet: &[u8], held: &mut Held, heard: Heard) -> u32 {
     entries::round(sheet, &mut held.storage, &mut held.record, heard.known, heard.value, &mut held.answer)
 }
 
-pub fn rounds(workload: &Workload, unheard: Unheard) -> Heeded {
+pub fn rounds(workload: &Workload, unheard: Unheard) -> RoundTimes {
     let sheet = &workload.sheet;
     let monitor = Monitor::new(sheet).expect("an accepted sheet");
     let heard = workloads::rounds(workload, &monitor, unheard);
     let pairs = same_answers(workload, &monitor, &heard);
     let (prepared, _) = both_prepared(sheet);
     let journal = Journal::prepare(Sheet::accept(sheet).expect("an accepted sheet"));
-    let (mut first, mut second, mut third) = (prepared.clone(), prepared.clone(), journal.clone());
-    let [proved, fast, kept, plain] = shortest([
-        &mut || {
-            first.clone_from(&prepared);
-            heard.iter().for_each(|&round| assert_eq!(proved_round(sheet, &mut first, round), 0));
+    // So many rounds at once last long enough to be timed, even with the fastest monitor.
+    let [fastest] = shortest([&mut || play_kept(&mut journal.clone(), &heard)]);
+    let length = (SHORTEST_PART / fastest * heard.len() as f64).ceil() as usize;
+    let each_part = |parts: &mut Parts, play: &mut dyn FnMut(&[Heard])| {
+        parts.end_part();
+        for part in heard.chunks(length) {
+            play(part);
+            parts.end_part();
+        }
+    };
+    let [proved, fast, kept, plain] = shortest_by_parts([
+        &mut |parts| {
+            let mut held = prepared.clone();
+            let mut take = |&round: &Heard| assert_eq!(proved_round(sheet, &mut held, round), 0);
+            each_part(parts, &mut |part| part.iter().for_each(&mut take));
         },
-        &mut || {
-            second.clone_from(&prepared);
-            heard.iter().for_each(|&round| assert_eq!(fast_round(sheet, &mut second, round), 0));
+        &mut |parts| {
+            let mut held = prepared.clone();
+            let mut take = |&round: &Heard| assert_eq!(fast_round(sheet, &mut held, round), 0);
+            each_part(parts, &mut |part| part.iter().for_each(&mut take));
         },
-        &mut || {
-            third.clone_from(&journal);
-            heard.iter().for_each(|round| assert!(third.round(round.known, round.value).is_ok()));
+        &mut |parts| {
+            let mut kept = journal.clone();
+            each_part(parts, &mut |part| play_kept(&mut kept, part));
         },
-        &mut || {
+        &mut |parts| {
             let mut book = Book::new(&monitor);
-            heard.iter().for_each(|&round| assert!(book.round(round).is_ok()));
+            let mut take = |&round: &Heard| assert!(book.round(round).is_ok());
+            each_part(parts, &mut |part| part.iter().for_each(&mut take));
         },
     ])
     .map(|time| time / heard.len() as f64);
-    Heeded { name: workload.name, unheard, pairs, times: Times { proved, fast, plain }, kept }
+    RoundTimes { name: workload.name, unheard, pairs, times: Times { proved, fast, plain }, kept }
+}
+
+fn play_kept(journal: &mut Journal, heard: &[Heard]) {
+    heard.iter().for_each(|round| assert!(journal.round(round.known, round.value).is_ok()));
 }
 
 /// Plays a journal on all sides and compares numbers, verdicts, records and storage after each call.
@@ -173,7 +192,7 @@ fn same_answers(workload: &Workload, monitor: &Monitor, heard: &[Heard]) -> f64 
     pairs as f64 / heard.len() as f64
 }
 
-pub fn evaluate(workload: &Workload, rounds: usize) -> Evaluated {
+pub fn evaluate(workload: &Workload, rounds: usize) -> TraceTimes {
     let (sheet, name) = (&workload.sheet, workload.name);
     let letters = workloads::letters(workload, rounds);
     let expected = language::evaluate(sheet, &letters, rounds).expect("an accepted sheet");
@@ -185,5 +204,5 @@ pub fn evaluate(workload: &Workload, rounds: usize) -> Evaluated {
         &mut || assert_eq!(trace::evaluate(sheet, &letters, &mut second), 0),
         &mut || assert!(black_box(language::evaluate(sheet, &letters, rounds)).is_ok()),
     ]);
-    Evaluated { name, rounds, times: times(found) }
+    TraceTimes { name, rounds, times: times(found) }
 }

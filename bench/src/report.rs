@@ -1,7 +1,7 @@
 //! The measurements as a document.
 
 use crate::growth::Cost;
-use crate::measure::{Checked, Evaluated, Heeded, Prepared};
+use crate::measure::{CheckTimes, PreparationTimes, RoundTimes, TraceTimes};
 use crate::program::{Timed, ROUNDS};
 use std::fmt::Write;
 use std::fs;
@@ -34,7 +34,7 @@ fn seconds(value: f64) -> String {
     }
 }
 
-pub fn checks(all: &[Checked]) -> String {
+pub fn checks(all: &[CheckTimes]) -> String {
     table(
         &["sheet", "bytes", "proved : fast", "plain : proved", "proved, time here"],
         all.iter().map(|each| {
@@ -50,7 +50,7 @@ pub fn checks(all: &[Checked]) -> String {
     )
 }
 
-pub fn preparations(all: &[Prepared]) -> String {
+pub fn preparations(all: &[PreparationTimes]) -> String {
     table(
         &["sheet", "inputs", "outputs", "live pairs", "reach", "proved : fast", "plain : proved", "proved, time here"],
         all.iter().map(|each| {
@@ -69,7 +69,7 @@ pub fn preparations(all: &[Prepared]) -> String {
     )
 }
 
-pub fn rounds(all: &[Heeded]) -> String {
+pub fn rounds(all: &[RoundTimes]) -> String {
     table(
         &[
             "sheet",
@@ -95,7 +95,7 @@ pub fn rounds(all: &[Heeded]) -> String {
     )
 }
 
-pub fn traces(all: &[Evaluated]) -> String {
+pub fn traces(all: &[TraceTimes]) -> String {
     table(
         &["sheet", "rounds", "proved : fast", "plain : proved", "proved, time here"],
         all.iter().map(|each| {

@@ -6,8 +6,45 @@ use std::time::{Duration, Instant};
 /// What is timed at once lasts so long at least, in seconds.
 const SHORTEST_BATCH: f64 = 300e-6;
 /// The turns go on for so long, and there are so many at least.
-const PATIENCE: Duration = Duration::from_millis(800);
+const PATIENCE: Duration = Duration::from_millis(1200);
 const FEWEST_TURNS: usize = 5;
+
+/// The times of the parts of a run.
+pub struct Parts {
+    last: f64,
+    times: Vec<f64>,
+}
+
+impl Parts {
+    fn start() -> Parts {
+        Parts { last: clock::of_thread(), times: Vec::new() }
+    }
+
+    /// Ends a part and begins the next.
+    pub fn end_part(&mut self) {
+        let now = clock::of_thread();
+        self.times.push(now - self.last);
+        self.last = now;
+    }
+}
+
+/// For each run the shortest times of its parts, added up, in seconds. A run begins with a part that
+/// does not count, and has as many parts each time.
+pub fn shortest_by_parts<const N: usize>(mut runs: [&mut dyn FnMut(&mut Parts); N]) -> [f64; N] {
+    let mut best: [Vec<f64>; N] = std::array::from_fn(|_| Vec::new());
+    let start = Instant::now();
+    let mut turns = 0;
+    while turns < FEWEST_TURNS || start.elapsed() < PATIENCE {
+        for (run, best) in runs.iter_mut().zip(&mut best) {
+            let mut parts = Parts::start();
+            run(&mut parts);
+            best.resize(parts.times.len(), f64::INFINITY);
+            best.iter_mut().zip(&parts.times).for_each(|(best, time)| *best = best.min(*time));
+        }
+        turns += 1;
+    }
+    best.map(|times| times[1..].iter().sum())
+}
 
 /// The shortest time of one run of each, in seconds.
 pub fn shortest<const N: usize>(mut runs: [&mut dyn FnMut(); N]) -> [f64; N] {

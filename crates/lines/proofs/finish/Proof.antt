@@ -1,0 +1,58 @@
+use mathlib.Core.Path.{_≡_, refl, sym, subst}
+use mathlib.Core.List.{List, _++_}
+use Prim.Native.Nat.{ℕ}
+use native.Mathlib.Omega.{arith}
+use Rattle.lines.specs.Printed.{Printed}
+use Rattle.lines.proofs.Feeding.{over-last, stands-midway, none-last, line-last, room-most}
+use borrow.Author.Needs.{needs}
+use Rattle.lines.proofs.finish.Statement.{statement}
+use Rattle.lines.proofs.finish.Tie as tie
+use Rattle.lines.proofs.finish.Reads as reads
+use Rattle.lines.proofs.finish.Lts as lts
+use Rattle.lines.proofs.ended.line_end.Reads as line-end-reads
+use Rattle.lines.proofs.pending.Pending.is_blank.Reads as is-blank-reads
+
+returns : tie.Need-returns
+returns c = (λ sheet seen wrote st. over-last sheet _ _ _ seen wrote st (c .if1 .taken), omega arith)
+
+is-blank-requires : tie.Need-is-blank-requires
+is-blank-requires c κs = search needs
+
+returns-2 : tie.Need-returns-2
+returns-2 c = (
+  λ sheet seen wrote st.
+      let m = stands-midway sheet _ _ _ seen wrote st (c .before .before .before .before .if1 .left) in
+      none-last sheet _ _ _ _ seen wrote m (c .before .is-blank .ensures .0 (c .if2 .taken) _ (m .part) (m .scanned)),
+  omega arith,
+)
+
+line-end-requires : tie.Need-line-end-requires
+line-end-requires c κs = (c .before .before .before .before .before .before .before .before .before .pre .0, omega (arith, room-most (c .before .before .before .before .before .before .before .before .before .args .s .record .closed), c .before .before .before .before .before .before .before .before .before .pre .1))
+
+same-length : tie.Need-same-length
+same-length c = search needs
+
+same-length-2 : tie.Need-same-length-2
+same-length-2 c = search needs
+
+returns-3 : tie.Need-returns-3
+returns-3 c =
+    let e = c .before .before .before .before .line-end in (
+      λ sheet seen wrote st.
+          let m = stands-midway sheet _ _ _ seen wrote st (c .before .before .before .before .before .before .before .before .before .before .before .if1 .left) in
+          let le = e .ensures .0 sheet (m .book) (m .part) (st .accepts) (m .serves) (m .scanned) in
+          subst (λ (z : List ℕ). Printed sheet seen (wrote ++ z)) (sym (le .wrote .text)) (line-last sheet _ _ _ _ seen wrote m _ _ _ _ _ le (c .before .before .before .before .before .before .before .before .is-blank .ensures .1 (c .before .before .before .before .before .before .before .if2 .left) _ (m .part) (m .scanned))),
+      omega (arith, e .ensures .1, room-most (c .before .before .before .before .before .before .before .before .before .before .before .before .before .before .args .s .record .closed), c .before .before .before .before .before .before .before .before .before .before .before .before .before .before .pre .1),
+    )
+
+pub finish-spec : {M : Type 1} → statement M
+finish-spec =
+    tie.close
+    (tie.spec
+    returns
+    is-blank-requires
+    returns-2
+    line-end-requires
+    same-length
+    same-length-2
+    returns-3)

@@ -1,0 +1,75 @@
+use mathlib.Core.Path.{_≡_, refl}
+use denote.Ref.{now}
+use Rattle.claims.specs.ReadSheet.{Accepts}
+use native.Mathlib.Omega.{arith}
+use Rattle.lines.proofs.Serving.{serves-prepared}
+use Rattle.lines.proofs.Feeding.{refused-start, midway-start}
+use borrow.Author.Needs.{needs}
+use Rattle.lines.proofs.start.Statement.{statement}
+use Rattle.lines.proofs.start.Tie as tie
+use Rattle.lines.proofs.start.Reads as reads
+use Rattle.lines.proofs.start.Lts as lts
+use Rattle.circular.proofs.accept_sheet.Reads as accept-sheet-reads
+use Rattle.lines.proofs.pending.Pending.empty.Reads as empty-reads
+use Rattle.monitor.proofs.prepare_read.Reads as prepare-read-reads
+use Rattle.record.proofs.JournalRecord.fresh.Reads as fresh-reads
+use Rattle.text.proofs.sheet_refusal.Reads as sheet-refusal-reads
+
+accept-sheet-requires : tie.Need-accept-sheet-requires
+accept-sheet-requires c κs = search needs
+
+empty-requires : tie.Need-empty-requires
+empty-requires c κs = search needs
+
+enum-known-outcome : tie.Need-enum-known-outcome
+enum-known-outcome c = search needs
+
+sheet-refusal-requires : tie.Need-sheet-refusal-requires
+sheet-refusal-requires c κs = search needs
+
+fresh-requires : tie.Need-fresh-requires
+fresh-requires c κs = search needs
+
+enum-told : tie.Need-enum-told
+enum-told c = search needs
+
+prepare-read-requires : tie.Need-prepare-read-requires
+prepare-read-requires c κs = search needs
+
+same-length : tie.Need-same-length
+same-length c = search needs
+
+returns : tie.Need-returns
+returns c =
+    let e = c .before .before .before .before .before .before .outcome .given .1 in
+    let w = c .before .before .before .sheet-refusal .ensures in
+    ((λ input. refused-start _ input _ _ _ _ (rw e at (c .before .before .before .before .before .before .before .before .before .before .accept-sheet .ensures .0)) (w .0)), omega (arith, w .0 .size, w .1, c .before .before .before .before .before .before .before .before .before .before .before .before .before .before .pre .1))
+
+same-length-2 : tie.Need-same-length-2
+same-length-2 c = search needs
+
+returns-2 : tie.Need-returns-2
+returns-2 c =
+    let e = c .before .before .before .before .before .enum-told .given .1 in
+    let acc = rw e at (c .before .before .before .before .before .before .before .before .before .accept-sheet .ensures .1) in
+    let bs = now (c .before .before .before .before .before .before .before .before .before .before .before .before .before .args .sheet) in
+    let x = c .before .before .before .before .before .before .before .before .before .accept-sheet .result .sheet in
+    let o : Accepts bs x = record { decided = rw e at (c .before .before .before .before .before .before .before .before .before .accept-sheet .ensures .0); read = acc } in
+    let p = c .before .before .before .prepare-read in
+    (rw e (acc .usable, refl, record { accepts = o; place = midway-start bs x _ _ o (serves-prepared bs x o _ _ (p .result) (c .before .before .before .before .before .before .before .before .before .before .before .before .before .pre .0) (p .ensures)) (c .before .before .before .before .before .before .before .empty .ensures _) }), omega arith)
+
+pub start-spec : {M : Type 1} → statement M
+start-spec =
+    tie.close
+    (tie.spec
+    accept-sheet-requires
+    empty-requires
+    enum-known-outcome
+    sheet-refusal-requires
+    fresh-requires
+    enum-told
+    prepare-read-requires
+    same-length
+    returns
+    same-length-2
+    returns-2)

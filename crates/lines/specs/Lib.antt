@@ -1,0 +1,5 @@
+pub mod Lines
+pub mod Printed
+pub mod Scan
+pub mod Machine
+pub mod Chunks

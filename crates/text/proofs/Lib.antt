@@ -1,0 +1,5 @@
+pub mod WroteLaws
+pub mod DecimalLaws
+pub mod VerdictLaws
+pub mod TallyLaws
+pub mod RefusalLaws

@@ -1,0 +1,33 @@
+use native.Mathlib.Omega.{arith}
+use Rattle.text.proofs.WroteLaws.{wrote-then}
+use mathlib.Core.Path.{ap}
+use lib.ListN.{length}
+use Rattle.text.proofs.DecimalLaws.{decimal-small}
+use borrow.Author.Needs.{needs}
+use Rattle.text.proofs.output_number.Statement.{statement}
+use Rattle.text.proofs.output_number.Tie as tie
+use Rattle.text.proofs.output_number.Reads as reads
+use Rattle.text.proofs.output_number.Lts as lts
+use Rattle.text.proofs.put.byte.Reads as byte-reads
+use Rattle.text.proofs.put.spaced.Reads as spaced-reads
+
+byte-requires : tie.Need-byte-requires
+byte-requires c κs = search needs
+
+cast-spaced : tie.Need-cast-spaced
+cast-spaced c = search needs
+
+spaced-requires : tie.Need-spaced-requires
+spaced-requires c κs = search needs
+
+same-length : tie.Need-same-length
+same-length c = search needs
+
+returns : tie.Need-returns
+returns c =
+    let w = wrote-then (c .before .before .before .before .before .before .byte .ensures) (c .before .before .spaced .ensures .0) in
+    (w, omega (arith, w .end, ap length (decimal-small (c .before .before .before .before .before .before .before .before .before .args .k) (omega arith))))
+
+pub output-number-spec : {M : Type 1} → statement M
+output-number-spec =
+    tie.close (tie.spec byte-requires cast-spaced spaced-requires same-length returns)

@@ -1,0 +1,29 @@
+use native.Mathlib.Omega.{arith}
+use Rattle.text.proofs.WroteLaws.{wrote-then}
+use Rattle.text.proofs.DecimalLaws.{decimal-length}
+use borrow.Author.Needs.{needs}
+use Rattle.text.proofs.put.spaced.Statement.{statement}
+use Rattle.text.proofs.put.spaced.Tie as tie
+use Rattle.text.proofs.put.spaced.Reads as reads
+use Rattle.text.proofs.put.spaced.Lts as lts
+use Rattle.text.proofs.put.byte.Reads as byte-reads
+use Rattle.text.proofs.put.decimal.Reads as decimal-reads
+
+byte-requires : tie.Need-byte-requires
+byte-requires c κs = search needs
+
+decimal-requires : tie.Need-decimal-requires
+decimal-requires c κs =
+    let w = c .before .before .before .byte .ensures in
+    omega (arith, w .end, w .size, decimal-length 10 (c .before .before .before .before .before .before .args .n) (omega arith) (omega arith))
+
+same-length : tie.Need-same-length
+same-length c = search needs
+
+returns : tie.Need-returns
+returns c =
+    let w = wrote-then (c .before .before .before .before .before .before .byte .ensures) (c .before .before .decimal .ensures) in
+    (w, omega (arith, w .end, decimal-length 10 (c .before .before .before .before .before .before .before .before .before .args .n) (omega arith) (omega arith)))
+
+pub spaced-spec : {M : Type 1} → statement M
+spaced-spec = tie.close (tie.spec byte-requires decimal-requires same-length returns)

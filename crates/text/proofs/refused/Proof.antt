@@ -1,0 +1,49 @@
+use native.Mathlib.Omega.{arith}
+use Rattle.text.proofs.WroteLaws.{wrote-then}
+use Rattle.text.proofs.DecimalLaws.{decimal-length}
+use Rattle.text.proofs.RefusalLaws.{refusal-short}
+use borrow.Author.Needs.{needs}
+use Rattle.text.proofs.refused.Statement.{statement}
+use Rattle.text.proofs.refused.Tie as tie
+use Rattle.text.proofs.refused.Reads as reads
+use Rattle.text.proofs.refused.Lts as lts
+use Rattle.refusal.proofs.refusal_number.Reads as refusal-number-reads
+use Rattle.text.proofs.put.bytes.Reads as bytes-reads
+use Rattle.text.proofs.put.decimal.Reads as decimal-reads
+
+slice-aggregate-bytes : tie.Need-slice-aggregate-bytes
+slice-aggregate-bytes c = search needs
+
+bytes-requires : tie.Need-bytes-requires
+bytes-requires c κs = search needs
+
+refusal-number-requires : tie.Need-refusal-number-requires
+refusal-number-requires c κs = search needs
+
+cast-decimal : tie.Need-cast-decimal
+cast-decimal c = search needs
+
+decimal-requires : tie.Need-decimal-requires
+decimal-requires c κs =
+    let w = c .before .before .before .before .bytes .ensures in
+    rw (c .refusal-number .ensures) (omega (arith, w .end, w .size, decimal-length 2 _ (omega arith) (refusal-short (c .before .before .before .before .before .before .before .before .args .r))))
+
+same-length : tie.Need-same-length
+same-length c = search needs
+
+returns : tie.Need-returns
+returns c =
+    let w = wrote-then (c .before .before .before .before .before .before .before .bytes .ensures) (rw (c .before .before .before .refusal-number .ensures) at (c .before .before .decimal .ensures)) in
+    (w, omega (arith, w .end, decimal-length 2 _ (omega arith) (refusal-short (c .before .before .before .before .before .before .before .before .before .before .before .args .r))))
+
+pub refused-spec : {M : Type 1} → statement M
+refused-spec =
+    tie.close
+    (tie.spec
+    slice-aggregate-bytes
+    bytes-requires
+    refusal-number-requires
+    cast-decimal
+    decimal-requires
+    same-length
+    returns)

@@ -1,0 +1,76 @@
+use Prim.Native.Nat.{_≤_, _+_, _-_}
+use mathlib.Core.Path.{_≡_}
+use mathlib.Core.List.{map}
+use native.Mathlib.Omega.{arith}
+use native.Mathlib.Nat.{le-antisymm}
+use borrow.Author.Needs.{needs}
+use Rattle.refusal.specs.Numbers.{verdictList}
+use Rattle.text.specs.Text.{verdictChar}
+use Rattle.text.specs.Wrote.{Wrote}
+use Rattle.text.proofs.WroteLaws.{wrote-none, wrote-then}
+use Rattle.text.proofs.VerdictLaws.{wrote-verdict}
+use Rattle.text.proofs.verdict_line.Statement.{statement}
+use Rattle.text.proofs.verdict_line.Tie as tie
+use Rattle.text.proofs.verdict_line.Reads as reads
+use Rattle.text.proofs.verdict_line.Lts as lts
+use Rattle.text.proofs.put.byte.Reads as byte-reads
+use Rattle.text.proofs.verdict_char.Reads as verdict-char-reads
+
+abbrev Inv-loop : tie.InvT-loop
+Inv-loop out₀ at verdicts n to₀ i₀ out to i = (i ≤ n) × (to ≡ at + i) × Wrote out₀ at (map verdictChar (verdictList verdicts 0 i)) out to
+
+abbrev μ-loop : tie.MeasureT-loop
+μ-loop out₀ at verdicts n to₀ i₀ out to i = n - i
+
+loop-holds : tie.Need-loop-holds Inv-loop μ-loop
+loop-holds c = (omega arith, omega arith, wrote-none _ _)
+
+shared-slice-read-verdict-char : tie.Need-shared-slice-read-verdict-char Inv-loop μ-loop
+shared-slice-read-verdict-char c = search needs
+
+verdict-char-requires : tie.Need-verdict-char-requires Inv-loop μ-loop
+verdict-char-requires c κs = search needs
+
+byte-requires : tie.Need-byte-requires Inv-loop μ-loop
+byte-requires c κs = omega arith
+
+add-i : tie.Need-add-i Inv-loop μ-loop
+add-i c = search needs
+
+loop-less : tie.Need-loop-less Inv-loop μ-loop
+loop-less c = search needs
+
+loop-again : tie.Need-loop-again Inv-loop μ-loop
+loop-again c =
+    let b = c .before .before .before .before .before .before .before in
+    let w = c .before .before .byte .ensures in
+    (omega arith, omega (arith, w .end), wrote-verdict _ (b .loop .i) (b .loop .inv .2) (rw (← c .before .before .before .verdict-char .ensures) w))
+
+byte-requires-2 : tie.Need-byte-requires-2 Inv-loop μ-loop
+byte-requires-2 c κs = omega arith
+
+same-length : tie.Need-same-length Inv-loop μ-loop
+same-length c = search needs
+
+returns : tie.Need-returns Inv-loop μ-loop
+returns c =
+    let l = c .before .before .before .before .before in
+    let w = c .before .before .byte2 .ensures in
+    (wrote-then (rw (le-antisymm (l .loop .inv .0) (c .before .before .before .before .loop-test .left)) at (l .loop .inv .2)) w, omega (arith, w .end))
+
+pub verdict-line-spec : {M : Type 1} → statement M
+verdict-line-spec =
+    tie.close
+    (tie.spec
+    Inv-loop
+    μ-loop
+    loop-holds
+    shared-slice-read-verdict-char
+    verdict-char-requires
+    byte-requires
+    add-i
+    loop-less
+    loop-again
+    byte-requires-2
+    same-length
+    returns)

@@ -1,0 +1,11 @@
+-- What is written into a buffer from a place on. It serves the contracts; no paper speaks of buffers.
+use mathlib.Core.Path.{_≡_}
+use mathlib.Core.List.{List, _++_}
+use Prim.Native.Nat.{ℕ, _+_}
+use lib.ListN.{length, take}
+
+-- bs went into d from at on, up to r, and e is the buffer then; what stands after r is not said
+pub record Wrote (d : List ℕ) (at : ℕ) (bs : List ℕ) (e : List ℕ) (r : ℕ) : Type 0 where
+  pub end : r ≡ at + length bs
+  pub text : take r e ≡ take at d ++ bs
+  pub size : length e ≡ length d

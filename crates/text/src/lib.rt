@@ -1,0 +1,136 @@
+// What the program prints, put into a buffer. Each function answers the place after it.
+pub mod put;
+
+use put::byte;
+use put::bytes;
+use put::decimal;
+use put::spaced;
+use refusal::Refusal;
+use refusal::refusal_number;
+ghost use mathlib.Core.Path.{_≡_};
+ghost use mathlib.Core.List.{_∷_, _++_};
+ghost use Prim.Native.Nat.{ℕ, _+_, _*_, _<_, _≤_};
+ghost use lib.ListN.{length};
+ghost use Rattle.refusal.specs.Numbers.{verdictAt, verdictList, refusalNo};
+ghost use Rattle.record.specs.Record.{countAt};
+ghost use Rattle.text.specs.Text.{decimal, verdictChar, verdictLine, spaced, tallyLine, tallyLines, closingText, refusedWord, lineRefusal, sheetRefusal};
+ghost use Rattle.text.specs.Wrote.{Wrote};
+
+// The character of the verdict with the number v.
+fn verdict_char(v: u8) -> u8
+    ensures { λ r. ⌜ r ≡ verdictChar (verdictAt v) ⌝ }
+{
+    match v {
+        0 => b'0',
+        1 => b'1',
+        2 => b'?',
+        _ => b'!',
+    }
+}
+
+// The first n verdicts, and a line feed.
+pub fn verdict_line(out: &mut [u8], at: usize, verdicts: &[u8], n: usize) -> usize
+    requires { ⌜ (n ≤ length (now verdicts)) × (at + n + 1 ≤ length (now out)) ⌝ }
+    ensures { λ r. ⌜ Wrote (now (out .entry)) at (verdictLine (verdictList (now (verdicts .entry)) 0 n)) (now (out .exit)) r ⌝ }
+    ensures { λ r. ⌜ r ≡ at + n + 1 ⌝ }
+{
+    let mut to = at;
+    let mut i = 0;
+    while i < n {
+        to = byte(out, to, verdict_char(verdicts[i]));
+        i += 1;
+    }
+    byte(out, to, b'\n')
+}
+
+// `#`, a space and the number of output k, a digit.
+fn output_number(out: &mut [u8], at: usize, k: usize) -> usize
+    requires { ⌜ (k < 7) × (at + 12 ≤ length (now out)) ⌝ }
+    ensures { λ r. ⌜ Wrote (now (out .entry)) at (35 ∷ spaced k) (now (out .exit)) r ⌝ }
+    ensures { λ r. ⌜ r ≡ at + 3 ⌝ }
+{
+    let to = byte(out, at, b'#');
+    spaced(out, to, k as u32)
+}
+
+// The tally line of output k: at most 3 + 5 * 11 + 1 bytes.
+fn tally_line(out: &mut [u8], at: usize, counts: &[u32], shares: &[u32], k: usize) -> usize
+    requires { ⌜ (k < 7) × (length (now counts) ≡ 28) × (length (now shares) ≡ 7) × (at + 59 ≤ length (now out)) ⌝ }
+    ensures { λ r. ⌜ Wrote (now (out .entry)) at (tallyLine (countAt (now (counts .entry))) (now (shares .entry)) k) (now (out .exit)) r ⌝ }
+    ensures { λ r. ⌜ r ≤ at + 59 ⌝ }
+{
+    let first = 4 * k;
+    let output = output_number(out, at, k);
+    let trues = spaced(out, output, counts[first]);
+    let falses = spaced(out, trues, counts[first + 1]);
+    let opens = spaced(out, falses, counts[first + 2]);
+    let brokens = spaced(out, opens, counts[first + 3]);
+    let share = spaced(out, brokens, shares[k]);
+    byte(out, share, b'\n')
+}
+
+// The tally lines of the first n outputs.
+fn tally_lines(out: &mut [u8], at: usize, counts: &[u32], shares: &[u32], n: usize) -> usize
+    requires { ⌜ (n ≤ 7) × (length (now counts) ≡ 28) × (length (now shares) ≡ 7) × (at + 59 * n ≤ length (now out)) ⌝ }
+    ensures { λ r. ⌜ Wrote (now (out .entry)) at (tallyLines (countAt (now (counts .entry))) (now (shares .entry)) 0 n) (now (out .exit)) r ⌝ }
+    ensures { λ r. ⌜ r ≤ at + 59 * n ⌝ }
+{
+    let mut to = at;
+    let mut k = 0;
+    while k < n {
+        to = tally_line(out, to, counts, shares, k);
+        k += 1;
+    }
+    to
+}
+
+// A closing: at most 1 + 8 + 7 * 59 bytes.
+pub fn closing(
+    out: &mut [u8],
+    at: usize,
+    verdicts: &[u8],
+    counts: &[u32],
+    shares: &[u32],
+    n: usize,
+) -> usize
+    requires { ⌜ (n ≤ 7) × (length (now verdicts) ≡ 7) × (length (now counts) ≡ 28) × (length (now shares) ≡ 7) × (at + 422 ≤ length (now out)) ⌝ }
+    ensures { λ r. ⌜ Wrote (now (out .entry)) at (closingText n (verdictList (now (verdicts .entry)) 0 n) (countAt (now (counts .entry))) (now (shares .entry))) (now (out .exit)) r ⌝ }
+    ensures { λ r. ⌜ r ≤ at + 422 ⌝ }
+{
+    let start = byte(out, at, b'=');
+    let line = verdict_line(out, start, verdicts, n);
+    tally_lines(out, line, counts, shares, n)
+}
+
+// `refused R`: at most 8 + 2 bytes.
+fn refused(out: &mut [u8], at: usize, r: Refusal) -> usize
+    requires { ⌜ at + 10 ≤ length (now out) ⌝ }
+    ensures { λ x. ⌜ Wrote (now (out .entry)) at (refusedWord ++ decimal (refusalNo r)) (now (out .exit)) x ⌝ }
+    ensures { λ x. ⌜ x ≤ at + 10 ⌝ }
+{
+    let to = bytes(out, at, b"refused ");
+    decimal(out, to, refusal_number(r) as u64)
+}
+
+// `refused R line L`: at most 10 + 6 + 20 + 1 bytes.
+pub fn line_refusal(out: &mut [u8], at: usize, r: Refusal, line: u64) -> usize
+    requires { ⌜ at + 40 ≤ length (now out) ⌝ }
+    ensures { λ x. ⌜ Wrote (now (out .entry)) at (lineRefusal r line) (now (out .exit)) x ⌝ }
+    ensures { λ x. ⌜ x ≤ at + 40 ⌝ }
+{
+    let start = refused(out, at, r);
+    let word = bytes(out, start, b" line ");
+    let place = decimal(out, word, line);
+    byte(out, place, b'\n')
+}
+
+// `refused R sheet`: at most 10 + 6 + 1 bytes.
+pub fn sheet_refusal(out: &mut [u8], at: usize, r: Refusal) -> usize
+    requires { ⌜ at + 40 ≤ length (now out) ⌝ }
+    ensures { λ x. ⌜ Wrote (now (out .entry)) at (sheetRefusal r) (now (out .exit)) x ⌝ }
+    ensures { λ x. ⌜ x ≤ at + 40 ⌝ }
+{
+    let start = refused(out, at, r);
+    let word = bytes(out, start, b" sheet");
+    byte(out, word, b'\n')
+}

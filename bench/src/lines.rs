@@ -9,29 +9,70 @@ pub const SHEET_BYTES: usize = 464;
 
 const MARKS: &[u8; 4] = b"01?!";
 
-/// Answers all lines, up to the first refusal.
+/// Answers all lines, up to the first refusal. What was read is answered before more is read.
 pub fn run(sheet: &[u8], mut input: impl BufRead, mut output: impl Write) -> io::Result<()> {
     let mut journal = match Sheet::accept(sheet) {
         Ok(sheet) => Journal::prepare(sheet),
-        Err(number) => return writeln!(output, "refused {number} sheet"),
+        Err(number) => {
+            writeln!(output, "refused {number} sheet")?;
+            return output.flush();
+        }
     };
-    let mut line = Vec::new();
-    for number in 1u64.. {
-        line.clear();
+    let mut lines = Lines { begun: Vec::new(), number: 0 };
+    loop {
         // An error ends the input as its end does.
-        if input.read_until(b'\n', &mut line).unwrap_or(0) == 0 {
-            break;
+        let chunk = input.fill_buf().unwrap_or(&[]);
+        let length = chunk.len();
+        let stopped = if length == 0 {
+            lines.finish(&mut journal, &mut output)
+        } else {
+            lines.feed(&mut journal, chunk, &mut output)
+        };
+        match stopped {
+            Ok(()) => {}
+            Err(Stop::Refused(rule)) => writeln!(output, "refused {rule} line {}", lines.number)?,
+            Err(Stop::Failed(error)) => return Err(error),
         }
-        let text = line.strip_suffix(b"\n").unwrap_or(&line);
-        if let Err(refusal) = answer(&mut journal, text, &mut output) {
-            match refusal {
-                Stop::Refused(rule) => writeln!(output, "refused {rule} line {number}")?,
-                Stop::Failed(error) => return Err(error),
-            }
-            break;
+        output.flush()?;
+        if length == 0 || stopped.is_err() {
+            return Ok(());
         }
+        input.consume(length);
     }
-    output.flush()
+}
+
+/// Where the input stands.
+struct Lines {
+    /// What was read of a line that has not ended yet.
+    begun: Vec<u8>,
+    /// The number of the last line answered.
+    number: u64,
+}
+
+impl Lines {
+    fn feed(&mut self, journal: &mut Journal, chunk: &[u8], output: &mut impl Write) -> Result<(), Stop> {
+        for piece in chunk.split_inclusive(|&byte| byte == b'\n') {
+            let Some(text) = piece.strip_suffix(b"\n") else {
+                self.begun.extend(piece);
+                break;
+            };
+            self.number += 1;
+            if self.begun.is_empty() {
+                answer(journal, text, output)?;
+            } else {
+                self.begun.extend(text);
+                answer(journal, &self.begun, output)?;
+                self.begun.clear();
+            }
+        }
+        Ok(())
+    }
+
+    /// The last line may lack its line feed.
+    fn finish(&mut self, journal: &mut Journal, output: &mut impl Write) -> Result<(), Stop> {
+        self.number += 1;
+        answer(journal, &self.begun, output)
+    }
 }
 
 enum Stop {
@@ -105,6 +146,7 @@ fn masks(inputs: usize, line: &[u8]) -> Option<(u8, u8)> {
 mod tests {
     use super::*;
     use outside::cases;
+    use std::io::BufReader;
 
     fn printed(sheet: &[u8], input: &str) -> String {
         let mut output = Vec::new();
@@ -141,6 +183,18 @@ mod tests {
         }
         assert_eq!(printed(&[], "1\n"), "refused 1 sheet\n");
         assert_eq!(printed(&cases::plain(1, &["41"]), "1\n"), "refused 10 sheet\n");
+    }
+
+    /// Where the input is cut does not matter.
+    #[test]
+    fn chunks() {
+        let input = "10\n?1\n\n1?\n00\n01\n.\n\n.";
+        for length in 1..input.len() {
+            let mut output = Vec::new();
+            let chunked = BufReader::with_capacity(length, input.as_bytes());
+            run(&cases::session_sheet(), chunked, &mut output).unwrap();
+            assert_eq!(String::from_utf8(output).unwrap(), printed(&cases::session_sheet(), input));
+        }
     }
 
     #[test]

@@ -10,7 +10,7 @@ fn whole_session() {
     let compiled = Command::new("cc")
         .args(["-Wall", "-Wextra", "-Werror", "-std=c99", "-I"])
         .arg(root.join("include"))
-        .arg(root.join("examples/session.c"))
+        .arg(root.join("examples/session/session.c"))
         .arg(root.join("target/staticlib/libjigwaret.a"))
         .arg("-o")
         .arg(&program)

@@ -98,7 +98,7 @@ mod tests {
     use crate::verdict::Verdict;
 
     fn session() -> Journal {
-        let sheet = Sheet::new(include_bytes!("../../../examples/session.slr")).unwrap();
+        let sheet = Sheet::new(include_bytes!("../../../examples/session/sheet.slr")).unwrap();
         Journal::prepare(sheet).unwrap()
     }
 

@@ -6,7 +6,7 @@
 //! ```no_run
 //! use jigwaret::{Journal, Sheet};
 //!
-//! let sheet = Sheet::new(std::fs::read("examples/session.slr")?)?;
+//! let sheet = Sheet::new(std::fs::read("examples/session/sheet.slr")?)?;
 //! let mut journal = Journal::prepare(sheet)?;
 //! // Both inputs were heard, input 0 as true and input 1 as false.
 //! let verdicts = journal.round(0b11, 0b01)?;

@@ -58,7 +58,7 @@ impl Sheet {
 mod tests {
     use super::*;
 
-    const SESSION: &[u8] = include_bytes!("../../../examples/session.slr");
+    const SESSION: &[u8] = include_bytes!("../../../examples/session/sheet.slr");
 
     #[test]
     fn parts_of_a_sheet() {

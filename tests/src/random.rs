@@ -73,7 +73,8 @@ impl Random {
         self.heard_of(letter, book.inputs(), unknown)
     }
 
-    fn heard_of(&mut self, letter: u8, inputs: usize, unknown: usize) -> Heard {
+    /// A round with this letter.
+    pub fn heard_of(&mut self, letter: u8, inputs: usize, unknown: usize) -> Heard {
         let bits = (0..inputs).map(|input| ((self.below(100) >= unknown) as u8) << input);
         let known = bits.sum();
         Heard { known, value: letter & known }
@@ -264,6 +265,18 @@ pub fn small(random: &mut Random, most: u8) -> Vec<u8> {
             return sheet;
         }
     }
+}
+
+/// An accepted sheet with these counts and no assumption, whose expressions all have 64 bytes.
+pub fn dense(random: &mut Random, inputs: usize, outputs: usize) -> Vec<u8> {
+    let expressions: Vec<Vec<u8>> = falling_reads(random, inputs, outputs)
+        .into_iter()
+        .map(|reads| {
+            let operands = Operands { inputs: reads_of_inputs(inputs), outputs: reads };
+            expression(random, LONGEST_EXPRESSION, &operands)
+        })
+        .collect();
+    write(inputs as u8, NO_ASSUMPTION, &expressions)
 }
 
 /// Exclusive or of two reads.

@@ -1,0 +1,139 @@
+//! The fast monitor against the one written from the definitions.
+
+use super::entries::{self, Journal, STORAGE_WORDS};
+use super::{trace, Sheet};
+use outside::journal::{self, Call, Held, MOST_ROUNDS};
+use outside::monitor::Monitor;
+use outside::random::{self, Random};
+use outside::{cases, circular, hex, language};
+
+fn call(sheet: &[u8], held: &mut Held, call: Call) -> u32 {
+    let Held { storage, record, answer } = held;
+    match call {
+        Call::Prepare => entries::prepare(sheet, storage, record, answer),
+        Call::Round(heard) => entries::round(sheet, storage, record, heard.known, heard.value, answer),
+        Call::Close => entries::close(sheet, storage, record, answer),
+    }
+}
+
+/// The same number, storage, record and answer on both sides.
+fn agree(sheet: &[u8], monitor: &Result<Monitor, u32>, held: &mut Held, made: Call) -> u32 {
+    let mut expected = held.clone();
+    let number = journal::call(monitor, &mut expected, made);
+    assert_eq!(call(sheet, held, made), number, "{made:?}, sheet {}", hex(sheet));
+    assert!(*held == expected, "{made:?}, sheet {}", hex(sheet));
+    number
+}
+
+#[test]
+fn sheets() {
+    let number = |sheet: &[u8]| Sheet::accept(sheet).err().unwrap_or(0);
+    for case in cases::sheets() {
+        assert_eq!(number(&case.sheet), case.number, "{}", case.name);
+    }
+    let mut random = Random::new(901);
+    for turn in 0..20_000 {
+        let sheet = match turn % 3 {
+            0 => random::damaged(&mut random),
+            1 => random::two_rings(&mut random),
+            _ => random::well_formed(&mut random),
+        };
+        assert_eq!(number(&sheet), circular::accept(&sheet).err().unwrap_or(0), "{}", hex(&sheet));
+    }
+}
+
+#[test]
+fn explicit_calls() {
+    for case in cases::journal_refusals() {
+        let mut held = case.held.clone();
+        assert_eq!(agree(&case.sheet, &Monitor::new(&case.sheet), &mut held, case.call), case.number, "{}", case.name);
+    }
+    for case in cases::live_counts() {
+        assert_eq!(Journal::prepare(Sheet::accept(&case.sheet).unwrap()).live_pairs as usize, case.live);
+    }
+}
+
+#[test]
+fn deep_sheets() {
+    for sheet in [cases::counter(), cases::register()] {
+        let monitor = Monitor::new(&sheet);
+        let journal = Journal::prepare(Sheet::accept(&sheet).unwrap());
+        assert_eq!(journal.reach, monitor.as_ref().unwrap().reach);
+        agree(&sheet, &monitor, &mut Held::fresh(), Call::Prepare);
+    }
+}
+
+/// Journals on prepared storage, both ways of calling.
+#[test]
+fn random_journals() {
+    let mut random = Random::new(902);
+    for turn in 0..600 {
+        let sheet = random::small(&mut random, if turn % 10 == 0 { 8 } else { 6 });
+        let monitor = Monitor::new(&sheet);
+        let inputs = sheet[5] as usize;
+        let mut held = Held::fresh();
+        random.fill(&mut held.storage);
+        assert_eq!(agree(&sheet, &monitor, &mut held, Call::Prepare), 0);
+        let mut kept = Journal::prepare(Sheet::accept(&sheet).unwrap());
+        assert_eq!(kept.live_pairs, held.answer[0]);
+        assert_eq!(kept.reach, monitor.as_ref().unwrap().reach);
+        let unknown = random.pick(&[0, 30, 100]);
+        for _ in 0..random.range(1, 12) {
+            let heard = if random.one_in(12) { random.masks() } else { random.heard(inputs, unknown) };
+            let number = agree(&sheet, &monitor, &mut held, Call::Round(heard));
+            match kept.round(heard.known, heard.value) {
+                Ok(verdicts) => {
+                    assert!((0..sheet[6] as usize).all(|k| verdicts[k] as u32 == held.answer[k]));
+                    assert_eq!(number, 0);
+                }
+                Err(refusal) => assert_eq!(number, refusal),
+            }
+            assert_eq!(kept.record[..], held.record[..]);
+        }
+        let number = agree(&sheet, &monitor, &mut held, Call::Close);
+        assert_eq!(kept.close().err().unwrap_or(0), number);
+        assert_eq!(kept.record[..], held.record[..]);
+    }
+}
+
+/// Any sheet, any storage, any record.
+#[test]
+fn random_calls() {
+    let mut random = Random::new(903);
+    for _ in 0..1500 {
+        let sheet = if random.one_in(6) { random::damaged(&mut random) } else { random::small(&mut random, 6) };
+        let monitor = Monitor::new(&sheet);
+        let (inputs, outputs) = monitor.as_ref().map_or((1, 1), |found| (found.sheet.inputs, found.sheet.outputs()));
+        let mut held = Held { storage: vec![0; STORAGE_WORDS + random.below(3)], ..Held::fresh() };
+        random.fill(&mut held.storage);
+        for _ in 0..4 {
+            let rounds = random.pick(&[0, 1, 7, MOST_ROUNDS - 1, MOST_ROUNDS, MOST_ROUNDS + 1]);
+            let closed = random.pick(&[0, 0, 0, 0, 0, 1, 2]);
+            let four = [rounds / 2, 0, rounds - rounds / 2, random.one_in(12) as u32];
+            held.forge(rounds, closed, &vec![four; outputs]);
+            let heard = if random.one_in(6) { random.masks() } else { random.heard(inputs, 40) };
+            let made = random.pick(&[Call::Prepare, Call::Close, Call::Round(heard), Call::Round(heard)]);
+            agree(&sheet, &monitor, &mut held, made);
+        }
+    }
+}
+
+#[test]
+fn traces() {
+    let mut random = Random::new(904);
+    for turn in 0..3000 {
+        let sheet = if turn % 4 == 0 { random::zigzag(&mut random) } else { random::accepted(&mut random) };
+        let rounds = if turn % 60 == 0 { 4096 } else { random.range(1, 40) };
+        let letters = random.letters(sheet[5] as usize, rounds);
+        let mut out = random.bytes(rounds + 2);
+        let rest = out[rounds..].to_vec();
+        assert_eq!(trace::evaluate(&sheet, &letters, &mut out), 0);
+        let expected = [language::evaluate(&sheet, &letters, rounds).unwrap(), rest].concat();
+        assert_eq!(out, expected, "{}", hex(&sheet));
+    }
+    for case in cases::evaluation_refusals() {
+        let mut out = vec![0x5A; case.room];
+        assert_eq!(trace::evaluate(&case.sheet, &case.letters, &mut out), case.number, "{}", case.name);
+        assert!(out.iter().all(|&byte| byte == 0x5A));
+    }
+}

@@ -1,0 +1,211 @@
+//! The journal program's lines: a sheet and the bytes of standard input to the bytes it prints.
+
+use crate::fast::entries::Journal;
+use crate::fast::Sheet;
+use std::io::{self, BufRead, Write};
+
+/// The most bytes of the sheet's file that count: one more than the longest sheet has.
+pub const SHEET_BYTES: usize = 464;
+
+const MARKS: &[u8; 4] = b"01?!";
+
+/// Answers all lines, up to the first refusal. What was read is answered before more is read.
+pub fn run(sheet: &[u8], mut input: impl BufRead, mut output: impl Write) -> io::Result<()> {
+    let mut journal = match Sheet::accept(sheet) {
+        Ok(sheet) => Journal::prepare(sheet),
+        Err(number) => {
+            writeln!(output, "refused {number} sheet")?;
+            return output.flush();
+        }
+    };
+    let mut lines = Lines { begun: Vec::new(), number: 0 };
+    loop {
+        // An error ends the input as its end does.
+        let chunk = input.fill_buf().unwrap_or(&[]);
+        let length = chunk.len();
+        let stopped = if length == 0 {
+            lines.finish(&mut journal, &mut output)
+        } else {
+            lines.feed(&mut journal, chunk, &mut output)
+        };
+        match stopped {
+            Ok(()) => {}
+            Err(Stop::Refused(rule)) => writeln!(output, "refused {rule} line {}", lines.number)?,
+            Err(Stop::Failed(error)) => return Err(error),
+        }
+        output.flush()?;
+        if length == 0 || stopped.is_err() {
+            return Ok(());
+        }
+        input.consume(length);
+    }
+}
+
+/// Where the input stands.
+struct Lines {
+    /// What was read of a line that has not ended yet.
+    begun: Vec<u8>,
+    /// The number of the last line answered.
+    number: u64,
+}
+
+impl Lines {
+    fn feed(&mut self, journal: &mut Journal, chunk: &[u8], output: &mut impl Write) -> Result<(), Stop> {
+        for piece in chunk.split_inclusive(|&byte| byte == b'\n') {
+            let Some(text) = piece.strip_suffix(b"\n") else {
+                self.begun.extend(piece);
+                break;
+            };
+            self.number += 1;
+            if self.begun.is_empty() {
+                answer(journal, text, output)?;
+            } else {
+                self.begun.extend(text);
+                answer(journal, &self.begun, output)?;
+                self.begun.clear();
+            }
+        }
+        Ok(())
+    }
+
+    /// The last line may lack its line feed.
+    fn finish(&mut self, journal: &mut Journal, output: &mut impl Write) -> Result<(), Stop> {
+        self.number += 1;
+        answer(journal, &self.begun, output)
+    }
+}
+
+enum Stop {
+    Refused(u32),
+    Failed(io::Error),
+}
+
+impl From<u32> for Stop {
+    fn from(rule: u32) -> Stop {
+        Stop::Refused(rule)
+    }
+}
+
+impl From<io::Error> for Stop {
+    fn from(error: io::Error) -> Stop {
+        Stop::Failed(error)
+    }
+}
+
+fn answer(journal: &mut Journal, line: &[u8], output: &mut impl Write) -> Result<(), Stop> {
+    if line.is_empty() {
+        return Ok(());
+    }
+    // After closing this comes before a malformed line.
+    if journal.record[1] == 1 {
+        return Err(Stop::Refused(12));
+    }
+    let outputs = journal.sheet.outputs;
+    let print = |output: &mut dyn Write, head: &[u8], verdicts: &[u8; 7]| {
+        let mut text = [b'\n'; 9];
+        text[..head.len()].copy_from_slice(head);
+        (0..outputs).for_each(|k| text[head.len() + k] = MARKS[verdicts[k] as usize]);
+        output.write_all(&text[..head.len() + outputs + 1])
+    };
+    if line == b"." {
+        let (verdicts, shares) = journal.close()?;
+        print(output, b"=", &verdicts)?;
+        for (k, share) in shares.iter().enumerate().take(outputs) {
+            let counts = &journal.record[2 + 4 * k..6 + 4 * k];
+            writeln!(output, "# {k} {} {} {} {} {share}", counts[0], counts[1], counts[2], counts[3])?;
+        }
+        return Ok(());
+    }
+    let (known, value) = masks(journal.sheet.inputs, line).ok_or(17u32)?;
+    let verdicts = journal.round(known, value)?;
+    print(output, b"", &verdicts)?;
+    Ok(())
+}
+
+/// The masks of a line of `0`, `1` and `?`, input 0 first.
+fn masks(inputs: usize, line: &[u8]) -> Option<(u8, u8)> {
+    if line.len() != inputs {
+        return None;
+    }
+    let (mut known, mut value) = (0, 0);
+    for (input, &sign) in line.iter().enumerate() {
+        match sign {
+            b'0' => known |= 1 << input,
+            b'1' => {
+                known |= 1 << input;
+                value |= 1 << input;
+            }
+            b'?' => {}
+            _ => return None,
+        }
+    }
+    Some((known, value))
+}
+
+#[cfg(test)]
+mod tests {
+    use super::*;
+    use outside::cases;
+    use std::io::BufReader;
+
+    fn printed(sheet: &[u8], input: &str) -> String {
+        let mut output = Vec::new();
+        run(sheet, input.as_bytes(), &mut output).unwrap();
+        String::from_utf8(output).unwrap()
+    }
+
+    #[test]
+    fn whole_session() {
+        let expected = "?1\n11\n?1\n11\n!!\n=!!\n# 0 2 0 2 1 400\n# 1 4 0 0 1 800\n";
+        assert_eq!(printed(&cases::session_sheet(), "10\n?1\n1?\n00\n01\n.\n"), expected);
+        assert_eq!(printed(&cases::session_sheet(), "10\n?1\n1?\n00\n01\n."), expected);
+    }
+
+    #[test]
+    fn lines() {
+        let one = || cases::plain(1, &["40"]);
+        let cases = [
+            ("", ""),
+            ("\n", ""),
+            ("\n\n1\n\n0", "1\n0\n"),
+            ("1x\n", "refused 17 line 1\n"),
+            ("1\nx", "1\nrefused 17 line 2\n"),
+            ("1\r\n", "refused 17 line 1\n"),
+            ("..\n", "refused 17 line 1\n"),
+            ("\n11\n1\n", "refused 17 line 2\n"),
+            (".\n", "refused 14 line 1\n"),
+            ("1\n.\n\n", "1\n=1\n# 0 1 0 0 0 1000\n"),
+            ("?\n.\n\nx\n", "?\n=?\n# 0 0 0 1 0 0\nrefused 12 line 4\n"),
+            ("0\n.\n.", "0\n=0\n# 0 0 1 0 0 0\nrefused 12 line 3\n"),
+        ];
+        for (input, expected) in cases {
+            assert_eq!(printed(&one(), input), expected, "{input:?}");
+        }
+        assert_eq!(printed(&[], "1\n"), "refused 1 sheet\n");
+        assert_eq!(printed(&cases::plain(1, &["41"]), "1\n"), "refused 10 sheet\n");
+    }
+
+    /// Where the input is cut does not matter.
+    #[test]
+    fn chunks() {
+        let input = "10\n?1\n\n1?\n00\n01\n.\n\n.";
+        for length in 1..input.len() {
+            let mut output = Vec::new();
+            let chunked = BufReader::with_capacity(length, input.as_bytes());
+            run(&cases::session_sheet(), chunked, &mut output).unwrap();
+            assert_eq!(String::from_utf8(output).unwrap(), printed(&cases::session_sheet(), input));
+        }
+    }
+
+    #[test]
+    fn the_last_round() {
+        let most = "?\n".repeat(1_000_000);
+        let at_the_end = |line: &str| {
+            let text = printed(&cases::plain(1, &["40"]), &format!("{most}{line}\n"));
+            text.lines().last().unwrap().to_string()
+        };
+        assert_eq!(at_the_end("?"), "refused 13 line 1000001");
+        assert_eq!(at_the_end("x"), "refused 17 line 1000001");
+        assert_eq!(at_the_end("."), "# 0 0 0 1000000 0 0");
+    }
+}

@@ -1,0 +1,64 @@
+//! The proved program `journal` and the unproved one on the same journal.
+
+use crate::timing::clock;
+use crate::workloads::session_lines;
+use outside::cases::session_sheet;
+use outside::random::Random;
+use std::env;
+use std::fs::{self, File};
+use std::io;
+use std::path::{Path, PathBuf};
+use std::process::{Command, Stdio};
+
+pub const ROUNDS: usize = 1_000_000;
+const REPEATS: usize = 5;
+
+/// Seconds of both.
+pub struct Timed {
+    pub proved: f64,
+    pub fast: f64,
+}
+
+/// Times both programs, or tells what is missing.
+pub fn time() -> Result<Timed, String> {
+    let package = Path::new(env!("CARGO_MANIFEST_DIR"));
+    let proved = package.join("../target/bin/journal");
+    let fast = env::current_exe().map_err(|error| error.to_string())?.with_file_name("journal");
+    for (program, name) in [(&proved, "the proved program `journal`"), (&fast, "the unproved program `journal`")] {
+        if !program.exists() {
+            return Err(format!("{name} is not built"));
+        }
+    }
+    let folder = env::temp_dir().join(format!("jigwaret-bench-{}", std::process::id()));
+    let timed = time_in(&folder, &proved, &fast);
+    // What is left behind does no harm.
+    let _ = fs::remove_dir_all(&folder);
+    timed.map_err(|error| error.to_string())
+}
+
+fn time_in(folder: &Path, proved: &Path, fast: &Path) -> io::Result<Timed> {
+    fs::create_dir_all(folder)?;
+    fs::write(folder.join("sheet.slr"), session_sheet())?;
+    fs::write(folder.join("lines"), session_lines(&mut Random::new(3), ROUNDS) + ".\n")?;
+    let programs = [proved.canonicalize()?, fast.canonicalize()?];
+    let outputs = ["proved", "fast"].map(|name| folder.join(name));
+    let mut best = [f64::INFINITY; 2];
+    for _ in 0..REPEATS {
+        for (i, program) in programs.iter().enumerate() {
+            best[i] = best[i].min(run(program, folder, &outputs[i])?);
+        }
+    }
+    let texts = [fs::read(&outputs[0])?, fs::read(&outputs[1])?];
+    assert!(texts[0] == texts[1], "the programs print the same");
+    assert_eq!(texts[0].iter().filter(|&&byte| byte == b'\n').count(), ROUNDS + 3);
+    Ok(Timed { proved: best[0], fast: best[1] })
+}
+
+fn run(program: &PathBuf, folder: &Path, output: &Path) -> io::Result<f64> {
+    let input = File::open(folder.join("lines"))?;
+    let mut command = Command::new(program);
+    command.current_dir(folder).stdin(Stdio::from(input)).stdout(Stdio::from(File::create(output)?));
+    let start = clock::of_children();
+    command.status()?;
+    Ok(clock::of_children() - start)
+}

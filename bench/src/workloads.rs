@@ -1,0 +1,209 @@
+//! Sheets and journals to time.
+
+use outside::cases::{assuming, bytes, counter, register, session_sheet};
+use outside::circular;
+use outside::journal::Book;
+use outside::monitor::{Heard, Monitor};
+use outside::random::{self, Random};
+use outside::sheet::{byte_of_read, write, NO_ASSUMPTION};
+
+/// A sheet with the length of the journals that are timed on it.
+pub struct Workload {
+    pub name: &'static str,
+    pub sheet: Vec<u8>,
+    pub rounds: usize,
+}
+
+/// Which inputs are not heard.
+#[derive(Clone, Copy, PartialEq)]
+pub enum Unheard {
+    /// About so many of a hundred.
+    Share(usize),
+    /// Input 0, always.
+    First,
+}
+
+impl Unheard {
+    pub fn name(self) -> String {
+        match self {
+            Unheard::Share(share) => format!("{share} %"),
+            Unheard::First => "input 0".to_string(),
+        }
+    }
+}
+
+pub fn journals() -> Vec<Workload> {
+    let workload = |name, sheet, rounds| Workload { name, sheet, rounds };
+    vec![
+        workload("session", session_sheet(), 1000),
+        workload("formula", formula(), 300),
+        workload("count ahead", count_ahead(), 200),
+        workload("counter", counter(), 100),
+        workload("register", register(), 60),
+        workload("dense, 4 inputs", dense(4, 4), 20),
+        workload("dense, 6 inputs", dense(6, 2), 20),
+    ]
+}
+
+pub fn traces() -> Vec<Workload> {
+    let workload = |name, sheet| Workload { name, sheet, rounds: 4096 };
+    vec![
+        workload("session", session_sheet()),
+        workload("formula", formula()),
+        workload("count ahead", count_ahead()),
+        workload("by turns", random::turns()),
+        workload("ring of 3", random::ring(&[1, 0, 2], &[1, -1, -1])),
+        workload("ring of 7", random::ring(&[3, 0, 5, 1, 6, 2, 4], &[1, 1, 1, -1, -1, -1, -1])),
+        workload("dense, 4 inputs", dense(4, 4)),
+        workload("dense, 6 inputs", dense(6, 2)),
+    ]
+}
+
+/// Source document 004, section 5: p and always, where p turns true next, there was a start of
+/// q; p; p; p; (not q)*; q. Inputs p and q; the assumption is that one of them is true.
+///
+/// Output 0 is the formula. The others: q is true in a later round; p is true now and q was one round
+/// earlier; a match has begun two rounds ago or before; from now on p does not turn true unless a
+/// match has begun by the round before.
+pub fn formula() -> Vec<u8> {
+    let expressions =
+        ["40 6E 03", "61 63 04", "40 51 03", "54 40 03 60 03 63 03 55 04", "58 40 02 04 65 04 45 04 6E 03", "40 41 04"];
+    assuming(2, 5, &expressions)
+}
+
+/// Six outputs that count, from the end, the rounds after this one in which the input is true.
+pub fn count_ahead() -> Vec<u8> {
+    let later = |stream: usize| byte_of_read(stream, 1, false);
+    let expression = |output: usize| {
+        let mut carry: Vec<u8> = (0..=output).map(later).collect();
+        carry.extend(vec![0x03; output]);
+        differs(later(1 + output), &carry)
+    };
+    let expressions: Vec<Vec<u8>> = (0..6).map(expression).collect();
+    write(1, NO_ASSUMPTION, &expressions)
+}
+
+/// A read differs from an expression.
+fn differs(read: u8, other: &[u8]) -> Vec<u8> {
+    [&[read], other, &bytes("02 03"), &[read, 0x02], other, &bytes("03 04")].concat()
+}
+
+/// Expressions of 64 bytes; of 40 such sheets the one with the most live pairs.
+pub fn dense(inputs: usize, outputs: usize) -> Vec<u8> {
+    let mut random = Random::new(11);
+    let sheets = (0..40).map(|_| random::dense(&mut random, inputs, outputs));
+    sheets.max_by_key(|sheet| live_pairs(sheet)).expect("several sheets")
+}
+
+fn live_pairs(sheet: &[u8]) -> u32 {
+    use crate::fast::{entries::Journal, Sheet};
+    Journal::prepare(Sheet::accept(sheet).expect("made to be accepted")).live_pairs
+}
+
+/// Rounds of a journal that keeps to the assumption.
+pub fn rounds(workload: &Workload, monitor: &Monitor, unheard: Unheard) -> Vec<Heard> {
+    let mut random = Random::new(7);
+    let share = if let Unheard::Share(share) = unheard { share } else { 0 };
+    let inputs = monitor.sheet.inputs;
+    let mut heard: Vec<Heard> = if workload.sheet == formula() {
+        let letters = (0..workload.rounds).map(|_| formula_letter(&mut random)).collect::<Vec<u8>>();
+        letters.into_iter().map(|letter| random.heard_of(letter, inputs, share)).collect()
+    } else if monitor.sheet.assumption.is_some() {
+        let mut book = Book::new(monitor);
+        let mut draw = |_| {
+            let heard = random.heard_along(&book, share);
+            book.round(heard).expect("a round of the sheet");
+            heard
+        };
+        (0..workload.rounds).map(&mut draw).collect()
+    } else {
+        (0..workload.rounds).map(|_| random.heard(inputs, share)).collect()
+    };
+    if unheard == Unheard::First {
+        heard.iter_mut().for_each(|round| {
+            round.known &= !1;
+            round.value &= !1;
+        });
+    }
+    heard
+}
+
+/// As document 004 draws them: q in 66 of 100 rounds; p where q is false, and else in every second.
+fn formula_letter(random: &mut Random) -> u8 {
+    let q = random.below(100) < 66;
+    let p = !q || random.one_in(2);
+    p as u8 | (q as u8) << 1
+}
+
+/// Lines of a journal of the session sheet that keeps to its assumption, in which 30 of 100 inputs
+/// are not heard.
+pub fn session_lines(random: &mut Random, rounds: usize) -> String {
+    let mut lines = String::new();
+    let mut sent_before = false;
+    for _ in 0..rounds {
+        let sent = random.one_in(2);
+        let acknowledged = (sent || sent_before) && random.one_in(2);
+        for value in [sent, acknowledged] {
+            let sign = if value { '1' } else { '0' };
+            lines.push(if random.below(100) < 30 { '?' } else { sign });
+        }
+        lines.push('\n');
+        sent_before = sent;
+    }
+    lines
+}
+
+/// Letters of a whole trace.
+pub fn letters(workload: &Workload, rounds: usize) -> Vec<u8> {
+    let sheet = circular::accept(&workload.sheet).expect("made to be accepted");
+    Random::new(5).letters(sheet.inputs, rounds)
+}
+
+#[cfg(test)]
+mod tests {
+    use super::*;
+    use outside::language;
+
+    /// The formula by its definition.
+    fn formula_at(letters: &[u8], i: usize) -> bool {
+        let p = |t: usize| letters.get(t).is_some_and(|letter| letter & 1 == 1);
+        let q = |t: usize| letters.get(t).is_some_and(|letter| letter & 2 == 2);
+        let starts = |j: usize| q(j) && p(j + 1) && p(j + 2) && p(j + 3) && (j + 4..letters.len()).any(q);
+        p(i) && (i..letters.len()).all(|t| p(t) || !p(t + 1) || (0..=t).any(starts))
+    }
+
+    #[test]
+    fn the_formula_is_output_0() {
+        let mut random = Random::new(911);
+        let sheet = formula();
+        let mut seen = [0; 2];
+        for _ in 0..3000 {
+            let rounds = random.range(1, 16);
+            let letters = random.letters(2, rounds);
+            let outputs = language::evaluate(&sheet, &letters, rounds).unwrap();
+            for (i, byte) in outputs.iter().enumerate() {
+                assert_eq!(byte & 1 == 1, formula_at(&letters, i), "{letters:?} at {i}");
+                seen[(byte & 1) as usize] += 1;
+            }
+        }
+        assert!(seen.iter().all(|&times| times > 3000), "{seen:?}");
+    }
+
+    #[test]
+    fn rounds_are_counted_from_the_end() {
+        let letters = Random::new(912).letters(1, 200);
+        let outputs = language::evaluate(&count_ahead(), &letters, 200).unwrap();
+        for (t, byte) in outputs.iter().enumerate() {
+            let after = letters[t + 1..].iter().filter(|&&letter| letter == 1).count();
+            assert_eq!(*byte as usize, after % 64);
+        }
+    }
+
+    #[test]
+    fn deep_and_dense() {
+        assert!(Monitor::new(&register()).unwrap().reach >= 128);
+        for (inputs, outputs) in [(4, 4), (6, 2)] {
+            assert_eq!(dense(inputs, outputs).len(), 8 + 65 * outputs);
+        }
+    }
+}

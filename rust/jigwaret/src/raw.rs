@@ -1,0 +1,131 @@
+//! The library's functions as they are: each returns 0, or the number of the refusal, and a refused
+//! call changes nothing. Every slice is allowed, whatever its length and contents.
+
+/// Numbers of 64 bits that a journal's storage has at least.
+pub const STORAGE_WORDS: usize = 3084;
+/// Rounds, closed, and four counts (true, false, open, broken) for each of seven outputs.
+pub const RECORD_NUMBERS: usize = 30;
+/// Numbers that an answer has room for at least.
+pub const ANSWER_NUMBERS: usize = 16;
+/// Returned where a record or an answer has the wrong length.
+pub const WRONG_LENGTH: u32 = 255;
+
+mod ffi {
+    extern "C" {
+        pub fn jigwaret_check(sheet: *const u8, sheet_len: usize) -> u32;
+        pub fn jigwaret_evaluate(
+            sheet: *const u8,
+            sheet_len: usize,
+            letters: *const u8,
+            letters_len: usize,
+            out: *mut u8,
+            out_len: usize,
+        ) -> u32;
+        pub fn jigwaret_prepare(
+            sheet: *const u8,
+            sheet_len: usize,
+            storage: *mut u64,
+            storage_len: usize,
+            record: *mut u32,
+            record_len: usize,
+            answer: *mut u32,
+            answer_len: usize,
+        ) -> u32;
+        pub fn jigwaret_round(
+            sheet: *const u8,
+            sheet_len: usize,
+            storage: *mut u64,
+            storage_len: usize,
+            record: *mut u32,
+            record_len: usize,
+            known: u8,
+            value: u8,
+            answer: *mut u32,
+            answer_len: usize,
+        ) -> u32;
+        pub fn jigwaret_close(
+            sheet: *const u8,
+            sheet_len: usize,
+            storage: *const u64,
+            storage_len: usize,
+            record: *mut u32,
+            record_len: usize,
+            answer: *mut u32,
+            answer_len: usize,
+        ) -> u32;
+    }
+}
+
+/// Checks a sheet.
+pub fn check(sheet: &[u8]) -> u32 {
+    // SAFETY: the library only reads the bytes of the slice.
+    unsafe { ffi::jigwaret_check(sheet.as_ptr(), sheet.len()) }
+}
+
+/// Writes one byte for each letter into `out`: bit k is output k.
+pub fn evaluate(sheet: &[u8], letters: &[u8], out: &mut [u8]) -> u32 {
+    // SAFETY: the library reads the first two slices and writes only inside the third.
+    unsafe {
+        ffi::jigwaret_evaluate(
+            sheet.as_ptr(),
+            sheet.len(),
+            letters.as_ptr(),
+            letters.len(),
+            out.as_mut_ptr(),
+            out.len(),
+        )
+    }
+}
+
+/// Prepares the storage, makes the record fresh and writes the live count into `answer`.
+pub fn prepare(sheet: &[u8], storage: &mut [u64], record: &mut [u32], answer: &mut [u32]) -> u32 {
+    // SAFETY: the library reads the sheet and writes only inside the other slices.
+    unsafe {
+        ffi::jigwaret_prepare(
+            sheet.as_ptr(),
+            sheet.len(),
+            storage.as_mut_ptr(),
+            storage.len(),
+            record.as_mut_ptr(),
+            record.len(),
+            answer.as_mut_ptr(),
+            answer.len(),
+        )
+    }
+}
+
+/// Takes a round into the record and storage and writes the verdicts into `answer`.
+pub fn round(sheet: &[u8], storage: &mut [u64], record: &mut [u32], known: u8, value: u8, answer: &mut [u32]) -> u32 {
+    // SAFETY: the library reads the sheet and writes only inside the other slices.
+    unsafe {
+        ffi::jigwaret_round(
+            sheet.as_ptr(),
+            sheet.len(),
+            storage.as_mut_ptr(),
+            storage.len(),
+            record.as_mut_ptr(),
+            record.len(),
+            known,
+            value,
+            answer.as_mut_ptr(),
+            answer.len(),
+        )
+    }
+}
+
+/// Marks the record closed and writes the closing verdicts and the shares into `answer`.
+pub fn close(sheet: &[u8], storage: &[u64], record: &mut [u32], answer: &mut [u32]) -> u32 {
+    // SAFETY: the library reads the sheet and the storage and writes only inside the other slices.
+    unsafe {
+        ffi::jigwaret_close(
+            sheet.as_ptr(),
+            sheet.len(),
+            storage.as_ptr(),
+            storage.len(),
+            record.as_mut_ptr(),
+            record.len(),
+            answer.as_mut_ptr(),
+            answer.len(),
+        )
+    }
+}

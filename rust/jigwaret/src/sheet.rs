@@ -1,0 +1,90 @@
+//! Rule sheets, and the values of whole traces.
+
+use crate::raw;
+use crate::refusal::Refusal;
+
+/// Whether a sheet is accepted.
+pub fn check(sheet: &[u8]) -> Result<(), Refusal> {
+    Refusal::outcome(raw::check(sheet))
+}
+
+/// Writes for each letter the byte whose bit k is output k. Bytes of `out` after those keep their
+/// contents.
+pub fn evaluate(sheet: &[u8], letters: &[u8], out: &mut [u8]) -> Result<(), Refusal> {
+    Refusal::outcome(raw::evaluate(sheet, letters, out))
+}
+
+/// The bytes of a sheet that was accepted.
+#[derive(Clone, Debug, PartialEq, Eq)]
+pub struct Sheet {
+    bytes: Vec<u8>,
+}
+
+impl Sheet {
+    pub fn new(bytes: impl Into<Vec<u8>>) -> Result<Sheet, Refusal> {
+        let bytes = bytes.into();
+        check(&bytes)?;
+        Ok(Sheet { bytes })
+    }
+
+    pub fn bytes(&self) -> &[u8] {
+        &self.bytes
+    }
+
+    /// 1 to 6.
+    pub fn inputs(&self) -> usize {
+        self.bytes[5] as usize
+    }
+
+    /// 1 to 7.
+    pub fn outputs(&self) -> usize {
+        self.bytes[6] as usize
+    }
+
+    /// The number of the output that is assumed to be true in every round.
+    pub fn assumption(&self) -> Option<usize> {
+        Some(self.bytes[7] as usize).filter(|&output| output < self.outputs())
+    }
+
+    /// For each letter the byte whose bit k is output k. The assumption is not enforced.
+    pub fn evaluate(&self, letters: &[u8]) -> Result<Vec<u8>, Refusal> {
+        let mut out = vec![0; letters.len()];
+        evaluate(&self.bytes, letters, &mut out)?;
+        Ok(out)
+    }
+}
+
+#[cfg(test)]
+mod tests {
+    use super::*;
+
+    const SESSION: &[u8] = include_bytes!("../../../examples/session/sheet.slr");
+
+    #[test]
+    fn parts_of_a_sheet() {
+        let sheet = Sheet::new(SESSION).unwrap();
+        assert_eq!((sheet.inputs(), sheet.outputs(), sheet.assumption()), (2, 2, Some(1)));
+        let plain = Sheet::new(*b"SLR\x01\x00\x01\x01\xFF\x01\x40").unwrap();
+        assert_eq!((plain.inputs(), plain.outputs(), plain.assumption()), (1, 1, None));
+    }
+
+    #[test]
+    fn refused_sheets() {
+        assert_eq!(check(b""), Err(Refusal::Short));
+        assert_eq!(check(b"SLX\x01\x00\x01\x01\xFF\x01\x40"), Err(Refusal::Mark));
+        assert_eq!(Sheet::new(*b"SLR\x01\x00\x01\x01\xFF\x01\x41"), Err(Refusal::Circular));
+    }
+
+    #[test]
+    fn whole_traces() {
+        let sheet = Sheet::new(SESSION).unwrap();
+        assert_eq!(sheet.evaluate(&[1, 2, 0]), Ok(vec![3, 3, 3]));
+        assert_eq!(sheet.evaluate(&[1]), Ok(vec![2]));
+        assert_eq!(sheet.evaluate(&[]), Err(Refusal::Extent));
+        assert_eq!(sheet.evaluate(&[4]), Err(Refusal::Letter));
+        let mut longer = [9; 3];
+        assert_eq!(evaluate(SESSION, &[1, 2], &mut longer), Ok(()));
+        assert_eq!(longer, [3, 3, 9]);
+        assert_eq!(evaluate(SESSION, &[1, 2], &mut longer[..1]), Err(Refusal::Extent));
+    }
+}

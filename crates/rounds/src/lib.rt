@@ -196,9 +196,10 @@ pub fn first_round(s: &mut [u64], code: &[u8], len: &[usize], m: usize, n: usize
     requires { ⌜ 3084 ≤ length (now s) ⌝ }
     ensures { λ r. ⌜ ((ks : List ℕ) → Rounded (2 ^ (m + n)) (now (s .entry)) (now (s .exit)) (startSet (sheetOf m n (now (code .entry)) (now (len .entry)) ks) (stored (now (s .entry)) 0) (among letters m))) ⌝ }
 {
-    pairs::clear(s, 1028);
+    let v = valuations(m, n);
+    pairs::clear_rows(s, 1028, v);
     start_rows(s, code, len, m, n, letters);
-    pairs::clear(s, 2056);
+    pairs::clear_rows(s, 2056, v);
 }
 
 // ---- A later round
@@ -280,11 +281,11 @@ pub fn later_round(s: &mut [u64], code: &[u8], len: &[usize], m: usize, n: usize
     let v = valuations(m, n);
     let w = (v + 63) / 64;
     let mask = lanes::earlier_mask(code, len, m, n);
-    pairs::clear(s, 2056);
+    pairs::clear_rows(s, 2056, v);
     group_rows(s, v, w, mask);
-    pairs::clear(s, 1028);
+    pairs::clear_rows(s, 1028, v);
     bring_rows(s, code, len, m, n, letters);
-    pairs::clear(s, 2056);
+    pairs::clear_rows(s, 2056, v);
 }
 
 // ---- Verdicts

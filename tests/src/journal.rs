@@ -215,8 +215,8 @@ fn hear(monitor: &Result<Monitor, u32>, held: &mut Held, heard: Heard) -> Result
     let before = (held.record[0] > 0).then(|| set(1));
     let reached = monitor.step(&set(0), before.as_ref(), heard);
     let verdicts = monitor.verdicts(&reached);
-    held.storage[SET_WORDS..2 * SET_WORDS].copy_from_slice(&reached.to_words());
-    held.storage[2 * SET_WORDS..STORAGE_WORDS].fill(0);
+    reached.write(&mut held.storage[SET_WORDS..2 * SET_WORDS]);
+    Pairs::none(monitor.size()).write(&mut held.storage[2 * SET_WORDS..STORAGE_WORDS]);
     held.record[0] += 1;
     for (k, &verdict) in verdicts.iter().enumerate() {
         held.record[2 + 4 * k + column(verdict)] += 1;

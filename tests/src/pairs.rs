@@ -58,11 +58,19 @@ impl Pairs {
 
     pub fn to_words(&self) -> Vec<u64> {
         let mut words = vec![0; SET_WORDS];
+        self.write(&mut words);
+        words
+    }
+
+    /// Writes the set where sheets of this size have theirs: rows below the size, and the last four
+    /// numbers. The others stay as they are.
+    pub fn write(&self, words: &mut [u64]) {
+        words[..4 * self.size].fill(0);
+        words[SET_WORDS - 4..SET_WORDS].fill(0);
         for (a, b) in self.all() {
             let (word, bit) = self.place(a, b);
             words[word] |= 1 << bit;
         }
-        words
     }
 
     /// The word and the bit of a pair: row a is the four words from 4 a, and the last four words
@@ -103,6 +111,18 @@ mod tests {
         assert_eq!(full.count(), 65_792);
         let small = Pairs { size: 4, members: vec![true; 4 * 5] };
         assert_eq!(small.to_words().iter().map(|word| word.count_ones()).sum::<u32>(), 20);
+    }
+
+    #[test]
+    fn rows_that_are_not_written() {
+        for size in [4, 16, 128, 256] {
+            let mut words = vec![u64::MAX; SET_WORDS];
+            Pairs::none(size).write(&mut words);
+            for (place, &word) in words.iter().enumerate() {
+                let kept = 4 * size <= place && place < 1024;
+                assert_eq!(word, if kept { u64::MAX } else { 0 }, "word {place} at size {size}");
+            }
+        }
     }
 
     #[test]

@@ -436,7 +436,8 @@ fn consistent(random: &mut Random, held: &mut Held, rounds: u32, outputs: usize)
 }
 
 /// Rounds and closings follow the same steps on whatever sets they find. What lies at or beyond the
-/// number of valuations does not matter, and is 0 in the reached set afterwards.
+/// number of valuations does not matter: it is 0 afterwards in the numbers in use, and elsewhere as
+/// it was found.
 #[test]
 fn unprepared_storage() {
     let mut random = Random::new(36);
@@ -468,7 +469,13 @@ fn unprepared_storage() {
             assert_eq!(call(&subject.sheet, &mut cleared, made), number);
             assert_eq!((&held.record, &held.answer), (&cleared.record, &cleared.answer));
             if matches!(made, Call::Round(_)) && number == 0 {
-                assert_eq!(held.storage[SET_WORDS..STORAGE_WORDS], cleared.storage[SET_WORDS..STORAGE_WORDS]);
+                for set in [1, 2] {
+                    let in_use = |held: &Held| {
+                        let words = &held.storage[set * SET_WORDS..(set + 1) * SET_WORDS];
+                        [&words[..4 * size], &words[1024..]].concat()
+                    };
+                    assert_eq!(in_use(&held), in_use(&cleared));
+                }
             }
         }
     }

@@ -1,7 +1,7 @@
 //! The entries, in two ways: with the sheet's bytes at each call, as the library takes them, and with
 //! a sheet that was read once.
 
-use super::sets::{count, ends, find_live, step, verdicts, Set};
+use super::sets::{clear_rows, count, ends, find_live, step, verdicts, Set};
 use super::sheet::Sheet;
 
 pub const STORAGE_WORDS: usize = 3 * SET_WORDS;
@@ -52,9 +52,8 @@ fn try_round(
     check_record(&sheet, record)?;
     check_round(&sheet, record, known, value)?;
     // Nothing is known of what was found.
-    scratch.fill(0);
+    clear_rows(scratch, sheet.size());
     let firsts = step(&sheet, live, reached, scratch, record[0] == 0, letters(known, value));
-    reached[4 * sheet.size()..SET_WORDS - 4].fill(0);
     let found = verdicts(&sheet, firsts);
     tally(record, &found[..sheet.outputs]);
     (0..sheet.outputs).for_each(|k| answer[k] = found[k] as u32);

@@ -28,7 +28,7 @@ fn has_end(set: &Set, a: usize) -> bool {
     set[ENDS + a / 64] >> (a % 64) & 1 == 1
 }
 
-fn clear_rows(set: &mut Set, size: usize) {
+pub fn clear_rows(set: &mut Set, size: usize) {
     set[..4 * size].fill(0);
     set[ENDS..].fill(0);
 }

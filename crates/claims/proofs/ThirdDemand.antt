@@ -38,7 +38,7 @@ use Rattle.record.specs.declared.JournalRecord.{JournalRecord}
 use Rattle.record.proofs.Tallies.{record-is, record-more}
 use Rattle.monitor.specs.Checks as checks
 use Rattle.monitor.specs.Results.{width, nextSet, Prepared, RoundDone, ClosingDone, Verdicts, OfSheet, RoundResult, ClosingResult}
-use Rattle.monitor.proofs.Rounding.{within-same, wider}
+use Rattle.monitor.proofs.Rounding.{reached-below, wider}
 use Rattle.monitor.specs.declared.PrepareAnswer.{PrepareAnswer}
 use Rattle.monitor.specs.declared.RoundAnswer.{RoundAnswer}
 use Rattle.monitor.specs.declared.ClosingAnswer.{ClosingAnswer}
@@ -171,7 +171,7 @@ module _ (bs : List ℕ) (x : RuleSheet) (ok : SheetOk bs x) where
         (next-reaches x L (tr .live) (onLetters x (b .rounds)) (stored (h .storage) 1028) (r .rounds) (onLetter x m)
         (tr .matches .rounds ∙ sym (length-map (b .rounds) (onLetter x))) (tr .reached)) in
         let same : (a : ℕ) (c : Option ℕ) → a < w → Within w c → stored t 1028 a c ≡ S a c =
-        λ a c ha hc. d .reached a c (omega (arith, w-small)) (wider w w-small c hc) ∙ within-same w S a c ha hc in
+        λ a c ha hc. d .reached a c (omega (arith, w-small)) (wider w w-small c hc) ∙ reached-below w S (stored (h .storage) 1028 a c) a c ha hc in
         let lives : (a : ℕ) (c : Option ℕ) → a < w → Within w c → stored t 0 a c ≡ L a c =
         λ a c ha hc. stored-same (h .storage) t 0 a c (omega (arith, w-small)) (wider w w-small c hc) (λ k l. d .live k l) in
         let live′ : Represents w (stored t 0) (Live x) = represents-as w L (stored t 0) (Live x) lives (tr .live) in

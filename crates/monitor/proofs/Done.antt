@@ -1,6 +1,6 @@
 -- What a step, the verdicts and the tallies come to: a round and a closing as they are defined.
 use mathlib.Core.Path.{_≡_, sym, ap, ap₂, _∙_, subst}
-use mathlib.Core.Bool.{Bool, true}
+use mathlib.Core.Bool.{Bool, true, false, cond}
 use mathlib.Core.List.{List}
 use mathlib.Core.Option.{Option}
 use Prim.Native.Nat.{ℕ, _+_, _^_, _<_, _≤_}
@@ -21,7 +21,7 @@ use Rattle.completions.specs.Live.{Pairs}
 use Rattle.completions.specs.Completion.{masked}
 use Rattle.completions.specs.Steps.{Within, stepSet, pairsVerdict, endsVerdict}
 use Rattle.letters.specs.Matching.{matches}
-use Rattle.pairs.specs.Storage.{stored}
+use Rattle.pairs.specs.Storage.{stored, used}
 use Rattle.record.specs.Record.{Counted}
 use Rattle.record.specs.Columns.{AreVerdicts}
 use Rattle.record.specs.declared.JournalRecord.{JournalRecord}
@@ -32,7 +32,7 @@ use Rattle.monitor.specs.Results.{width, heard, nextSet, within, Verdict
 use Rattle.monitor.specs.Steps.{given, RoundReady, Shares}
 use Rattle.monitor.specs.declared.RoundAnswer.{RoundAnswer}
 use Rattle.monitor.specs.declared.ClosingAnswer.{ClosingAnswer}
-use Rattle.monitor.proofs.Rounding.{sheet-outputs, sheet-width, heard-as, pairs-verdict-as, within-same, wider}
+use Rattle.monitor.proofs.Rounding.{sheet-outputs, sheet-width, heard-as, pairs-verdict-as, reached-below, wider}
 use Rattle.monitor.proofs.Entries.{next-later}
 
 verdict-small : (v : Verdict) → verdictNo v ≤ 3
@@ -76,18 +76,20 @@ module _ (x : Sheet) (u : Usable x) where
   round-done s t r known val letters a ready f d v e₁ e₂ e₃ =
       let H : among letters (x .inputs) ≡ heard X (masked known val) = heard-as X letters known val (u .ranges .inputs) (ready .masks) f in
       let R : Pairs = nextSet X (stored s 0) (r .rounds) (stored s 1028) (heard X (masked known val)) in
-      let same : (b : ℕ) (c : Option ℕ) → b < 256 → Within 256 c → stored t 1028 b c ≡ within (width X) R b c =
-      λ b c hb hc. d .reached b c hb hc ∙ ap₂ (λ (w : ℕ) (S : Pairs). within w S b c) (sym (sheet-width x)) (ap (nextSet X (stored s 0) (r .rounds) (stored s 1028)) H) in
+      let same : (b : ℕ) (c : Option ℕ) → b < 256 → Within 256 c → stored t 1028 b c ≡ cond (used (width X) b c) (within (width X) R b c) (stored s 1028 b c) =
+      λ b c hb hc.
+      d .reached b c hb hc
+      ∙ ap₂ (λ (w : ℕ) (S : Pairs). cond (used w b c) (within w S b c) (stored s 1028 b c)) (sym (sheet-width x)) (ap (nextSet X (stored s 0) (r .rounds) (stored s 1028)) H) in
       record {
         kept = record { same-length = d .same-length; beyond = d .beyond };
         live = d .live;
         reached = same;
-        empty = d .empty;
+        scratch = λ b c hb hc. d .scratch b c hb hc ∙ ap (λ (w : ℕ). cond (used w b c) false (stored s 2056 b c)) (sym (sheet-width x));
         verdicts = told-verdicts _ (λ k. pairsVerdict (width X) R (output X k)) (a .verdicts)
             (λ k.
             ap (λ (w : ℕ). pairsVerdict w (stored t 1028) (bit (x .inputs + k))) (sym (sheet-width x))
             ∙ pairs-verdict-as (width X) (stored t 1028) R (output X k)
-            (λ b c hb hc. same b c (omega (arith, small)) (wider (width X) small c hc) ∙ within-same (width X) R b c hb hc))
+            (λ b c hb hc. same b c (omega (arith, small)) (wider (width X) small c hc) ∙ reached-below (width X) R (stored s 1028 b c) b c hb hc))
             v;
         rounds = e₁;
         closed = e₂;

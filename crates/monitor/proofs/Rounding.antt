@@ -1,6 +1,6 @@
 -- From what a step leaves in the storage to what a round is defined to do.
 use mathlib.Core.Path.{_≡_, refl, sym, ap, ap₂, _∙_, subst, fun-ext}
-use mathlib.Core.Bool.{Bool, true, false, not, _&&_, _||_}
+use mathlib.Core.Bool.{Bool, true, false, cond, not, _&&_, _||_}
 use mathlib.Core.List.{List}
 use mathlib.Core.Option.{Option, none, some}
 use Prim.Native.Nat.{ℕ, zero, suc, _+_, _*_, _%_, _^_, _<_, _≤_}
@@ -26,6 +26,8 @@ use Rattle.completions.specs.Steps.{Within, anyNext, anyPair, verdictOf, pairsV
 use Rattle.letters.specs.Masks.{badMasks}
 use Rattle.letters.specs.Matching.{matches}
 use Rattle.letters.proofs.Matching.{Valid, valid, matches-masked}
+use Rattle.pairs.specs.Storage.{used}
+use Rattle.pairs.proofs.Sets.{used-below}
 use Rattle.monitor.specs.Results.{width, heard, within, below}
 
 -- ---- the sheet's numbers
@@ -68,6 +70,10 @@ pairs-verdict-as w S R g e =
 pub within-same : (w : ℕ) (S : Pairs) (b : ℕ) (c : Option ℕ) → b < w → Within w c → within w S b c ≡ S b c
 within-same w S b none h i = rw (lt-ltb b w h)
 within-same w S b (some c) h i = rw (lt-ltb b w h, lt-ltb c w i)
+
+-- and so is a set that is so cut down in the words that w valuations use
+pub reached-below : (w : ℕ) (S : Pairs) (l : Bool) (b : ℕ) (c : Option ℕ) → b < w → Within w c → cond (used w b c) (within w S b c) l ≡ S b c
+reached-below w S l b c h i = ap (λ (u : Bool). cond u (within w S b c) l) (used-below w b c h) ∙ within-same w S b c h i
 
 pub wider : (w : ℕ) → w ≤ 256 → (c : Option ℕ) → Within w c → Within 256 c
 wider w h none i = tt

@@ -1,7 +1,7 @@
 -- What preparation, rounds and closing answer, and what they leave in the storage (01, "Completions and verdicts", "Tallies"). On
 -- storage that preparation never filled, rounds and closing follow the same steps on the sets found there.
 use mathlib.Core.Path.{_≡_}
-use mathlib.Core.Bool.{Bool, true, false, _&&_}
+use mathlib.Core.Bool.{Bool, true, false, cond, _&&_}
 use mathlib.Core.List.{List}
 use mathlib.Core.Option.{Option, none, some}
 use Prim.Native.Nat.{ℕ, zero, suc, _+_, _*_, _^_, _<_, _≤_}
@@ -18,7 +18,7 @@ use Rattle.lola.specs.Equations.{output, letter}
 use Rattle.completions.specs.Live.{Pairs, Live, countPairs}
 use Rattle.completions.specs.Completion.{LetterSet, masked}
 use Rattle.completions.specs.Steps.{Within, Represents, startSet, stepSet, pairsVerdict, endsVerdict}
-use Rattle.pairs.specs.Storage.{stored}
+use Rattle.pairs.specs.Storage.{stored, used}
 use Rattle.record.specs.Record.{Fresh, Counted, countAt, share}
 use Rattle.record.specs.declared.JournalRecord.{JournalRecord}
 use Rattle.monitor.specs.declared.PrepareAnswer.{PrepareAnswer}
@@ -71,13 +71,15 @@ pub record Verdicts (n : ℕ) (f : ℕ → Verdict) (vs : List ℕ) : Type 0 whe
   pub each : (k : ℕ) → k < n → getD vs k 0 ≡ verdictNo (f k)
   pub beyond : (k : ℕ) → n ≤ k → getD vs k 0 ≡ 0
 
--- A round: the reached set makes one step, each output's verdict is read off it and counted.
+-- A round: the reached set makes one step, each output's verdict is read off it and counted. The scratch set is left empty. Words that
+-- the sheet's valuations don't use stay as found: 0, where preparation filled the storage.
 pub record RoundDone (x : RuleSheet) (s t : List ℕ) (r : JournalRecord) (known val : ℕ) (a : RoundAnswer) : Type 0 where
   pub kept : Kept s t
   pub live : (k : ℕ) → k < 1028 → getD t k 0 ≡ getD s k 0
   pub reached : (b : ℕ) (c : Option ℕ) → b < 256 → Within 256 c
-      → stored t 1028 b c ≡ within (width x) (nextSet x (stored s 0) (r .rounds) (stored s 1028) (heard x (masked known val))) b c
-  pub empty : Zero 2056 3084 t
+      → stored t 1028 b c
+      ≡ cond (used (width x) b c) (within (width x) (nextSet x (stored s 0) (r .rounds) (stored s 1028) (heard x (masked known val))) b c) (stored s 1028 b c)
+  pub scratch : (b : ℕ) (c : Option ℕ) → b < 256 → Within 256 c → stored t 2056 b c ≡ cond (used (width x) b c) false (stored s 2056 b c)
   pub verdicts : Verdicts (outputs x)
       (λ k. pairsVerdict (width x) (nextSet x (stored s 0) (r .rounds) (stored s 1028) (heard x (masked known val))) (output x k)) (a .verdicts)
   pub rounds : a .record .rounds ≡ r .rounds + 1

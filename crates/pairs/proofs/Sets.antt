@@ -1,13 +1,13 @@
 -- Laws of the sets in the storage.
 use mathlib.Core.Path.{_≡_, refl, sym, ap, ap₂, _∙_}
-use mathlib.Core.Bool.{Bool, true, false, _&&_, _||_}
+use mathlib.Core.Bool.{Bool, true, false, cond, _&&_, _||_}
 use mathlib.Core.List.{List}
 use mathlib.Core.Option.{Option, none, some}
 use Prim.Native.Nat.{ℕ, _+_, _-_, _*_, _/_, _%_, _^_, _≤_, _<_}
 use native.Mathlib.Omega.{arith}
 use native.Mathlib.Decide.{ℕ-discrete, decLt}
-use borrow.Author.Tests.{eq-eqb, ne-eqb}
-use lib.Dec.{eqb}
+use borrow.Author.Tests.{eq-eqb, ne-eqb, lt-ltb}
+use lib.Dec.{eqb, ltb}
 use lib.Bits.{bitOr}
 use lib.ListN.{length, getD, set, length-set}
 use lib.Seq.{getD-set-same, getD-set-other}
@@ -15,8 +15,8 @@ use Rattle.words.specs.Bits.{bit, digit}
 use Rattle.words.proofs.BitLaws.{bit-or, bit-shl, bit-none, bits-ext}
 use Rattle.completions.specs.Live.{Pairs}
 use Rattle.completions.specs.Steps.{Within}
-use Rattle.pairs.specs.Storage.{place, slot, stored}
-use Rattle.pairs.specs.Changes.{eqNext, inWord, Adds, rowBit, Cleared, Copied}
+use Rattle.pairs.specs.Storage.{place, slot, stored, used}
+use Rattle.pairs.specs.Changes.{eqNext, inWord, Adds, rowBit, RowsCleared, Cleared, Copied}
 use Rattle.pairs.proofs.Bools.{and-true, and-false, or-false, or-assoc}
 
 pub place-lt : (x : ℕ) (y : Option ℕ) → x < 256 → Within 256 y → place x y < 1028
@@ -153,6 +153,24 @@ module _ (base : ℕ) (s t : List ℕ) (p : Cleared base s t) where
 
   pub cleared-beyond : (b x : ℕ) (y : Option ℕ) → x < 256 → Within 256 y → base + 1028 ≤ b → stored t b x y ≡ stored s b x y
   cleared-beyond b x y hx hy h = stored-eq s t b b x y hx hy (λ k g. p .beyond (b + k) (omega arith))
+
+module _ (base v : ℕ) (s t : List ℕ) (p : RowsCleared base v s t) where
+  pub rows-before : (b x : ℕ) (y : Option ℕ) → x < 256 → Within 256 y → b + 1028 ≤ base → stored t b x y ≡ stored s b x y
+  rows-before b x y hx hy h = stored-eq s t b b x y hx hy (λ k g. p .before (b + k) (omega arith))
+
+  pub rows-beyond : (b x : ℕ) (y : Option ℕ) → x < 256 → Within 256 y → base + 1028 ≤ b → stored t b x y ≡ stored s b x y
+  rows-beyond b x y hx hy h = stored-eq s t b b x y hx hy (λ k g. p .beyond (b + k) (omega arith))
+
+-- the words in use hold every pair of valuations below v
+pub used-below : (v x : ℕ) (y : Option ℕ) → x < v → used v x y ≡ true
+unfolding used
+used-below v x none h = refl
+used-below v x (some c) h = lt-ltb x v h
+
+pub unused : (v x : ℕ) (y : Option ℕ) → used v x y ≡ false → ltb x v ≡ false
+unfolding used
+unused v x none e = absurd (let z : _≡_ {A = ℕ} 0 1 = cc in omega arith)
+unused v x (some c) e = e
 
 module _ (s t : List ℕ) (p : Copied s t) where
   pub copied-reached : (x : ℕ) (y : Option ℕ) → x < 256 → Within 256 y → stored t 1028 x y ≡ stored s 2056 x y

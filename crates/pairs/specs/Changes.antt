@@ -1,6 +1,6 @@
 -- What the functions on stored sets do: for the contracts of private functions.
 use mathlib.Core.Path.{_≡_}
-use mathlib.Core.Bool.{Bool, true, false, _&&_, _||_}
+use mathlib.Core.Bool.{Bool, true, false, cond, _&&_, _||_}
 use mathlib.Core.List.{List}
 use mathlib.Core.Option.{Option, none, some}
 use Prim.Native.Nat.{ℕ, _+_, _*_, _/_, _%_, _<_, _≤_}
@@ -9,7 +9,7 @@ use lib.ListN.{length, getD}
 use Rattle.words.specs.Bits.{bit}
 use Rattle.completions.specs.Live.{Pairs}
 use Rattle.completions.specs.Steps.{Within}
-use Rattle.pairs.specs.Storage.{stored}
+use Rattle.pairs.specs.Storage.{stored, used}
 
 -- the same second part
 unfoldable pub eqNext : Option ℕ → Option ℕ → Bool
@@ -40,6 +40,20 @@ pub record NextBit (s : List ℕ) (at w from r : ℕ) : Type 0 where
   pub inside : r ≤ 64 * w
   pub skipped : (x : ℕ) → from ≤ x → x < r → rowBit s at x ≡ false
   pub found : r < 64 * w → rowBit s at r ≡ true
+
+-- n words from `at` on are 0, and no others are changed
+pub record Zeroed (at n : ℕ) (s t : List ℕ) : Type 0 where
+  pub same-length : length t ≡ length s
+  pub before : (k : ℕ) → k < at → getD t k 0 ≡ getD s k 0
+  pub beyond : (k : ℕ) → at + n ≤ k → getD t k 0 ≡ getD s k 0
+  pub zero-now : (k : ℕ) → k < n → getD t (at + k) 0 ≡ 0
+
+-- the words that v valuations use of the set at `base` are 0, and no others are changed
+pub record RowsCleared (base v : ℕ) (s t : List ℕ) : Type 0 where
+  pub same-length : length t ≡ length s
+  pub before : (k : ℕ) → k < base → getD t k 0 ≡ getD s k 0
+  pub beyond : (k : ℕ) → base + 1028 ≤ k → getD t k 0 ≡ getD s k 0
+  pub emptied : (x : ℕ) (y : Option ℕ) → x < 256 → Within 256 y → stored t base x y ≡ cond (used v x y) false (stored s base x y)
 
 -- the words of the set at `base` are 0, and no others are changed
 pub record Cleared (base : ℕ) (s t : List ℕ) : Type 0 where

@@ -2,9 +2,11 @@
 -- docs/LAYOUT). A set takes 1,028 words. Words 4 a to 4 a + 3 are row a: the valuations that follow a. Words 1,024 to 1,027 are the
 -- valuations that the end mark follows. The live set begins at word 0, the reached set at 1,028, the scratch set at 2,056; all three
 -- end with word 3,083.
+use mathlib.Core.Bool.{Bool, true}
 use mathlib.Core.Option.{Option, none, some}
 use mathlib.Core.List.{List}
 use Prim.Native.Nat.{ℕ, _+_, _*_, _/_, _%_}
+use lib.Dec.{ltb}
 use lib.ListN.{getD}
 use Rattle.words.specs.Bits.{bit}
 use Rattle.completions.specs.Live.{Pairs}
@@ -22,3 +24,8 @@ slot a (some b) = b % 64
 -- the set whose words begin at `base`
 unfoldable pub stored : List ℕ → ℕ → Pairs
 stored ws base a c = bit (slot a c) (getD ws (base + place a c) 0)
+
+-- whether the pair lies in the words that a sheet with v valuations uses: the rows below v, and the last four. Rounds write no others.
+unfoldable pub used : ℕ → ℕ → Option ℕ → Bool
+used v a none = true
+used v a (some b) = ltb a v

@@ -7,7 +7,7 @@ ghost use lib.ListN.{length};
 ghost use Prim.Native.Nat.{_+_, _*_, _<_, _≤_};
 ghost use Rattle.completions.specs.Live.{countPairs};
 ghost use Rattle.pairs.specs.Storage.{stored};
-ghost use Rattle.pairs.specs.Changes.{eqNext, inWord, Adds, NextBit, Cleared, Copied};
+ghost use Rattle.pairs.specs.Changes.{eqNext, inWord, Adds, NextBit, Zeroed, RowsCleared, Cleared, Copied};
 
 // Whether (a, b) is in the set at base.
 pub fn has(s: &[u64], base: usize, a: usize, b: usize) -> bool
@@ -68,16 +68,33 @@ pub fn next_bit(s: &[u64], at: usize, w: usize, from: usize) -> usize
     64 * w
 }
 
+// Writes 0 into n words from `at` on.
+fn clear_words(s: &mut [u64], at: usize, n: usize)
+    requires { ⌜ (at + n ≤ 3084) × (3084 ≤ length (now s)) ⌝ }
+    ensures { λ r. ⌜ Zeroed at n (now (s .entry)) (now (s .exit)) ⌝ }
+{
+    let mut k: usize = 0;
+    while k < n {
+        s[at + k] = 0;
+        k += 1;
+    }
+}
+
 // Empties the set at base.
 pub fn clear(s: &mut [u64], base: usize)
     requires { ⌜ (base ≤ 2056) × (3084 ≤ length (now s)) ⌝ }
     ensures { λ r. ⌜ Cleared base (now (s .entry)) (now (s .exit)) ⌝ }
 {
-    let mut k: usize = 0;
-    while k < 1028 {
-        s[base + k] = 0;
-        k += 1;
-    }
+    clear_words(s, base, 1028);
+}
+
+// Empties the rows below v and the ends of the set at base.
+pub fn clear_rows(s: &mut [u64], base: usize, v: usize)
+    requires { ⌜ (v ≤ 256) × (base ≤ 2056) × (3084 ≤ length (now s)) ⌝ }
+    ensures { λ r. ⌜ RowsCleared base v (now (s .entry)) (now (s .exit)) ⌝ }
+{
+    clear_words(s, base, 4 * v);
+    clear_words(s, base + 1024, 4);
 }
 
 // Copies the scratch set onto the reached set.

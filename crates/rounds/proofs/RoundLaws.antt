@@ -1,12 +1,12 @@
 -- A round. Assumes nothing.
 use mathlib.Core.Path.{_≡_, refl, sym, ap, ap₂, _∙_}
-use mathlib.Core.Bool.{Bool, true, false, _&&_, _||_}
+use mathlib.Core.Bool.{Bool, true, false, cond, _&&_, _||_}
 use mathlib.Core.List.{List}
 use mathlib.Core.Option.{Option, none, some}
 use Prim.Native.Nat.{ℕ, _+_, _-_, _*_, _%_, _^_, _≤_, _<_}
 use native.Mathlib.Omega.{arith}
 use native.Mathlib.Decide.{decLt}
-use borrow.Author.Tests.{eq-eqb, eqb-true, lt-ltb, le-ltb}
+use borrow.Author.Tests.{eq-eqb, ne-eqb, eqb-true, lt-ltb, le-ltb, ltb-false}
 use lib.Bits.{bitAnd, and-le-l}
 use lib.Dec.{T, eqb, ltb}
 use lib.Pow.{pow-mono}
@@ -19,33 +19,46 @@ use Rattle.completions.specs.Live.{Pairs}
 use Rattle.completions.specs.Steps.{Within, startSet, stepSet}
 use Rattle.completions.proofs.Tests.{true-of}
 use Rattle.completions.proofs.Search.{any-found}
-use Rattle.pairs.specs.Storage.{stored}
-use Rattle.pairs.specs.Changes.{Adds, Cleared}
-use Rattle.pairs.proofs.Bools.{and-false, iff}
-use Rattle.pairs.proofs.Sets.{cleared-none, cleared-before, cleared-beyond, adds-before}
-use Rattle.rounds.specs.Rows.{below, gains, brought, grouped}
+use Rattle.pairs.specs.Storage.{stored, used}
+use Rattle.pairs.specs.Changes.{Adds, RowsCleared}
+use Rattle.pairs.proofs.Bools.{and-false, or-false, iff}
+use Rattle.pairs.proofs.Sets.{rows-before, rows-beyond, used-below, unused, adds-before, adds-beyond}
+use Rattle.rounds.specs.Rows.{below, cut, gains, brought, grouped}
 use Rattle.rounds.specs.Round.{Rounded}
 
 pub two-to : (k : ℕ) → k ≤ 8 → (1 * 2 ^ k % 2 ^ 64 ≡ 2 ^ k) × (1 * 2 ^ k % 2 ^ 64 ≤ 256)
 two-to k h = let g : 2 ^ k ≤ 256 = pow-mono h in (one-shl k (omega arith), omega (arith, one-shl k (omega arith)))
+
+-- ---- the words in use
+
+-- what a set gains that was cleared where u says so, if all of it lies there
+gained : (u p l : Bool) → (u ≡ false → p ≡ false) → (cond u false l || p) ≡ cond u p l
+gained true p l f = refl
+gained false p l f = ap (λ (z : Bool). l || z) (f refl) ∙ or-false l
 
 -- ---- the first round
 
 abbrev Started : RuleSheet → ℕ → (ℕ → Bool) → List ℕ → Pairs
 Started x w r s = gains x (λ a. ltb a w && r a) (below w) (stored s 0) none
 
-pub rounded-first : (x : RuleSheet) (w : ℕ) (r : ℕ → Bool) (s t u v : List ℕ) → Cleared 1028 s t → Adds 1028 t u (Started x w r t) → Cleared 2056 u v → Rounded w s v (startSet x (stored s 0) r)
+pub rounded-first : (x : RuleSheet) (w n : ℕ) (r : ℕ → Bool) (s t u v : List ℕ) → n ≡ w → RowsCleared 1028 n s t → Adds 1028 t u (Started x w r t) → RowsCleared 2056 n u v
+    → Rounded w s v (startSet x (stored s 0) r)
 unfolding gains startSet
-rounded-first x w r s t u v c a d = record {
+rounded-first x w n r s t u v is c a d = record {
   same-length = d .same-length ∙ a .same-length ∙ c .same-length;
   live = λ k h. d .before k (omega arith) ∙ a .before k h ∙ c .before k h;
   beyond = λ k h. d .beyond k h ∙ a .beyond k (omega arith) ∙ c .beyond k (omega arith);
   reached = λ b y hb hy.
-      cleared-before 2056 u v d 1028 b y hb hy (omega arith)
+      rows-before 2056 n u v d 1028 b y hb hy (omega arith)
       ∙ a .adds b y hb hy
-      ∙ ap₂ (λ (o l : Bool). o || ((ltb b w && r b) && (below w y && (l && holds x none b y)))) (cleared-none 1028 s t c b y hb hy) (cleared-before 1028 s t c 0 b y hb hy (omega arith))
-      ∙ order (ltb b w) (r b) (below w y) (stored s 0 b y) (holds x none b y);
-  empty = λ k h l. let e : 2056 + (k - 2056) ≡ k = omega arith in rw e at (d .zero-now (k - 2056) (omega arith));
+      ∙ ap₂ (λ (o l : Bool). o || ((ltb b w && r b) && (below w y && (l && holds x none b y)))) (c .emptied b y hb hy) (rows-before 1028 n s t c 0 b y hb hy (omega arith))
+      ∙ ap₂ (λ (z : ℕ) (p : Bool). cond (used z b y) false (stored s 1028 b y) || p) is (order (ltb b w) (r b) (below w y) (stored s 0 b y) (holds x none b y))
+      ∙ gained (used w b y) (ltb b w && (below w y && (stored s 0 b y && (r b && holds x none b y)))) (stored s 1028 b y)
+      (λ e. ap (λ (z : Bool). z && (below w y && (stored s 0 b y && (r b && holds x none b y)))) (unused w b y e));
+  scratch = λ b y hb hy.
+      d .emptied b y hb hy
+      ∙ ap₂ (λ (z : ℕ) (l : Bool). cond (used z b y) false l) is
+      (adds-beyond 1028 t u (Started x w r t) a 2056 b y hb hy (omega arith) ∙ rows-beyond 1028 n s t c 2056 b y hb hy (omega arith));
 }
   where
     order : (i q y l h : Bool) → ((i && q) && (y && (l && h))) ≡ (i && (y && (l && (q && h))))
@@ -110,36 +123,48 @@ out w true true true true G H = any-cong w _ _ (λ g h. ap (λ (u : Bool). u && 
     and-one true = refl
     and-one false = refl
 
+-- no group has a number beyond those of its rows
+group-low : (S : Pairs) (mask n v g : ℕ) (c : Option ℕ) → v ≤ g → grouped S mask n v g c ≡ false
+unfolding grouped
+group-low S mask n v g c h =
+    none-any v _
+    (λ a ha. ap (λ (u : Bool). u && cut (λ b. ltb b n && S a (some b)) c) (ne-eqb g (bitAnd a mask) (λ e. let l : bitAnd a mask ≤ a = and-le-l a mask in omega arith)))
+
 module _ (x : RuleSheet) (mask : ℕ) (blind : Blind x mask) (w n : ℕ) (r : ℕ → Bool) (hw : w ≤ 256) (hn : w ≤ 64 * n) where
   -- the storage: at first, cleared scratch, grouped, cleared reached, brought, cleared scratch
-  module _ (s s₁ s₂ s₃ s₄ s₅ : List ℕ) (v : ℕ) (is : v ≡ w) (a : Cleared 2056 s s₁) (b : Adds 2056 s₁ s₂ (grouped (stored s₁ 1028) mask (64 * n) v)) (c : Cleared 1028 s₂ s₃)
-      (d : Adds 1028 s₃ s₄ (brought x (stored s₃ 2056) w r (stored s₃ 0) w)) (e : Cleared 2056 s₄ s₅) where
+  module _ (s s₁ s₂ s₃ s₄ s₅ : List ℕ) (v : ℕ) (is : v ≡ w) (a : RowsCleared 2056 v s s₁) (b : Adds 2056 s₁ s₂ (grouped (stored s₁ 1028) mask (64 * n) v)) (c : RowsCleared 1028 v s₂ s₃)
+      (d : Adds 1028 s₃ s₄ (brought x (stored s₃ 2056) w r (stored s₃ 0) w)) (e : RowsCleared 2056 v s₄ s₅) where
     abbrev G₁ : Pairs
     G₁ = grouped (stored s₁ 1028) mask (64 * n) v
 
+    abbrev Brought : Pairs
+    Brought = brought x (stored s₃ 2056) w r (stored s₃ 0) w
+
+    abbrev Next : Pairs
+    Next k y = ltb k w && (below w y && stepSet x w (stored s 0) (stored s 1028) r k y)
+
     live-same : (k : ℕ) (y : Option ℕ) → k < 256 → Within 256 y → stored s₃ 0 k y ≡ stored s 0 k y
     live-same k y hk hy =
-        cleared-before 1028 s₂ s₃ c 0 k y hk hy (omega arith) ∙ adds-before 2056 s₁ s₂ G₁ b 0 k y hk hy (omega arith) ∙ cleared-before 2056 s s₁ a 0 k y hk hy (omega arith)
+        rows-before 1028 v s₂ s₃ c 0 k y hk hy (omega arith) ∙ adds-before 2056 s₁ s₂ G₁ b 0 k y hk hy (omega arith) ∙ rows-before 2056 v s s₁ a 0 k y hk hy (omega arith)
 
-    group-same : (g k : ℕ) → g < 256 → k < w → stored s₃ 2056 g (some k) ≡ anyBelow w (λ i. eqb g (bitAnd i mask) && stored s 1028 i (some k))
+    group-same : (g k : ℕ) → g < w → k < w → stored s₃ 2056 g (some k) ≡ anyBelow w (λ i. eqb g (bitAnd i mask) && stored s 1028 i (some k))
     unfolding grouped
     group-same g k hg hk =
+        let hg′ : g < 256 = omega arith in
         let hk′ : k < 256 = omega arith in
         let hm : k < 64 * n = omega arith in
-        cleared-beyond 1028 s₂ s₃ c 2056 g (some k) hg hk′ (omega arith)
-        ∙ b .adds g (some k) hg hk′
-        ∙ ap (λ (u : Bool). u || G₁ g (some k)) (cleared-none 2056 s s₁ a g (some k) hg hk′)
+        rows-beyond 1028 v s₂ s₃ c 2056 g (some k) hg′ hk′ (omega arith)
+        ∙ b .adds g (some k) hg′ hk′
+        ∙ ap (λ (u : Bool). u || G₁ g (some k))
+        (a .emptied g (some k) hg′ hk′ ∙ ap (λ (u : Bool). cond u false (stored s 2056 g (some k))) (used-below v g (some k) (omega arith)))
         ∙ any-cong v _ (λ i. eqb g (bitAnd i mask) && stored s 1028 i (some k))
-        (λ i hi. ap₂ (λ (p q : Bool). eqb g (bitAnd i mask) && (p && q)) (lt-ltb k (64 * n) hm) (cleared-before 2056 s s₁ a 1028 i (some k) (omega arith) hk′ (omega arith)))
+        (λ i hi. ap₂ (λ (p q : Bool). eqb g (bitAnd i mask) && (p && q)) (lt-ltb k (64 * n) hm) (rows-before 2056 v s s₁ a 1028 i (some k) (omega arith) hk′ (omega arith)))
         ∙ ap (λ (z : ℕ). anyBelow z (λ i. eqb g (bitAnd i mask) && stored s 1028 i (some k))) is
 
-    reached-is : (k : ℕ) (y : Option ℕ) → k < 256 → Within 256 y → stored s₅ 1028 k y ≡ (ltb k w && (below w y && stepSet x w (stored s 0) (stored s 1028) r k y))
+    brought-is : (k : ℕ) (y : Option ℕ) → k < 256 → Within 256 y → Brought k y ≡ Next k y
     unfolding brought gains stepSet
-    reached-is k y hk hy =
-        cleared-before 2056 s₄ s₅ e 1028 k y hk hy (omega arith)
-        ∙ d .adds k y hk hy
-        ∙ ap (λ (u : Bool). u || brought x (stored s₃ 2056) w r (stored s₃ 0) w k y) (cleared-none 1028 s₂ s₃ c k y hk hy)
-        ∙ out w (ltb k w) (r k) (below w y) (stored s₃ 0 k y) (λ g. stored s₃ 2056 g (some k)) (λ g. holds x (some g) k y)
+    brought-is k y hk hy =
+        out w (ltb k w) (r k) (below w y) (stored s₃ 0 k y) (λ g. stored s₃ 2056 g (some k)) (λ g. holds x (some g) k y)
         ∙ ap (λ (l : Bool). ltb k w && (below w y && (l && (r k && anyBelow w (λ g. stored s₃ 2056 g (some k) && holds x (some g) k y))))) (live-same k y hk hy)
         ∙ at (decLt k w)
       where
@@ -148,9 +173,36 @@ module _ (x : RuleSheet) (mask : ℕ) (blind : Blind x mask) (w n : ℕ) (r : �
             ≡ (ltb k w && (below w y && (stored s 0 k y && (r k && anyBelow w (λ i. stored s 1028 i (some k) && holds x (some i) k y)))))
         at (yes h) =
             ap (λ (u : Bool). ltb k w && (below w y && (stored s 0 k y && (r k && u))))
-            (any-cong w _ _ (λ g hg. ap (λ (u : Bool). u && holds x (some g) k y) (group-same g k (omega arith) h))
+            (any-cong w _ _ (λ g hg. ap (λ (u : Bool). u && holds x (some g) k y) (group-same g k hg h))
             ∙ groups-same x mask blind (stored s 1028) w k y)
         at (no h) = let z : w ≤ k = omega arith in rw (le-ltb k w z)
+
+    reached-is : (k : ℕ) (y : Option ℕ) → k < 256 → Within 256 y → stored s₅ 1028 k y ≡ cond (used w k y) (Next k y) (stored s 1028 k y)
+    reached-is k y hk hy =
+        rows-before 2056 v s₄ s₅ e 1028 k y hk hy (omega arith)
+        ∙ d .adds k y hk hy
+        ∙ ap₂ _||_
+        (c .emptied k y hk hy
+        ∙ ap₂ (λ (z : ℕ) (l : Bool). cond (used z k y) false l) is (adds-before 2056 s₁ s₂ G₁ b 1028 k y hk hy (omega arith) ∙ rows-before 2056 v s s₁ a 1028 k y hk hy (omega arith)))
+        (brought-is k y hk hy)
+        ∙ gained (used w k y) (Next k y) (stored s 1028 k y)
+        (λ q. ap (λ (u : Bool). u && (below w y && stepSet x w (stored s 0) (stored s 1028) r k y)) (unused w k y q))
+
+    -- the groups lie in the words in use
+    scratch-is : (k : ℕ) (y : Option ℕ) → k < 256 → Within 256 y → stored s₅ 2056 k y ≡ cond (used w k y) false (stored s 2056 k y)
+    scratch-is k y hk hy =
+        e .emptied k y hk hy
+        ∙ ap (cond (used v k y) false)
+        (adds-beyond 1028 s₃ s₄ Brought d 2056 k y hk hy (omega arith)
+        ∙ rows-beyond 1028 v s₂ s₃ c 2056 k y hk hy (omega arith)
+        ∙ b .adds k y hk hy
+        ∙ ap (λ (l : Bool). l || G₁ k y) (a .emptied k y hk hy))
+        ∙ both (used v k y) (G₁ k y) (stored s 2056 k y) (λ q. group-low (stored s₁ 1028) mask (64 * n) v k y (ltb-false k v (unused v k y q)))
+        ∙ ap (λ (z : ℕ). cond (used z k y) false (stored s 2056 k y)) is
+      where
+        both : (u p l : Bool) → (u ≡ false → p ≡ false) → cond u false (cond u false l || p) ≡ cond u false l
+        both true p l f = refl
+        both false p l f = ap (λ (z : Bool). l || z) (f refl) ∙ or-false l
 
     pub rounded-later : Rounded w s s₅ (stepSet x w (stored s 0) (stored s 1028) r)
     rounded-later = record {
@@ -158,5 +210,5 @@ module _ (x : RuleSheet) (mask : ℕ) (blind : Blind x mask) (w n : ℕ) (r : �
       live = λ k h. e .before k (omega arith) ∙ d .before k h ∙ c .before k h ∙ b .before k (omega arith) ∙ a .before k (omega arith);
       beyond = λ k h. e .beyond k h ∙ d .beyond k (omega arith) ∙ c .beyond k (omega arith) ∙ b .beyond k h ∙ a .beyond k h;
       reached = reached-is;
-      empty = λ k h l. let z : 2056 + (k - 2056) ≡ k = omega arith in rw z at (e .zero-now (k - 2056) (omega arith));
+      scratch = scratch-is;
     }

@@ -196,9 +196,10 @@ pub fn first_round(s: &mut [u64], code: &[u8], len: &[usize], m: usize, n: usize
     requires { ⌜ 3084 ≤ length (now s) ⌝ }
     ensures { λ r. ⌜ ((ks : List ℕ) → Rounded (2 ^ (m + n)) (now (s .entry)) (now (s .exit)) (startSet (sheetOf m n (now (code .entry)) (now (len .entry)) ks) (stored (now (s .entry)) 0) (among letters m))) ⌝ }
 {
-    pairs::clear(s, 1028);
+    let v = valuations(m, n);
+    pairs::clear_rows(s, 1028, v);
     start_rows(s, code, len, m, n, letters);
-    pairs::clear(s, 2056);
+    pairs::clear_rows(s, 2056, v);
 }
 
 // ---- A later round
@@ -229,19 +230,27 @@ fn group_rows(s: &mut [u64], v: usize, w: usize, mask: usize)
 }
 
 // The pairs that row g of the scratch set brings.
-fn bring_row(s: &mut [u64], code: &[u8], len: &[usize], m: usize, n: usize, letters: u64, g: usize)
+fn bring_row(
+    s: &mut [u64],
+    t: &mut [u64],
+    st: &mut [u64],
+    code: &[u8],
+    len: &[usize],
+    m: usize,
+    n: usize,
+    letters: u64,
+    g: usize,
+)
     requires { ⌜ Coded m n (now code) (now len) ⌝ }
-    requires { ⌜ (3084 ≤ length (now s)) × (g < 256) ⌝ }
+    requires { ⌜ (length (now st) ≡ 64) × (length (now t) ≡ 48) × (3084 ≤ length (now s)) × (g < 256) ⌝ }
     ensures { λ r. ⌜ ((ks : List ℕ) → Adds 1028 (now (s .entry)) (now (s .exit)) (gains (sheetOf m n (now (code .entry)) (now (len .entry)) ks) (heardIn (stored (now (s .entry)) 2056) (2 ^ (m + n)) (among letters m) g) (below (2 ^ (m + n))) (stored (now (s .entry)) 0) (some g))) ⌝ }
 {
     let v = valuations(m, n);
     let w = (v + 63) / 64;
     let at = 2056 + 4 * g;
-    let mut t = [0u64; 48];
-    let mut st = [0u64; 64];
     let mut b = pairs::next_bit(s, at, w, 0);
     while b < v {
-        gain_heard(s, &mut t, &mut st, code, len, m, n, letters, false, g, b);
+        gain_heard(s, t, st, code, len, m, n, letters, false, g, b);
         b = pairs::next_bit(s, at, w, b + 1);
     }
 }
@@ -253,9 +262,11 @@ fn bring_rows(s: &mut [u64], code: &[u8], len: &[usize], m: usize, n: usize, let
     ensures { λ r. ⌜ ((ks : List ℕ) → Adds 1028 (now (s .entry)) (now (s .exit)) (brought (sheetOf m n (now (code .entry)) (now (len .entry)) ks) (stored (now (s .entry)) 2056) (2 ^ (m + n)) (among letters m) (stored (now (s .entry)) 0) (2 ^ (m + n)))) ⌝ }
 {
     let v = valuations(m, n);
+    let mut t = [0u64; 48];
+    let mut st = [0u64; 64];
     let mut g: usize = 0;
     while g < v {
-        bring_row(s, code, len, m, n, letters, g);
+        bring_row(s, &mut t, &mut st, code, len, m, n, letters, g);
         g += 1;
     }
 }
@@ -270,11 +281,11 @@ pub fn later_round(s: &mut [u64], code: &[u8], len: &[usize], m: usize, n: usize
     let v = valuations(m, n);
     let w = (v + 63) / 64;
     let mask = lanes::earlier_mask(code, len, m, n);
-    pairs::clear(s, 2056);
+    pairs::clear_rows(s, 2056, v);
     group_rows(s, v, w, mask);
-    pairs::clear(s, 1028);
+    pairs::clear_rows(s, 1028, v);
     bring_rows(s, code, len, m, n, letters);
-    pairs::clear(s, 2056);
+    pairs::clear_rows(s, 2056, v);
 }
 
 // ---- Verdicts

@@ -8,13 +8,13 @@ use Rattle.pairs.proofs.publish.Statement.{statement}
 use Rattle.pairs.proofs.publish.Tie as tie
 
 abbrev Inv-loop : tie.InvT-loop
-Inv-loop s₀ k₀ s k = Filling 1028 (λ k. getD s₀ (2056 + k) 0) s₀ s k
+Inv-loop s₀ k₀ s k = Filling 1028 1028 (λ k. getD s₀ (2056 + k) 0) s₀ s k
 
 abbrev μ-loop : tie.MeasureT-loop
 μ-loop s₀ k₀ s k = 1028 - k
 
 loop-holds : tie.Need-loop-holds Inv-loop μ-loop
-loop-holds c = filling-none _ _ _
+loop-holds c = filling-none _ _ _ _
 
 add-s : tie.Need-add-s Inv-loop μ-loop
 add-s c = search needs
@@ -41,7 +41,7 @@ loop-less : tie.Need-loop-less Inv-loop μ-loop
 loop-less c = search needs
 
 loop-again : tie.Need-loop-again Inv-loop μ-loop
-loop-again c = filling-more _ _ _ _ _ _ (c .before .loop-test .taken) (omega arith) (c .before .before .loop .inv) (c .before .before .loop .inv .beyond _ (omega arith))
+loop-again c = filling-more _ _ _ _ _ _ _ (c .before .loop-test .taken) (omega arith) (c .before .before .loop .inv) (c .before .before .loop .inv .beyond _ (omega arith))
 
 same-length : tie.Need-same-length Inv-loop μ-loop
 same-length c = search needs

@@ -13,7 +13,7 @@ use Rattle.rounds.proofs.bring_row.Statement.{statement}
 use Rattle.rounds.proofs.bring_row.Tie as tie
 
 abbrev Inv-loop : tie.InvT-loop
-Inv-loop s₀ code len m n letters g v w at t₀ st₀ b₀ s t st b =
+Inv-loop s₀ t₀ st₀ code len m n letters g v w at b₀ s t st b =
     (b ≤ 64 * w)
     × (length s ≡ length s₀)
     × (length t ≡ 48)
@@ -21,10 +21,10 @@ Inv-loop s₀ code len m n letters g v w at t₀ st₀ b₀ s t st b =
     × ((ks : List ℕ) → Bringing (sheetOf m n code len ks) s₀ s (2 ^ (m + n)) g (among letters m) b)
 
 abbrev μ-loop : tie.MeasureT-loop
-μ-loop s₀ code len m n letters g v w at t₀ st₀ b₀ s t st b = v - b
+μ-loop s₀ t₀ st₀ code len m n letters g v w at b₀ s t st b = v - b
 
 valuations-requires : tie.Need-valuations-requires Inv-loop μ-loop
-valuations-requires c κs = c .before .before .before .pre .0 .ranges .streams
+valuations-requires c κs = c .before .before .before .before .before .pre .0 .ranges .streams
 
 add-w : tie.Need-add-w Inv-loop μ-loop
 add-w c = search needs
@@ -39,16 +39,16 @@ next-bit-requires : tie.Need-next-bit-requires Inv-loop μ-loop
 next-bit-requires c κs = search needs
 
 loop-holds : tie.Need-loop-holds Inv-loop μ-loop
-loop-holds c = (c .next-bit .ensures .inside, refl, refl, refl, λ ks. bring-first _ _ _ _ _ (omega (arith, c .before .before .valuations .ensures)) (c .before .before .before .before .before .before .pre .1 .1) _ _ (omega (arith, c .before .before .valuations .ensures)) (c .next-bit .ensures))
-
-slice-aggregate-gain-heard : tie.Need-slice-aggregate-gain-heard Inv-loop μ-loop
-slice-aggregate-gain-heard c = search needs
-
-slice-aggregate-gain-heard-2 : tie.Need-slice-aggregate-gain-heard-2 Inv-loop μ-loop
-slice-aggregate-gain-heard-2 c = search needs
+loop-holds c = (
+  c .next-bit .ensures .inside,
+  refl,
+  c .before .before .before .before .before .before .before .before .pre .1 .1,
+  c .before .before .before .before .before .before .before .before .pre .1 .0,
+  λ ks. bring-first _ _ _ _ _ (omega (arith, c .before .before .valuations .ensures)) (c .before .before .before .before .before .before .before .before .pre .1 .3) _ _ (omega (arith, c .before .before .valuations .ensures)) (c .next-bit .ensures),
+)
 
 gain-heard-requires : tie.Need-gain-heard-requires Inv-loop μ-loop
-gain-heard-requires c κs = (c .before .before .before .before .before .before .before .before .before .before .before .pre .0, (c .before .before .before .before .loop .inv .3, c .before .before .before .before .loop .inv .2, omega (arith, c .before .before .before .before .loop .inv .1, c .before .before .before .before .before .before .before .before .before .before .before .pre .1 .0), omega (arith, c .before .before .before .before .before .before .before .valuations .ensures)))
+gain-heard-requires c κs = (c .before .before .before .before .before .before .before .before .before .before .before .before .before .pre .0, (c .before .before .before .before .loop .inv .3, c .before .before .before .before .loop .inv .2, omega (arith, c .before .before .before .before .loop .inv .1, c .before .before .before .before .before .before .before .before .before .before .before .before .before .pre .1), omega (arith, c .before .before .before .before .before .before .before .valuations .ensures)))
 
 add-next-bit : tie.Need-add-next-bit Inv-loop μ-loop
 add-next-bit c = search needs
@@ -64,16 +64,22 @@ unfolding unless
 loop-again c = (
   c .next-bit2 .ensures .inside,
   omega arith,
-  omega (arith, c .before .before .before .t2 .given, c .before .before .before .before .before .before .before .before .before .before .before .loop .inv .2),
-  omega (arith, c .before .before .st2 .given, c .before .before .before .before .before .before .before .before .before .before .before .loop .inv .3),
-  λ ks. bring-more _ _ _ _ _ (omega (arith, c .before .before .before .before .before .before .before .before .before .before .before .before .before .before .valuations .ensures)) (c .before .before .before .before .before .before .before .before .before .before .before .before .before .before .before .before .before .before .pre .1 .1) _ _ _ _ _ (omega (arith, c .before .before .before .before .before .before .before .before .before .before .before .before .before .before .valuations .ensures)) (omega (arith, c .before .before .before .before .before .before .before .before .before .before .before .before .before .before .valuations .ensures)) (c .before .before .before .before .before .before .before .before .before .before .before .loop .inv .4 ks) (c .before .before .before .before .before .before .gain-heard .ensures ks) (c .next-bit2 .ensures),
+  omega arith,
+  omega arith,
+  λ ks. bring-more _ _ _ _ _ (omega (arith, c .before .before .before .before .before .before .before .before .before .before .before .before .before .before .before .before .valuations .ensures)) (c .before .before .before .before .before .before .before .before .before .before .before .before .before .before .before .before .before .before .before .before .before .before .pre .1 .3) _ _ _ _ _ (omega (arith, c .before .before .before .before .before .before .before .before .before .before .before .before .before .before .before .before .valuations .ensures)) (omega (arith, c .before .before .before .before .before .before .before .before .before .before .before .before .before .before .before .before .valuations .ensures)) (c .before .before .before .before .before .before .before .before .before .before .before .before .before .loop .inv .4 ks) (c .before .before .before .before .before .before .before .before .gain-heard .ensures ks) (c .next-bit2 .ensures),
 )
 
 same-length : tie.Need-same-length Inv-loop μ-loop
 same-length c = search needs
 
+same-length-2 : tie.Need-same-length-2 Inv-loop μ-loop
+same-length-2 c = search needs
+
+same-length-3 : tie.Need-same-length-3 Inv-loop μ-loop
+same-length-3 c = search needs
+
 returns : tie.Need-returns Inv-loop μ-loop
-returns c = λ ks. bring-all _ _ _ _ _ (omega (arith, c .before .before .before .before .valuations .ensures)) (c .before .before .before .before .before .before .before .before .pre .1 .1) _ _ (omega (arith, c .before .before .before .before .valuations .ensures)) (c .before .loop .inv .4 ks)
+returns c = λ ks. bring-all _ _ _ _ _ (omega (arith, c .before .before .before .before .valuations .ensures)) (c .before .before .before .before .before .before .before .before .before .before .pre .1 .3) _ _ (omega (arith, c .before .before .before .before .valuations .ensures)) (c .before .loop .inv .4 ks)
 
 pub bring-row-spec : {M : Type 1} → statement M
 bring-row-spec =
@@ -87,12 +93,12 @@ bring-row-spec =
     add-at
     next-bit-requires
     loop-holds
-    slice-aggregate-gain-heard
-    slice-aggregate-gain-heard-2
     gain-heard-requires
     add-next-bit
     next-bit-requires-2
     loop-less
     loop-again
     same-length
+    same-length-2
+    same-length-3
     returns)

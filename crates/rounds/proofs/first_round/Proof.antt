@@ -4,21 +4,31 @@ use Rattle.rounds.proofs.RoundLaws.{rounded-first}
 use Rattle.rounds.proofs.first_round.Statement.{statement}
 use Rattle.rounds.proofs.first_round.Tie as tie
 
-clear-requires : tie.Need-clear-requires
-clear-requires c κs = search needs
+valuations-requires : tie.Need-valuations-requires
+valuations-requires c κs = search needs
+
+clear-rows-requires : tie.Need-clear-rows-requires
+clear-rows-requires c κs = search needs
 
 start-rows-requires : tie.Need-start-rows-requires
 start-rows-requires c κs = search needs
 
-clear-requires-2 : tie.Need-clear-requires-2
-clear-requires-2 c κs = search needs
+clear-rows-requires-2 : tie.Need-clear-rows-requires-2
+clear-rows-requires-2 c κs = search needs
 
 same-length : tie.Need-same-length
 same-length c = search needs
 
 returns : tie.Need-returns
-returns c = λ ks. rounded-first _ _ _ _ _ _ _ (c .before .before .before .before .before .before .before .before .before .before .clear .ensures) (c .before .before .before .before .before .before .start-rows .ensures ks) (c .before .before .clear2 .ensures)
+returns c = λ ks. rounded-first _ _ _ _ _ _ _ _ (c .before .before .before .before .before .before .before .before .before .before .before .before .valuations .ensures .0) (c .before .before .before .before .before .before .before .before .before .before .clear-rows .ensures) (c .before .before .before .before .before .before .start-rows .ensures ks) (c .before .before .clear-rows2 .ensures)
 
 pub first-round-spec : {M : Type 1} → statement M
 first-round-spec =
-    tie.close (tie.spec clear-requires start-rows-requires clear-requires-2 same-length returns)
+    tie.close
+    (tie.spec
+    valuations-requires
+    clear-rows-requires
+    start-rows-requires
+    clear-rows-requires-2
+    same-length
+    returns)

@@ -14,20 +14,20 @@ add-w c = search needs
 earlier-mask-requires : tie.Need-earlier-mask-requires
 earlier-mask-requires c κs = search needs
 
-clear-requires : tie.Need-clear-requires
-clear-requires c κs = search needs
+clear-rows-requires : tie.Need-clear-rows-requires
+clear-rows-requires c κs = search needs
 
 group-rows-requires : tie.Need-group-rows-requires
 group-rows-requires c κs = search needs
 
-clear-requires-2 : tie.Need-clear-requires-2
-clear-requires-2 c κs = search needs
+clear-rows-requires-2 : tie.Need-clear-rows-requires-2
+clear-rows-requires-2 c κs = search needs
 
 bring-rows-requires : tie.Need-bring-rows-requires
 bring-rows-requires c κs = search needs
 
-clear-requires-3 : tie.Need-clear-requires-3
-clear-requires-3 c κs = search needs
+clear-rows-requires-3 : tie.Need-clear-rows-requires-3
+clear-rows-requires-3 c κs = search needs
 
 same-length : tie.Need-same-length
 same-length c = search needs
@@ -35,7 +35,7 @@ same-length c = search needs
 returns : tie.Need-returns
 returns c = λ ks.
     rounded-later _ _ (c .before .before .before .before .before .before .before .before .before .before .before .before .before .before .before .before .before .before .before .before .earlier-mask .ensures ks) _ _ _ (omega (arith, c .before .before .before .before .before .before .before .before .before .before .before .before .before .before .before .before .before .before .before .before .before .valuations .ensures)) (omega (arith, c .before .before .before .before .before .before .before .before .before .before .before .before .before .before .before .before .before .before .before .before .before .valuations .ensures)) _ _ _ _ _ _ _ (c .before .before .before .before .before .before .before .before .before .before .before .before .before .before .before .before .before .before .before .before .before .valuations .ensures .0)
-    (c .before .before .before .before .before .before .before .before .before .before .before .before .before .before .before .before .before .before .clear .ensures) (c .before .before .before .before .before .before .before .before .before .before .before .before .before .before .group-rows .ensures) (c .before .before .before .before .before .before .before .before .before .before .clear2 .ensures) (c .before .before .before .before .before .before .bring-rows .ensures ks) (c .before .before .clear3 .ensures)
+    (c .before .before .before .before .before .before .before .before .before .before .before .before .before .before .before .before .before .before .clear-rows .ensures) (c .before .before .before .before .before .before .before .before .before .before .before .before .before .before .group-rows .ensures) (c .before .before .before .before .before .before .before .before .before .before .clear-rows2 .ensures) (c .before .before .before .before .before .before .bring-rows .ensures ks) (c .before .before .clear-rows3 .ensures)
 
 pub later-round-spec : {M : Type 1} → statement M
 later-round-spec =
@@ -44,10 +44,10 @@ later-round-spec =
     valuations-requires
     add-w
     earlier-mask-requires
-    clear-requires
+    clear-rows-requires
     group-rows-requires
-    clear-requires-2
+    clear-rows-requires-2
     bring-rows-requires
-    clear-requires-3
+    clear-rows-requires-3
     same-length
     returns)

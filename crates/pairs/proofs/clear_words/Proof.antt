@@ -2,18 +2,18 @@ use native.Mathlib.Omega.{arith}
 use borrow.Author.Needs.{needs}
 use Prim.Native.Nat.{ℕ, _+_, _*_, _-_, _<_, _≤_}
 use mathlib.Core.Path.{_≡_, refl}
-use Rattle.pairs.proofs.Fill.{Filling, filling-none, filling-more, cleared}
-use Rattle.pairs.proofs.clear.Statement.{statement}
-use Rattle.pairs.proofs.clear.Tie as tie
+use Rattle.pairs.proofs.Fill.{Filling, filling-none, filling-more, zeroed}
+use Rattle.pairs.proofs.clear_words.Statement.{statement}
+use Rattle.pairs.proofs.clear_words.Tie as tie
 
 abbrev Inv-loop : tie.InvT-loop
-Inv-loop s₀ base k₀ s k = Filling base (λ k. 0) s₀ s k
+Inv-loop s₀ at n k₀ s k = Filling at n (λ k. 0) s₀ s k
 
 abbrev μ-loop : tie.MeasureT-loop
-μ-loop s₀ base k₀ s k = 1028 - k
+μ-loop s₀ at n k₀ s k = n - k
 
 loop-holds : tie.Need-loop-holds Inv-loop μ-loop
-loop-holds c = filling-none _ _ _
+loop-holds c = filling-none _ _ _ _
 
 add-s : tie.Need-add-s Inv-loop μ-loop
 add-s c = search needs
@@ -31,16 +31,16 @@ loop-less : tie.Need-loop-less Inv-loop μ-loop
 loop-less c = search needs
 
 loop-again : tie.Need-loop-again Inv-loop μ-loop
-loop-again c = filling-more _ _ _ _ _ _ (c .loop-test .taken) (omega arith) (c .before .loop .inv) refl
+loop-again c = filling-more _ _ _ _ _ _ _ (c .loop-test .taken) (omega arith) (c .before .loop .inv) refl
 
 same-length : tie.Need-same-length Inv-loop μ-loop
 same-length c = search needs
 
 returns : tie.Need-returns Inv-loop μ-loop
-returns c = cleared _ _ _ _ (c .loop-test .left) (c .before .loop .inv)
+returns c = zeroed _ _ _ _ _ (c .loop-test .left) (c .before .loop .inv)
 
-pub clear-spec : {M : Type 1} → statement M
-clear-spec =
+pub clear-words-spec : {M : Type 1} → statement M
+clear-words-spec =
     tie.close
     (tie.spec
     Inv-loop

@@ -14,7 +14,7 @@ use Rattle.words.proofs.BitLaws.{digit-zero}
 use Rattle.sheet.specs.declared.Offset.{Offset}
 use Rattle.sheet.specs.declared.Offset.the-variants.{Earlier, Now, Later}
 use Rattle.lola.specs.Value.{near, neighbours}
-use Rattle.lanes.specs.Table.{slot, envAt, tableLook, Part, Put, Near, PutNear, Seen, Ahead, unless}
+use Rattle.lanes.specs.Table.{slot, envAt, tableLook, Part, Put, Near, PutNear, Before, Seen, Ahead, unless}
 
 -- ---- eight words, one after the other
 
@@ -129,13 +129,19 @@ module _ (t u : List ℕ) (P : ℕ → Option ℕ) (b : ℕ) (c : Option ℕ) (a
   pub ahead-filled : Filled u P b (λ i. c)
   ahead-filled = record { here = ahead-kept .here; before = put .part; after = ahead-kept .after }
 
--- the round b, then a neighbour
-pub seen-start : (t₀ t t′ : List ℕ) (p : Option ℕ) (b : ℕ) → length t₀ ≡ 48 → Put 0 (λ q i. bit q b) t₀ t → PutNear 16 (λ i. p) t t′ → Seen t′ p b
-seen-start t₀ t t′ p b l f g = record {
-  size = g .size ∙ f .size ∙ l;
-  here = part-below t t′ 0 16 (λ q i. bit q b) (g .below) (omega arith) (f .part);
-  before = g .part;
+-- the round before, then the round b
+pub before-seen : (t t′ : List ℕ) (p : Option ℕ) (b : ℕ) → Before t p → Put 0 (λ q i. bit q b) t t′ → Seen t′ p b
+before-seen t t′ p b h f = record {
+  size = f .size ∙ h .size;
+  here = f .part;
+  before = (
+    part-above t t′ 16 8 (λ q i. near p q false) (f .above) (omega arith) (h .before .0),
+    part-above t t′ 24 8 (λ q i. near p q true) (f .above) (omega arith) (h .before .1),
+  );
 }
+
+pub seen-before : (t : List ℕ) (p : Option ℕ) (b : ℕ) → Seen t p b → Before t p
+seen-before t p b s = record { size = s .size; before = s .before }
 
 pub ahead-start : (t₀ t t′ : List ℕ) (b : ℕ) (c : Option ℕ) → length t₀ ≡ 48 → Put 0 (λ q i. bit q b) t₀ t → PutNear 32 (λ i. c) t t′ → Ahead t′ b c
 ahead-start t₀ t t′ b c l f g = record {

@@ -60,6 +60,11 @@ pub record PutNear (base : ℕ) (N : ℕ → Option ℕ) (t t′ : List ℕ) : T
   pub below : (k : ℕ) → k < base → getD t′ k 0 ≡ getD t k 0
   pub above : (k : ℕ) → base + 16 ≤ k → getD t′ k 0 ≡ getD t k 0
 
+-- the table has the round before, p, in all lanes
+pub record Before (t : List ℕ) (p : Option ℕ) : Type 0 where
+  pub size : length t ≡ 48
+  pub before : Near t 16 (λ i. p)
+
 -- the table has the round b and the round before it, p, in all lanes
 pub record Seen (t : List ℕ) (p : Option ℕ) (b : ℕ) : Type 0 where
   pub size : length t ≡ 48

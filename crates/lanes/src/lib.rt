@@ -12,7 +12,7 @@ ghost use Rattle.sheet.specs.Reading.{treesOf};
 ghost use Rattle.lola.specs.Value.{value};
 ghost use Rattle.lola.specs.Reads.{hasRead};
 ghost use Rattle.lola.specs.Equations.{holds};
-ghost use Rattle.lanes.specs.Table.{tableLook, Stepped, Put, PutNear, Seen, Ahead, unless, earlierByte};
+ghost use Rattle.lanes.specs.Table.{tableLook, Stepped, Put, PutNear, Before, Seen, Ahead, unless, earlierByte};
 ghost use Rattle.lanes.specs.Coded.{Coded, sheetOf, agreed};
 use sheet::OutputNo;
 
@@ -177,13 +177,20 @@ fn put_near_lanes(t: &mut [u64], base: usize, j: usize)
 
 // ---- The rounds after a round
 
-// Prepares the table for the round b after a, or, where first, after nothing.
-pub fn see(t: &mut [u64], first: bool, a: usize, b: usize)
+// Prepares the table for rounds after a, or, where first, after nothing.
+pub fn see_before(t: &mut [u64], first: bool, a: usize)
     requires { ⌜ length (now t) ≡ 48 ⌝ }
-    ensures { λ r. ⌜ Seen (now (t .exit)) (unless first a) b ⌝ }
+    ensures { λ r. ⌜ Before (now (t .exit)) (unless first a) ⌝ }
+{
+    put_near(t, 16, first, a);
+}
+
+// Prepares it for the round b after that.
+pub fn see(t: &mut [u64], b: usize)
+    requires { ⌜ length (now t) ≡ 48 ⌝ }
+    ensures { λ r. ⌜ ((p : Option ℕ) → Before (now (t .entry)) p → Seen (now (t .exit)) p b) ⌝ }
 {
     put_valuation(t, 0, b);
-    put_near(t, 16, first, a);
 }
 
 // The lanes i in which the equations hold at b before 64 * j + i.

@@ -11,7 +11,7 @@ ghost use Rattle.completions.specs.Steps.{startSet, stepSet, anyNext, verdictOf
 ghost use Rattle.pairs.specs.Storage.{stored};
 ghost use Rattle.pairs.specs.Changes.{Adds, eqNext};
 ghost use Rattle.refusal.specs.Numbers.{verdictNo};
-ghost use Rattle.lanes.specs.Table.{Seen, unless};
+ghost use Rattle.lanes.specs.Table.{Before, Seen};
 ghost use Rattle.lanes.specs.Coded.{Coded, sheetOf};
 ghost use Rattle.rounds.specs.Rows.{among, below, cut, gains, heardIn, brought, grouped};
 ghost use Rattle.rounds.specs.Round.{Rounded};
@@ -116,7 +116,7 @@ fn gain_end(
 )
     requires { ⌜ Coded m n (now code) (now len) ⌝ }
     requires { ⌜ (length (now st) ≡ 64) × (length (now t) ≡ 48) × (3084 ≤ length (now s)) × (b < 256) ⌝ }
-    ensures { λ r. ⌜ ((p : Option ℕ) → Seen (now (t .entry)) p b → ((ks : List ℕ) → Adds 1028 (now (s .entry)) (now (s .exit)) (gains (sheetOf m n (now (code .entry)) (now (len .entry)) ks) (λ x. eqb x b) (λ y. eqNext y none) (stored (now (s .entry)) 0) p))) ⌝ }
+    ensures { λ r. ⌜ ((p : Option ℕ) → Seen (now (t .entry)) p b → Seen (now (t .exit)) p b × ((ks : List ℕ) → Adds 1028 (now (s .entry)) (now (s .exit)) (gains (sheetOf m n (now (code .entry)) (now (len .entry)) ks) (λ x. eqb x b) (λ y. eqNext y none) (stored (now (s .entry)) 0) p))) ⌝ }
 {
     if !pairs::has_end(s, 0, b) {
         return;
@@ -127,7 +127,7 @@ fn gain_end(
     pairs::insert_end(s, 1028, b);
 }
 
-// The reached set gains the live pairs (b, c) with the equations at b after a (after nothing, if first).
+// The reached set gains the live pairs (b, c) with the equations at b after the round that the table has before it.
 fn gain(
     s: &mut [u64],
     t: &mut [u64],
@@ -136,15 +136,13 @@ fn gain(
     len: &[usize],
     m: usize,
     n: usize,
-    first: bool,
-    a: usize,
     b: usize,
 )
     requires { ⌜ Coded m n (now code) (now len) ⌝ }
     requires { ⌜ (length (now st) ≡ 64) × (length (now t) ≡ 48) × (3084 ≤ length (now s)) × (b < 256) ⌝ }
-    ensures { λ r. ⌜ ((ks : List ℕ) → Adds 1028 (now (s .entry)) (now (s .exit)) (gains (sheetOf m n (now (code .entry)) (now (len .entry)) ks) (λ x. eqb x b) (below (2 ^ (m + n))) (stored (now (s .entry)) 0) (unless first a))) ⌝ }
+    ensures { λ r. ⌜ ((p : Option ℕ) → Before (now (t .entry)) p → Before (now (t .exit)) p × ((ks : List ℕ) → Adds 1028 (now (s .entry)) (now (s .exit)) (gains (sheetOf m n (now (code .entry)) (now (len .entry)) ks) (λ x. eqb x b) (below (2 ^ (m + n))) (stored (now (s .entry)) 0) p))) ⌝ }
 {
-    lanes::see(t, first, a, b);
+    lanes::see(t, b);
     gain_row(s, t, st, code, len, m, n, b);
     gain_end(s, t, st, code, len, m, n, b);
 }
@@ -159,16 +157,14 @@ fn gain_heard(
     m: usize,
     n: usize,
     letters: u64,
-    first: bool,
-    a: usize,
     b: usize,
 )
     requires { ⌜ Coded m n (now code) (now len) ⌝ }
     requires { ⌜ (length (now st) ≡ 64) × (length (now t) ≡ 48) × (3084 ≤ length (now s)) × (b < 256) ⌝ }
-    ensures { λ r. ⌜ ((ks : List ℕ) → Adds 1028 (now (s .entry)) (now (s .exit)) (gains (sheetOf m n (now (code .entry)) (now (len .entry)) ks) (λ x. eqb x b && among letters m x) (below (2 ^ (m + n))) (stored (now (s .entry)) 0) (unless first a))) ⌝ }
+    ensures { λ r. ⌜ ((p : Option ℕ) → Before (now (t .entry)) p → Before (now (t .exit)) p × ((ks : List ℕ) → Adds 1028 (now (s .entry)) (now (s .exit)) (gains (sheetOf m n (now (code .entry)) (now (len .entry)) ks) (λ x. eqb x b && among letters m x) (below (2 ^ (m + n))) (stored (now (s .entry)) 0) p))) ⌝ }
 {
     if letter_in(letters, m, b) {
-        gain(s, t, st, code, len, m, n, first, a, b);
+        gain(s, t, st, code, len, m, n, b);
     }
 }
 
@@ -183,9 +179,10 @@ fn start_rows(s: &mut [u64], code: &[u8], len: &[usize], m: usize, n: usize, let
     let v = valuations(m, n);
     let mut t = [0u64; 48];
     let mut st = [0u64; 64];
+    lanes::see_before(&mut t, true, 0);
     let mut b: usize = 0;
     while b < v {
-        gain_heard(s, &mut t, &mut st, code, len, m, n, letters, true, 0, b);
+        gain_heard(s, &mut t, &mut st, code, len, m, n, letters, b);
         b += 1;
     }
 }
@@ -249,8 +246,12 @@ fn bring_row(
     let w = (v + 63) / 64;
     let at = 2056 + 4 * g;
     let mut b = pairs::next_bit(s, at, w, 0);
+    if v <= b {
+        return;
+    }
+    lanes::see_before(t, false, g);
     while b < v {
-        gain_heard(s, t, st, code, len, m, n, letters, false, g, b);
+        gain_heard(s, t, st, code, len, m, n, letters, b);
         b = pairs::next_bit(s, at, w, b + 1);
     }
 }

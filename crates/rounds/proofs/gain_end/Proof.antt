@@ -13,7 +13,7 @@ same-length : tie.Need-same-length
 same-length c = search needs
 
 returns : tie.Need-returns
-returns c = λ p seen ks. end-dead _ _ _ p (sym (c .before .has-end .ensures) ∙ not-true _ (c .if1 .taken))
+returns c = λ p seen. (seen, λ ks. end-dead _ _ _ p (sym (c .before .has-end .ensures) ∙ not-true _ (c .if1 .taken)))
 
 holds-at-end-requires : tie.Need-holds-at-end-requires
 holds-at-end-requires c κs = search needs
@@ -28,7 +28,7 @@ same-length-4 : tie.Need-same-length-4
 same-length-4 c = search needs
 
 returns-2 : tie.Need-returns-2
-returns-2 c = λ p seen ks. end-breaks _ _ _ p (sym (c .before .before .before .before .before .holds-at-end .ensures p seen .1 ks) ∙ not-true _ (c .if2 .taken))
+returns-2 c = λ p seen. (c .before .before .before .before .before .holds-at-end .ensures p seen .0, λ ks. end-breaks _ _ _ p (sym (c .before .before .before .before .before .holds-at-end .ensures p seen .1 ks) ∙ not-true _ (c .if2 .taken)))
 
 insert-end-requires : tie.Need-insert-end-requires
 insert-end-requires c κs = search needs
@@ -43,7 +43,7 @@ same-length-7 : tie.Need-same-length-7
 same-length-7 c = search needs
 
 returns-3 : tie.Need-returns-3
-returns-3 c = λ p seen ks. end-set _ _ _ _ p (sym (c .before .before .before .before .before .before .before .before .before .before .before .before .before .has-end .ensures) ∙ not-false _ (c .before .before .before .before .before .before .before .before .before .before .before .before .if1 .left)) (sym (c .before .before .before .before .before .before .before .before .before .holds-at-end .ensures p seen .1 ks) ∙ not-false _ (c .before .before .before .before .if2 .left)) (c .before .before .insert-end .ensures)
+returns-3 c = λ p seen. (c .before .before .before .before .before .before .before .before .before .holds-at-end .ensures p seen .0, λ ks. end-set _ _ _ _ p (sym (c .before .before .before .before .before .before .before .before .before .before .before .before .before .has-end .ensures) ∙ not-false _ (c .before .before .before .before .before .before .before .before .before .before .before .before .if1 .left)) (sym (c .before .before .before .before .before .before .before .before .before .holds-at-end .ensures p seen .1 ks) ∙ not-false _ (c .before .before .before .before .if2 .left)) (c .before .before .insert-end .ensures))
 
 pub gain-end-spec : {M : Type 1} → statement M
 gain-end-spec =

@@ -4,6 +4,7 @@ use Prim.Native.Nat.{ℕ, zero, suc, _+_, _*_, _-_, _/_, _%_, _^_, _≤_, _<_}
 use mathlib.Core.Bool.{Bool, true, false, _&&_, false≢true}
 use mathlib.Core.List.{List}
 use native.Mathlib.Omega.{arith}
+use native.Mathlib.Decide.{ℕ-discrete}
 use native.Mathlib.Numerals.{add-one}
 use lib.Pow.{pow-mono}
 use lib.ListN.{getD}
@@ -52,6 +53,27 @@ best-le g h zero i j hi hj = h .small (7 * i + j) (omega arith)
 best-le g h (suc k) i j hi hj =
     larger-le (bestN g k i j) (plusN (bestN g k i k) (loopN (bestN g k k k) (bestN g k k j)))
     (best-le g h k i j hi hj) (plus-le (bestN g k i k) (loopN (bestN g k k k) (bestN g k k j)))
+
+-- an output that no walk leads to changes nothing
+pub cell-same : (old : List ℕ) (k i : ℕ) → getD old (i / 7 * 7 + k) 0 ≡ 0 → cellN old k i ≡ getD old i 0
+unfolding cellN plusN largerN
+cell-same old k i e =
+    ap (λ (x : ℕ). largerN (getD old i 0) (plusN x (loopN (getD old (8 * k) 0) (getD old (7 * k + i % 7) 0)))) e
+    ∙ ap (λ (b : Bool). pickN b 0 (getD old i 0)) (le-ltb (getD old i 0) 0 (omega arith))
+
+pub none-entered : (old : List ℕ) (k : ℕ) → ((i : ℕ) → i < 7 → getD old (7 * i + k) 0 ≡ 0) → Next old k old
+none-entered old k f = record {
+  cells = λ i h.
+      let e : i / 7 * 7 + k ≡ 7 * (i / 7) + k = omega arith in
+      sym (cell-same old k i (ap (λ (p : ℕ). getD old p 0) e ∙ f (i / 7) (omega arith)));
+}
+
+pub entered-more : (old : List ℕ) (k n : ℕ) → getD old (7 * n + k) 0 ≡ 0 → ((i : ℕ) → i < n → getD old (7 * i + k) 0 ≡ 0) → (i : ℕ) → i < n + 1 → getD old (7 * i + k) 0 ≡ 0
+entered-more old k n e f i h = go (ℕ-discrete i n)
+  where
+    go : Dec (i ≡ n) → getD old (7 * i + k) 0 ≡ 0
+    go (yes d) = ap (λ (p : ℕ). getD old (7 * p + k) 0) d ∙ e
+    go (no d) = f i (omega arith)
 
 -- the flat table after k stages
 pub record Stage (g : List ℕ) (k : ℕ) (t : List ℕ) : Type 0 where

@@ -1,7 +1,8 @@
 // The circularity check on a table of reads: Kleene's algorithm for the largest weights of walks between outputs.
 ghost use mathlib.Core.Path.{_≡_};
 ghost use mathlib.Core.Bool.{true, false};
-ghost use Prim.Native.Nat.{_<_, _≤_};
+ghost use Prim.Native.Nat.{ℕ, _+_, _*_, _<_, _≤_};
+ghost use lib.ListN.{getD};
 ghost use Rattle.circular.specs.Circular.{Circular};
 ghost use Rattle.circular.specs.Table.{largerN, plusN, loopN, cellN, Small, Next, Closed, baseN, Based, readsOf};
 
@@ -66,12 +67,30 @@ fn looped(c: u32, x: u32) -> u32
     UNBOUNDED
 }
 
+// Whether some walk leads to output k.
+fn is_entered(old: &[u32; 49], k: usize) -> bool
+    requires { ⌜ k < 7 ⌝ }
+    ensures { λ r. ⌜ (r ≡ false → (i : ℕ) → i < 7 → getD (now (old .entry)) (7 * i + k) 0 ≡ 0) ⌝ }
+{
+    let mut i: usize = 0;
+    while i < 7 {
+        if old[7 * i + k] != NO_WALK {
+            return true;
+        }
+        i += 1;
+    }
+    false
+}
+
 // Walks that may also pass through output k, for one pair of outputs.
 fn cell(old: &[u32; 49], k: usize, i: usize) -> u32
     requires { ⌜ (k < 7) × (i < 49) × Small (now old) ⌝ }
     ensures { λ r. ⌜ r ≡ cellN (now (old .entry)) k i ⌝ }
 {
     let row = i / 7 * 7 + k;
+    if old[row] == NO_WALK {
+        return old[i];
+    }
     let col = 7 * k + i % 7;
     let mid = 8 * k;
     let tail = looped(old[mid], old[col]);
@@ -79,11 +98,14 @@ fn cell(old: &[u32; 49], k: usize, i: usize) -> u32
     larger(old[i], via)
 }
 
-// The same for all pairs.
+// The same for all pairs. Most sheets have few outputs that others read, and the other outputs change nothing.
 fn stage(old: &[u32; 49], k: usize) -> [u32; 49]
     requires { ⌜ (k < 7) × Small (now old) ⌝ }
     ensures { λ r. ⌜ Next (now (old .entry)) k r ⌝ }
 {
+    if !is_entered(old, k) {
+        return *old;
+    }
     let mut new = [0u32; 49];
     let mut i = 0;
     while i < 49 {

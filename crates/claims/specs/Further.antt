@@ -1,6 +1,8 @@
 -- Further sentences of 01, "The sheet", "Completions and verdicts" and "Tallies", as types.
 use mathlib.Core.Path.{_≡_}
+use mathlib.Core.Bool.{false}
 use mathlib.Core.List.{List, [], _∷_, _++_}
+use mathlib.Core.Option.{Option}
 use Prim.Native.Nat.{ℕ, _+_, _≤_, _<_}
 use lib.ListN.{length}
 use Rattle.refusal.specs.declared.Verdict.{Verdict}
@@ -11,11 +13,12 @@ use Rattle.sheet.specs.RuleSheet.{RuleSheet, outputs, streams, accepted, readSh
 use Rattle.completions.specs.Live.{Pairs, Live, countPairs}
 use Rattle.completions.specs.Completion.{LetterSet, Completion}
 use Rattle.completions.specs.Judged.{RoundVerdict, ClosingVerdict}
-use Rattle.completions.specs.Steps.{Represents}
+use Rattle.completions.specs.Steps.{Represents, Within}
+use Rattle.pairs.specs.Storage.{stored}
 use Rattle.record.specs.Record.{sumAt}
 use Rattle.record.specs.declared.JournalRecord.{JournalRecord}
 use Rattle.monitor.specs.Checks as checks
-use Rattle.monitor.specs.Results.{OfSheet, Prepared}
+use Rattle.monitor.specs.Results.{width, within, OfSheet, Prepared}
 use Rattle.monitor.specs.declared.PrepareAnswer.{PrepareAnswer}
 use Rattle.claims.specs.Book.{Call, Answer}
 use Rattle.claims.specs.Session.{Held, Session}
@@ -60,3 +63,14 @@ StaysInOrder =
     → Decided (checks.Broken bs (lent s r)) checks.rule (checks.entryChecks bs checks.prepareChecks) Accepted
     → (z : OfSheet bs (λ x. Prepared x s t p))
     → (cs : List Call) (as′ : List Answer) (h : Held) → Session bs (record { storage = t; journal = p .record }) cs as′ h → InOrder (z .0) 3084 h
+
+-- after a preparation and any calls the scratch set is empty, and the reached set has no pair beyond the sheet's valuations: nothing is left in
+-- the words that rounds don't write (builders' choice, docs/LAYOUT)
+pub record Tidy (w : ℕ) (t : List ℕ) : Type 0 where
+  pub reached : (b : ℕ) (c : Option ℕ) → b < 256 → Within 256 c → stored t 1028 b c ≡ within w (stored t 1028) b c
+  pub scratch : (b : ℕ) (c : Option ℕ) → b < 256 → Within 256 c → stored t 2056 b c ≡ false
+
+abbrev pub StaysTidy : Type 0
+StaysTidy =
+    (bs s t : List ℕ) (p : PrepareAnswer) (z : OfSheet bs (λ x. Prepared x s t p)) (cs : List Call) (as′ : List Answer) (h : Held)
+    → Session bs (record { storage = t; journal = p .record }) cs as′ h → Tidy (width (z .0)) (h .storage)

@@ -34,6 +34,13 @@ pub record Adds (base : ℕ) (s t : List ℕ) (P : Pairs) : Type 0 where
 unfoldable pub rowBit : List ℕ → ℕ → ℕ → Bool
 rowBit s at x = bit (x % 64) (getD s (at + x / 64) 0)
 
+-- r is the first word from j on that is not 0 among n words from `at` on, or n if there is none
+pub record NextWord (s : List ℕ) (at n j r : ℕ) : Type 0 where
+  pub onward : j ≤ r
+  pub inside : r ≤ n
+  pub skipped : (i : ℕ) → j ≤ i → i < r → getD s (at + i) 0 ≡ 0
+  pub found : r < n → getD s (at + r) 0 ≡ 0 → ⊥
+
 -- r is the first bit from `from` on that is set among w words, or 64 w if there is none
 pub record NextBit (s : List ℕ) (at w from r : ℕ) : Type 0 where
   pub onward : from ≤ r

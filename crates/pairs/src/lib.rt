@@ -7,7 +7,7 @@ ghost use lib.ListN.{length};
 ghost use Prim.Native.Nat.{_+_, _*_, _<_, _≤_};
 ghost use Rattle.completions.specs.Live.{countPairs};
 ghost use Rattle.pairs.specs.Storage.{stored};
-ghost use Rattle.pairs.specs.Changes.{eqNext, inWord, Adds, NextBit, Zeroed, RowsCleared, Cleared, Copied};
+ghost use Rattle.pairs.specs.Changes.{eqNext, inWord, Adds, NextWord, NextBit, Zeroed, RowsCleared, Cleared, Copied};
 
 // Whether (a, b) is in the set at base.
 pub fn has(s: &[u64], base: usize, a: usize, b: usize) -> bool
@@ -52,20 +52,38 @@ pub fn insert_word(s: &mut [u64], base: usize, a: usize, j: usize, x: u64)
     s[k] = s[k] | x;
 }
 
+// The first of the w words from `at` on, from number j on, that is not 0, or w if there is none.
+fn next_word(s: &[u64], at: usize, w: usize, j: usize) -> usize
+    requires { ⌜ (j ≤ w) × (w ≤ 4) × (at ≤ 3084) × (at + w ≤ length (now s)) ⌝ }
+    ensures { λ r. ⌜ NextWord (now (s .entry)) at w j r ⌝ }
+{
+    let mut i = j;
+    while i < w {
+        if s[at + i] != 0 {
+            return i;
+        }
+        i += 1;
+    }
+    w
+}
+
 // The first bit from `from` on that is set in the w words from `at` on, or 64 w if there is none.
 pub fn next_bit(s: &[u64], at: usize, w: usize, from: usize) -> usize
     requires { ⌜ (from ≤ 64 * w) × (w ≤ 4) × (at ≤ 3084) × (at + w ≤ length (now s)) ⌝ }
     ensures { λ r. ⌜ NextBit (now (s .entry)) at w from r ⌝ }
 {
-    let mut b = from;
-    while b < 64 * w {
-        let x = s[at + b / 64] >> (b % 64);
-        if x != 0 {
-            return b + u64::trailing_zeros(x) as usize;
-        }
-        b = (b / 64 + 1) * 64;
+    if from == 64 * w {
+        return from;
     }
-    64 * w
+    let x = s[at + from / 64] >> (from % 64);
+    if x != 0 {
+        return from + u64::trailing_zeros(x) as usize;
+    }
+    let j = next_word(s, at, w, from / 64 + 1);
+    if j == w {
+        return 64 * w;
+    }
+    64 * j + u64::trailing_zeros(s[at + j]) as usize
 }
 
 // Writes 0 into n words from `at` on.

@@ -1,84 +1,93 @@
-use lib.ListN.{getD}
 use native.Mathlib.Omega.{arith}
 use borrow.Author.Needs.{needs}
-use Prim.Native.Nat.{ℕ, _+_, _*_, _-_, _<_, _≤_, _^_, _%_, _/_}
-use mathlib.Core.Path.{_≡_, refl, sym, ap, ap₂, _∙_}
-use mathlib.Core.Bool.{false}
+use Prim.Native.Nat.{ℕ, _+_, _*_, _/_, _%_, _^_, _<_, _≤_}
 use lib.Count.{trailing-le}
-use Rattle.pairs.specs.Changes.{rowBit, NextBit}
-use Rattle.pairs.proofs.BitSearch.{found-at, nothing-at}
+use lib.ListN.{getD}
+use Rattle.pairs.proofs.BitSearch.{row-over, found-here, row-spent, row-found}
 use Rattle.pairs.proofs.next_bit.Statement.{statement}
 use Rattle.pairs.proofs.next_bit.Tie as tie
 
-abbrev Inv-loop : tie.InvT-loop
-Inv-loop s at w from b₀ b = (b ≤ 64 * w) × (from ≤ b) × ((x : ℕ) → from ≤ x → x < b → rowBit s at x ≡ false)
+mul-if1 : tie.Need-mul-if1
+mul-if1 c = search needs
 
-abbrev μ-loop : tie.MeasureT-loop
-μ-loop s at w from b₀ b = 64 * w - b
+returns : tie.Need-returns
+returns c = row-over (c .before .before .args .s .now) (c .before .before .args .at) (c .before .before .args .w) (c .before .before .args .from) (c .if1 .taken)
 
-loop-holds : tie.Need-loop-holds Inv-loop μ-loop
-loop-holds c = (c .pre .0, omega arith, λ x l h. absurd (omega arith))
-
-mul-loop : tie.Need-mul-loop Inv-loop μ-loop
-mul-loop c = omega arith
-
-add-x : tie.Need-add-x Inv-loop μ-loop
+add-x : tie.Need-add-x
 add-x c = search needs
 
-mul-x : tie.Need-mul-x Inv-loop μ-loop
+mul-x : tie.Need-mul-x
 mul-x c = search needs
 
-shared-slice-read-x : tie.Need-shared-slice-read-x Inv-loop μ-loop
+shared-slice-read-x : tie.Need-shared-slice-read-x
 shared-slice-read-x c = search needs
 
-shr-x : tie.Need-shr-x Inv-loop μ-loop
+shr-x : tie.Need-shr-x
 shr-x c = search needs
 
-cast-result : tie.Need-cast-result Inv-loop μ-loop
-cast-result c = omega (arith, trailing-le 64 (getD (c .before .before .before .before .args .s .now) (c .before .before .before .before .args .at + c .before .before .before .loop .b / 64) 0 / 2 ^ (c .before .before .before .loop .b % 64)))
+cast-result : tie.Need-cast-result
+cast-result c = omega (arith, trailing-le 64 (getD (c .before .before .before .before .args .s .now) (c .before .before .before .before .args .at + c .before .before .before .before .args .from / 64) 0 / 2 ^ (c .before .before .before .before .args .from % 64)))
 
-add-result : tie.Need-add-result Inv-loop μ-loop
-add-result c = omega (arith, (found-at (c .before .before .before .before .args .s .now) (c .before .before .before .before .args .at) (c .before .before .before .before .args .w) (c .before .before .before .before .args .from) (c .before .before .before .loop .b) (c .before .before .before .loop .inv .1) (c .before .before .loop-test .taken) (c .before .before .before .loop .inv .2) (c .before .shared-slice-known .given _ .fits) (c .if1 .taken)) .inside)
+add-result : tie.Need-add-result
+add-result c = omega (arith, (found-here (c .before .before .before .before .args .s .now) (c .before .before .before .before .args .at) (c .before .before .before .before .args .w) (c .before .before .before .before .args .from) (omega arith) (c .before .shared-slice-known2 .given _ .fits) (c .if2 .taken)) .inside)
 
-returns : tie.Need-returns Inv-loop μ-loop
-returns c = found-at (c .before .before .before .before .args .s .now) (c .before .before .before .before .args .at) (c .before .before .before .before .args .w) (c .before .before .before .before .args .from) (c .before .before .before .loop .b) (c .before .before .before .loop .inv .1) (c .before .before .loop-test .taken) (c .before .before .before .loop .inv .2) (c .before .shared-slice-known .given _ .fits) (c .if1 .taken)
+returns-2 : tie.Need-returns-2
+returns-2 c = found-here (c .before .before .before .before .args .s .now) (c .before .before .before .before .args .at) (c .before .before .before .before .args .w) (c .before .before .before .before .args .from) (omega arith) (c .before .shared-slice-known2 .given _ .fits) (c .if2 .taken)
 
-add-b : tie.Need-add-b Inv-loop μ-loop
-add-b c = search needs
+add-next-word : tie.Need-add-next-word
+add-next-word c = search needs
 
-mul-b : tie.Need-mul-b Inv-loop μ-loop
-mul-b c = search needs
+next-word-requires : tie.Need-next-word-requires
+next-word-requires c κs = search needs
 
-loop-less : tie.Need-loop-less Inv-loop μ-loop
-loop-less c = search needs
+mul-result : tie.Need-mul-result
+mul-result c = search needs
 
-loop-again : tie.Need-loop-again Inv-loop μ-loop
-loop-again c = (omega arith, omega arith, nothing-at (c .before .before .before .before .args .s .now) (c .before .before .before .before .args .at) (c .before .before .before .before .args .w) (c .before .before .before .before .args .from) (c .before .before .before .loop .b) (c .before .before .before .loop .inv .1) (c .before .before .loop-test .taken) (c .before .before .before .loop .inv .2) (c .before .shared-slice-known .given _ .fits) (c .if1 .left))
+returns-3 : tie.Need-returns-3
+returns-3 c = row-spent (c .before .before .before .before .before .before .args .s .now) (c .before .before .before .before .before .before .args .at) (c .before .before .before .before .before .before .args .w) (c .before .before .before .before .before .before .args .from) (c .before .next-word .result) (omega arith) (c .before .before .before .shared-slice-known2 .given _ .fits) (c .before .before .if2 .left) (c .before .next-word .ensures) (c .if3 .taken)
 
-mul-result : tie.Need-mul-result Inv-loop μ-loop
-mul-result c = omega arith
+mul-result-2 : tie.Need-mul-result-2
+mul-result-2 c = search needs
 
-returns-2 : tie.Need-returns-2 Inv-loop μ-loop
-returns-2 c = record { onward = c .before .before .pre .0; inside = omega arith; skipped = λ x l h. c .before .loop .inv .2 x l (omega arith); found = λ h. absurd (omega arith) }
+add-result-2 : tie.Need-add-result-2
+add-result-2 c = search needs
+
+mul-result-3 : tie.Need-mul-result-3
+mul-result-3 c = search needs
+
+shared-slice-read-result : tie.Need-shared-slice-read-result
+shared-slice-read-result c = search needs
+
+cast-result-2 : tie.Need-cast-result-2
+cast-result-2 c = omega (arith, trailing-le 64 (getD (c .before .before .before .before .before .before .before .args .s .now) (c .before .before .before .before .before .before .before .args .at + c .before .before .next-word .result) 0))
+
+add-result-3 : tie.Need-add-result-3
+add-result-3 c = omega (arith, (row-found (c .before .before .before .before .before .before .before .args .s .now) (c .before .before .before .before .before .before .before .args .at) (c .before .before .before .before .before .before .before .args .w) (c .before .before .before .before .before .before .before .args .from) (c .before .before .next-word .result) (omega arith) (c .before .before .before .before .shared-slice-known2 .given _ .fits) (c .before .before .before .if2 .left) (c .before .before .next-word .ensures) (c .before .if3 .left) (c .shared-slice-known3 .given _ .fits)) .inside)
+
+returns-4 : tie.Need-returns-4
+returns-4 c = row-found (c .before .before .before .before .before .before .before .args .s .now) (c .before .before .before .before .before .before .before .args .at) (c .before .before .before .before .before .before .before .args .w) (c .before .before .before .before .before .before .before .args .from) (c .before .before .next-word .result) (omega arith) (c .before .before .before .before .shared-slice-known2 .given _ .fits) (c .before .before .before .if2 .left) (c .before .before .next-word .ensures) (c .before .if3 .left) (c .shared-slice-known3 .given _ .fits)
 
 pub next-bit-spec : {M : Type 1} → statement M
 next-bit-spec =
     tie.close
     (tie.spec
-    Inv-loop
-    μ-loop
-    loop-holds
-    mul-loop
+    mul-if1
+    returns
     add-x
     mul-x
     shared-slice-read-x
     shr-x
     cast-result
     add-result
-    returns
-    add-b
-    mul-b
-    loop-less
-    loop-again
+    returns-2
+    add-next-word
+    next-word-requires
     mul-result
-    returns-2)
+    returns-3
+    mul-result-2
+    add-result-2
+    mul-result-3
+    shared-slice-read-result
+    cast-result-2
+    add-result-3
+    returns-4)

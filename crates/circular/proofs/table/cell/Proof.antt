@@ -1,4 +1,5 @@
-use Rattle.circular.proofs.Codes.{loop-le}
+use mathlib.Core.Path.{sym}
+use Rattle.circular.proofs.Codes.{loop-le, cell-same}
 use native.Mathlib.Omega.{arith}
 use Rattle.circular.specs.Table.{cellN}
 use borrow.Author.Needs.{needs}
@@ -10,6 +11,21 @@ mul-row c = search needs
 
 add-row : tie.Need-add-row
 add-row c = search needs
+
+mul-if1 : tie.Need-mul-if1
+mul-if1 c = search needs
+
+element-copy-out-if1 : tie.Need-element-copy-out-if1
+element-copy-out-if1 c = search needs
+
+mul-result : tie.Need-mul-result
+mul-result c = search needs
+
+element-copy-out-result : tie.Need-element-copy-out-result
+element-copy-out-result c = search needs
+
+returns : tie.Need-returns
+returns c = sym (cell-same _ _ _ (c .before .if1 .taken))
 
 mul-col : tie.Need-mul-col
 mul-col c = search needs
@@ -42,7 +58,7 @@ element-copy-out-plus : tie.Need-element-copy-out-plus
 element-copy-out-plus c = search needs
 
 plus-requires : tie.Need-plus-requires
-plus-requires c κs = let s = c .before .before .before .before in (s .pre .2 .small _ (omega arith), rw (c .before .looped .ensures) (loop-le _ _ (s .pre .2 .small _ (omega arith))))
+plus-requires c κs = let s = c .before .before .before .before .before .before in (s .pre .2 .small _ (omega arith), rw (c .before .looped .ensures) (loop-le _ _ (s .pre .2 .small _ (omega arith))))
 
 mul-larger : tie.Need-mul-larger
 mul-larger c = search needs
@@ -53,9 +69,9 @@ element-copy-out-larger c = search needs
 larger-requires : tie.Need-larger-requires
 larger-requires c κs = search needs
 
-returns : tie.Need-returns
+returns-2 : tie.Need-returns-2
 unfolding cellN
-returns c = cc
+returns-2 c = cc
 
 pub cell-spec : {M : Type 1} → statement M
 cell-spec =
@@ -63,6 +79,11 @@ cell-spec =
     (tie.spec
     mul-row
     add-row
+    mul-if1
+    element-copy-out-if1
+    mul-result
+    element-copy-out-result
+    returns
     mul-col
     add-col
     mul-mid
@@ -77,4 +98,4 @@ cell-spec =
     mul-larger
     element-copy-out-larger
     larger-requires
-    returns)
+    returns-2)

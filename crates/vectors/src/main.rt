@@ -1,8 +1,8 @@
 // Runs many sessions of the journal program, one after the other, through the crate `lines`.
 //
-// A case in standard input is the length of a sheet in two bytes, the sheet, the length of a session in four bytes, the session. A
-// length has its low byte first; a sheet has at most 464 bytes and a session at most 65,535. What is written for a case is followed by
-// a line `--`. The first case that is cut short or too long ends the run, and nothing is written for it.
+// A case in standard input is the length of a sheet in two bytes, the sheet, the length of a session in four bytes, the session.
+// Lengths have their low byte first. A sheet has at most 464 bytes, a session at most 65,535. After the text of each case comes a
+// line `--`. The first case that is cut short or too long ends the run, and nothing is written for it.
 ghost use Prim.Native.Nat.{_+_, _≤_, _<_};
 ghost use lib.ListN.{length};
 ghost use Rattle.sheet.specs.Reading.{Usable};
@@ -62,22 +62,19 @@ fn read_session(session: &mut [u8]) -> Part
     read_part(number(head[0], head[1]), session)
 }
 
-// How many bytes to feed from this place on: 1 to 10, in an order that looks like none.
+// How many bytes to feed at this place of a session, of which so many are left. From 0 on, the sizes 1 to 10 come in a mixed order.
 fn chunk_size(at: usize, left: usize) -> usize
     requires { ⌜ 0 < left ⌝ }
-    ensures { λ r. ⌜ (0 < r) × (r ≤ 10) × (r ≤ left) ⌝ }
+    ensures { λ r. ⌜ (0 < r) × (r ≤ 11) × (r ≤ left) ⌝ }
 {
     let size = at % 11 + 1;
-    if size > 10 {
-        return 1;
-    }
     if size > left {
         return left;
     }
     size
 }
 
-// Feeds a session in small chunks. A run that is over is fed on, and must stay silent.
+// Feeds a session in small chunks. A run that is over is fed on and writes nothing more.
 fn play(x: Sheet, s: Progress, storage: &mut [u64], session: &[u8], out: &mut [u8])
     requires { ⌜ Usable x × (600 ≤ length (now out)) ⌝ }
 {

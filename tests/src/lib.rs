@@ -2,8 +2,9 @@
 //! library, so that the two can be compared.
 //!
 //! `sheet`, `circular` and `language` follow the definitions as directly as they can, and so do
-//! `pairs`, `monitor` and `journal` for verdicts. `random` and `cases` supply the inputs, and
-//! `library` makes the calls.
+//! `pairs`, `monitor` and `journal` for verdicts, and `session` for the journal program. `random`
+//! and `cases` supply the inputs, `library` makes the calls, and `vectors` has whole sessions for a
+//! proved program that runs many.
 
 pub mod cases;
 pub mod circular;
@@ -13,7 +14,9 @@ pub mod library;
 pub mod monitor;
 pub mod pairs;
 pub mod random;
+pub mod session;
 pub mod sheet;
+pub mod vectors;
 
 /// Bytes in hex, for the messages of failed tests.
 pub fn hex(bytes: &[u8]) -> String {

@@ -1,0 +1,199 @@
+//! The journal program as a function over the book: a sheet's file and all of standard input to
+//! what is written.
+
+use crate::journal::{call_of_line, print, Answer, Book, Call};
+use crate::monitor::Monitor;
+
+/// How much of the sheet's file is read. The longest sheet is one byte shorter.
+pub const SHEET_READ: usize = 464;
+
+/// What the program writes. A missing file is an empty one.
+pub fn run(sheet: &[u8], input: &[u8]) -> String {
+    match Monitor::new(&sheet[..sheet.len().min(SHEET_READ)]) {
+        Err(number) => format!("refused {number} sheet\n"),
+        Ok(monitor) => keep(&monitor, input),
+    }
+}
+
+/// What the program writes once its sheet is accepted.
+pub fn keep(monitor: &Monitor, input: &[u8]) -> String {
+    let mut book = Book::new(monitor);
+    let mut written = String::new();
+    for (place, line) in lines(input).into_iter().enumerate() {
+        if line.is_empty() {
+            continue;
+        }
+        match answer(&mut book, line) {
+            Ok(text) => written += &text,
+            Err(number) => return written + &format!("refused {number} line {}\n", place + 1),
+        }
+    }
+    written
+}
+
+/// The lines of the input, blank ones too. What follows the last line feed is a line unless it is
+/// empty.
+pub fn lines(input: &[u8]) -> Vec<&[u8]> {
+    let mut lines: Vec<&[u8]> = input.split(|&byte| byte == b'\n').collect();
+    if lines.last().is_some_and(|line| line.is_empty()) {
+        lines.pop();
+    }
+    lines
+}
+
+/// The call that a line makes, if it is not malformed.
+fn call(inputs: usize, line: &[u8]) -> Option<Call> {
+    let round = line.len() == inputs && line.iter().all(|sign| b"01?".contains(sign));
+    let good = round || line == b".";
+    good.then(|| call_of_line(std::str::from_utf8(line).expect("known signs")))
+}
+
+/// What is written for a line that is not blank, or its refusal.
+fn answer(book: &mut Book, line: &[u8]) -> Result<String, u32> {
+    if book.closed {
+        return Err(12);
+    }
+    match call(book.inputs(), line) {
+        None => Err(17),
+        Some(Call::Round(heard)) => Ok(print(&book.round(heard)?.verdicts) + "\n"),
+        Some(_) => {
+            let answer = book.close()?;
+            Ok(closing(book, &answer))
+        }
+    }
+}
+
+/// The verdicts at closing, and a line for each output.
+fn closing(book: &Book, answer: &Answer) -> String {
+    let mut text = format!("={}\n", print(&answer.verdicts));
+    for (output, (counts, share)) in book.counts.iter().zip(&answer.shares).enumerate() {
+        let [some_true, some_false, open, broken] = counts;
+        text += &format!("# {output} {some_true} {some_false} {open} {broken} {share}\n");
+    }
+    text
+}
+
+#[cfg(test)]
+mod tests {
+    use super::*;
+    use crate::cases::{self, assuming, plain, session_sheet};
+    use crate::journal::MOST_ROUNDS;
+    use crate::monitor::Heard;
+
+    fn one() -> Vec<u8> {
+        plain(1, &["40"])
+    }
+
+    #[test]
+    fn whole_session() {
+        let expected = "?1\n11\n?1\n11\n!!\n=!!\n# 0 2 0 2 1 400\n# 1 4 0 0 1 800\n";
+        assert_eq!(run(&session_sheet(), b"10\n?1\n1?\n00\n01\n.\n"), expected);
+        assert_eq!(run(&session_sheet(), b"10\n?1\n1?\n00\n01\n."), expected);
+        assert_eq!(run(&session_sheet(), b"\n10\n?1\n\n\n1?\n00\n01\n.\n\n\n"), expected);
+    }
+
+    #[test]
+    fn lines_and_ends() {
+        let none: [&[u8]; 0] = [];
+        assert_eq!(lines(b""), none);
+        assert_eq!(lines(b"\n"), [b""]);
+        assert_eq!(lines(b"10\n"), [b"10"]);
+        assert_eq!(lines(b"10"), [b"10"]);
+        assert_eq!(lines(b"10\n\n"), [&b"10"[..], b""]);
+        assert_eq!(lines(b"\n\n1"), [&b""[..], b"", b"1"]);
+        assert_eq!(run(&one(), b""), "");
+        assert_eq!(run(&one(), b"\n"), "");
+        assert_eq!(run(&one(), b"\n\n\n"), "");
+        assert_eq!(run(&one(), b"1"), "1\n");
+        assert_eq!(run(&one(), b"1\n"), "1\n");
+        assert_eq!(run(&one(), b"1\n?"), "1\n?\n");
+        assert_eq!(run(&one(), b"1\n.\n"), "1\n=1\n# 0 1 0 0 0 1000\n");
+        assert_eq!(run(&one(), b"1\n."), "1\n=1\n# 0 1 0 0 0 1000\n");
+    }
+
+    #[test]
+    fn malformed_lines() {
+        let wrong = ["x", "1x", "..", ". ", " .", ".1", "1.", "1\r", "\r", "\r\n", "10", "2", " ", "!", "=1", "\0"];
+        for line in wrong {
+            assert_eq!(run(&one(), line.as_bytes()), "refused 17 line 1\n", "{line:?}");
+            assert_eq!(run(&one(), format!("1\n\n{line}\n1\n").as_bytes()), "1\nrefused 17 line 3\n", "{line:?}");
+        }
+        assert_eq!(run(&one(), &[0xFF]), "refused 17 line 1\n");
+        assert_eq!(run(&one(), "é".as_bytes()), "refused 17 line 1\n");
+        let six = plain(6, &["40"]);
+        assert_eq!(run(&six, b"1?0?1?\n"), "1\n");
+        assert_eq!(run(&six, b"1?0?1\n"), "refused 17 line 1\n");
+        assert_eq!(run(&six, b"1?0?1?0\n"), "refused 17 line 1\n");
+        assert_eq!(run(&six, b"......\n"), "refused 17 line 1\n");
+    }
+
+    #[test]
+    fn closings() {
+        assert_eq!(run(&one(), b"."), "refused 14 line 1\n");
+        assert_eq!(run(&one(), b".\n1\n"), "refused 14 line 1\n");
+        assert_eq!(run(&one(), b"\n\n.\n"), "refused 14 line 3\n");
+        let shut = "0\n=0\n# 0 0 1 0 0 0\n";
+        for after in ["1", "1\n", ".", "x", "..", "\r", "10\n1\n"] {
+            let refused = format!("{shut}refused 12 line 3\n");
+            assert_eq!(run(&one(), format!("0\n.\n{after}").as_bytes()), refused, "{after:?}");
+            let refused = format!("{shut}refused 12 line 5\n");
+            assert_eq!(run(&one(), format!("0\n.\n\n\n{after}").as_bytes()), refused, "{after:?}");
+        }
+        assert_eq!(run(&one(), b"0\n.\n\n\n"), shut);
+    }
+
+    /// A closing may be broken where the round before was not.
+    #[test]
+    fn a_closing_that_breaks() {
+        let ahead = assuming(1, 1, &["40", "40 60 04"]);
+        assert_eq!(run(&ahead, b"0\n.\n"), "01\n=!!\n# 0 0 1 0 0 0\n# 1 1 0 0 0 1000\n");
+        assert_eq!(run(&ahead, b"0\n1\n.\n"), "01\n11\n=11\n# 0 1 1 0 0 500\n# 1 2 0 0 0 1000\n");
+    }
+
+    #[test]
+    fn refused_sheets() {
+        for case in cases::sheets() {
+            let written = run(&case.sheet, b"x\n");
+            let expected =
+                if case.number == 0 { "refused 17 line 1\n" } else { &format!("refused {} sheet\n", case.number) };
+            assert_eq!(written, expected, "{}", case.name);
+        }
+        assert_eq!(run(b"", b"1\n.\nx"), "refused 1 sheet\n");
+        // Bytes after the first 464 are never looked at.
+        let long = [cases::longest(), vec![0; 1000]].concat();
+        assert_eq!(run(&long, b"1\n"), "refused 9 sheet\n");
+    }
+
+    /// The journals worked out by hand, up to their first refusal.
+    #[test]
+    fn journals_by_hand() {
+        for case in cases::journals() {
+            let lines: Vec<&str> = case.calls.iter().map(|(line, _)| *line).collect();
+            let written = run(&case.sheet, lines.join("\n").as_bytes());
+            let verdicts: Vec<&str> = written.lines().filter(|line| !line.starts_with('#')).collect();
+            let mut expected = Vec::new();
+            for (place, (line, answer)) in case.calls.iter().enumerate() {
+                if ["12", "14"].contains(answer) {
+                    expected.push(format!("refused {answer} line {}", place + 1));
+                    break;
+                }
+                expected.push(if *line == "." { format!("={answer}") } else { answer.to_string() });
+            }
+            assert_eq!(verdicts, expected, "{}", case.name);
+        }
+    }
+
+    #[test]
+    fn the_last_rounds() {
+        let monitor = Monitor::new(&one()).unwrap();
+        let mut book = Book::new(&monitor);
+        for _ in 0..MOST_ROUNDS {
+            book.round(Heard { known: 1, value: 1 }).unwrap();
+        }
+        for (line, number) in [("x", 17), ("?", 13), ("..", 17), ("1", 13), ("10", 17)] {
+            assert_eq!(answer(&mut book, line.as_bytes()), Err(number), "{line}");
+        }
+        assert_eq!(answer(&mut book, b".").unwrap(), "=1\n# 0 1000000 0 0 0 1000\n");
+        assert_eq!(answer(&mut book, b"x"), Err(12));
+    }
+}

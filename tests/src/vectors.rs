@@ -1,0 +1,230 @@
+//! The cases of the program `vectors`, what it reads and what it has to write.
+//!
+//! Rule 13 needs a million rounds, so no case here meets it.
+
+use crate::cases;
+use crate::journal::Book;
+use crate::monitor::{Heard, Monitor};
+use crate::random::{self, Random};
+use crate::session::{self, SHEET_READ};
+use crate::sheet::NO_ASSUMPTION;
+
+/// The longest session that the program takes.
+const LONGEST_SESSION: usize = 65_535;
+
+pub struct Case {
+    pub sheet: Vec<u8>,
+    pub session: Vec<u8>,
+}
+
+impl Case {
+    /// Of a longer sheet the journal program reads only so much.
+    fn new(mut sheet: Vec<u8>, session: impl Into<Vec<u8>>) -> Case {
+        sheet.truncate(SHEET_READ);
+        Case { sheet, session: session.into() }
+    }
+
+    /// The lengths and what they count, as they stand in the program's input.
+    fn to_bytes(&self) -> Vec<u8> {
+        assert!(self.sheet.len() <= SHEET_READ && self.session.len() <= LONGEST_SESSION);
+        let mut bytes = (self.sheet.len() as u16).to_le_bytes().to_vec();
+        bytes.extend(&self.sheet);
+        bytes.extend((self.session.len() as u32).to_le_bytes());
+        bytes.extend(&self.session);
+        bytes
+    }
+}
+
+/// What the program reads: the cases, and one that is cut short.
+pub fn stdin(cases: &[Case]) -> Vec<u8> {
+    let mut bytes: Vec<u8> = cases.iter().flat_map(Case::to_bytes).collect();
+    let cut = Case::new(cases::session_sheet(), "10\n?1\n.\n").to_bytes();
+    bytes.extend(&cut[..cut.len() - 1]);
+    bytes
+}
+
+/// What the program writes: the text of each case, and a line after it.
+pub fn stdout(cases: &[Case]) -> String {
+    cases.iter().map(|case| session::run(&case.sheet, &case.session) + "--\n").collect()
+}
+
+/// How often each refusal and each verdict was written.
+#[derive(Debug, Default)]
+pub struct Seen {
+    pub cases: usize,
+    /// By number.
+    pub refused_sheets: [usize; 19],
+    pub refused_lines: [usize; 19],
+    /// In the order `0 1 ? !`.
+    pub verdicts: [usize; 4],
+    pub closing: [usize; 4],
+}
+
+impl Seen {
+    pub fn of(written: &str) -> Seen {
+        let mut seen = Seen::default();
+        for line in written.lines() {
+            let words: Vec<&str> = line.split(' ').collect();
+            match words[..] {
+                ["--"] => seen.cases += 1,
+                ["refused", number, "sheet"] => seen.refused_sheets[number.parse::<usize>().expect("a number")] += 1,
+                ["refused", number, "line", _] => seen.refused_lines[number.parse::<usize>().expect("a number")] += 1,
+                ["#", ..] => {}
+                _ => match line.strip_prefix('=') {
+                    Some(verdicts) => count(&mut seen.closing, verdicts),
+                    None => count(&mut seen.verdicts, line),
+                },
+            }
+        }
+        seen
+    }
+
+    /// Each verdict occurs often, and each refusal that a short session can meet several times.
+    pub fn expect_all(&self) {
+        assert!(self.verdicts.iter().all(|&times| times >= 5000), "{self:?}");
+        assert!(self.closing.iter().all(|&times| times >= 200), "{self:?}");
+        assert!(self.refused_sheets[1..=10].iter().all(|&times| times >= 6), "{self:?}");
+        assert!([12, 14, 17].iter().all(|&number| self.refused_lines[number] >= 12), "{self:?}");
+    }
+}
+
+fn count(times: &mut [usize; 4], verdicts: &str) {
+    for mark in verdicts.chars() {
+        times["01?!".find(mark).expect("a verdict")] += 1;
+    }
+}
+
+/// All cases, the same ones in every run.
+pub fn cases() -> Vec<Case> {
+    let mut cases = by_hand();
+    let mut random = Random::new(61);
+    for _ in 0..700 {
+        cases.push(journal(&mut random, 40, |(inputs, outputs)| inputs + outputs <= 5));
+    }
+    for _ in 0..300 {
+        cases.push(journal(&mut random, 25, |(inputs, outputs)| inputs + outputs <= 7));
+    }
+    for inputs in 1..=6 {
+        for outputs in 1..=(8 - inputs).min(7) {
+            cases.extend((0..8).map(|_| journal(&mut random, 12, |size| size == (inputs, outputs))));
+        }
+    }
+    cases.extend((0..170).map(|_| Case::new(random::damaged(&mut random), "1\n?\n.\n")));
+    cases.extend((0..40).map(|_| Case::new(random::two_rings(&mut random), "1\n?\n.\n")));
+    cases.extend((0..6).map(|_| long_journal(&mut random)));
+    cases
+}
+
+/// The whole session, the journals and sheets worked out by hand, and lines that are easily misread.
+fn by_hand() -> Vec<Case> {
+    let mut found = vec![Case::new(cases::session_sheet(), "10\n?1\n1?\n00\n01\n.\n")];
+    for case in cases::journals() {
+        let lines: Vec<&str> = case.calls.iter().map(|(line, _)| *line).collect();
+        found.push(Case::new(case.sheet, lines.join("\n")));
+    }
+    for case in cases::sheets() {
+        let inputs = case.sheet.get(5).map_or(1, |&inputs| inputs as usize);
+        let unknown = "?".repeat(inputs.min(6));
+        found.push(Case::new(case.sheet, format!("{unknown}\n{unknown}\n.\n")));
+    }
+    found.push(Case::new(cases::counter(), "0\n1\n?\n.\n"));
+    found.push(Case::new(cases::register(), "010101\n??????\n.\n"));
+    let starts = ["", "\n", "1\n", "\n0\n\n", "1\n.\n", "?\n0\n.\n\n"];
+    let ends =
+        ["", "1", "?\n", ".", ".\n", "..", "x\n", "1x", "1\r\n", "\r", "10", " ", ".\r\n", "\0", "1.", ".1\n", "2"];
+    for start in starts {
+        found.extend(ends.map(|end| Case::new(cases::plain(1, &["40"]), format!("{start}{end}"))));
+    }
+    found
+}
+
+/// An accepted sheet of one of these sizes, inputs and outputs, with its monitor. Sheets without an
+/// assumption are passed over now and then, and those that are broken from the start most often.
+fn subject(random: &mut Random, fits: impl Fn((u8, u8)) -> bool) -> (Vec<u8>, Monitor) {
+    loop {
+        let sheet = random::accepted(random);
+        if !fits((sheet[5], sheet[6])) || (sheet[7] == NO_ASSUMPTION && random.one_in(2)) {
+            continue;
+        }
+        let monitor = Monitor::new(&sheet).expect("made to be accepted");
+        if !Book::new(&monitor).letters_ahead().is_empty() || random.one_in(10) {
+            return (sheet, monitor);
+        }
+    }
+}
+
+/// A journal with so many rounds at most, closed or not, with blank lines or without, and sometimes
+/// with a line that is malformed.
+fn journal(random: &mut Random, rounds: usize, fits: impl Fn((u8, u8)) -> bool) -> Case {
+    let (sheet, monitor) = subject(random, fits);
+    let (rounds, along) = (random.range(1, rounds), random.pick(&[100, 100, 100, 90, 0]));
+    let mut lines = rounds_of(random, &monitor, rounds, along);
+    match random.below(4) {
+        0 => {}
+        1 => lines.insert(random.range(0, rounds), b".".to_vec()),
+        _ => lines.push(b".".to_vec()),
+    }
+    if random.one_in(3) {
+        for _ in 0..random.range(1, 5) {
+            lines.insert(random.below(lines.len() + 1), Vec::new());
+        }
+    }
+    if random.one_in(5) {
+        let place = random.below(lines.len());
+        damage(random, &mut lines[place]);
+    }
+    let mut session = lines.join(&b'\n');
+    if !random.one_in(3) {
+        session.push(b'\n');
+    }
+    Case::new(sheet, session)
+}
+
+/// A journal of thousands of rounds.
+fn long_journal(random: &mut Random) -> Case {
+    let (sheet, monitor) = subject(random, |(inputs, outputs)| inputs + outputs <= 4);
+    let rounds = random.range(1000, 4000);
+    let mut lines = rounds_of(random, &monitor, rounds, 100);
+    lines.push(b".".to_vec());
+    Case::new(sheet, lines.join(&b'\n'))
+}
+
+/// Rounds as lines. So many of a hundred follow a completion of the rounds before, as long as there
+/// is one.
+fn rounds_of(random: &mut Random, monitor: &Monitor, rounds: usize, along: usize) -> Vec<Vec<u8>> {
+    let mut book = Book::new(monitor);
+    let unknown = random.pick(&[0, 20, 50, 80, 100]);
+    let mut lines = Vec::new();
+    for _ in 0..rounds {
+        let heard = if random.below(100) < along {
+            random.heard_along(&book, unknown)
+        } else {
+            random.heard(book.inputs(), unknown)
+        };
+        book.round(heard).expect("masks in range");
+        lines.push(line_of(book.inputs(), heard));
+    }
+    lines
+}
+
+fn line_of(inputs: usize, heard: Heard) -> Vec<u8> {
+    let sign = |input: usize| match (heard.known >> input & 1, heard.value >> input & 1) {
+        (0, _) => b'?',
+        (_, value) => b'0' + value,
+    };
+    (0..inputs).map(sign).collect()
+}
+
+/// One byte more, less or other, most of which make a line malformed.
+fn damage(random: &mut Random, line: &mut Vec<u8>) {
+    let byte = random.pick(b"01?.x! \r\t\0=#2/\xFF\x80");
+    let place = random.below(line.len() + 1);
+    match random.below(4) {
+        0 => line.insert(place, byte),
+        1 => line.push(byte),
+        2 if place < line.len() => line[place] = byte,
+        _ => {
+            line.pop();
+        }
+    }
+}

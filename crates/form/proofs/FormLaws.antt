@@ -139,9 +139,9 @@ usable-form x u =
     let s : ℕ = x .inputs + x .outputs in
     let each : (k : ℕ) → k < x .outputs → outputForm s (x .code) (x .len) k ≡ Accepted =
     λ k h.
-        let p = u .parts k h in
-        let l : length (codeAt (x .code) (x .len) k) ≤ getD (x .len) k 0 = simp length-take (omega arith) in
-        rw (size-within (getD (x .len) k 0) (omega (arith, l, p .some)) (u .small k h)) (parsed-back (parse s [] (codeAt (x .code) (x .len) k)) (p .parses)) in
+    let p = u .parts k h in
+    let l : length (codeAt (x .code) (x .len) k) ≤ getD (x .len) k 0 = simp length-take (omega arith) in
+    rw (size-within (getD (x .len) k 0) (omega (arith, l, p .some)) (u .small k h)) (parsed-back (parse s [] (codeAt (x .code) (x .len) k)) (p .parses)) in
     rw (ranges-counts (x .inputs) (x .outputs) (u .ranges), below-assumed (x .assumed) (x .outputs) (u .below)) (form-all s (x .code) (x .len) (x .outputs) each)
 
 pub when-so : (o : Outcome) (X : Type 0) → (o ≡ Accepted → X) → whenAccepted o X

@@ -5,8 +5,9 @@ use mathlib.Core.List.{List}
 use mathlib.Core.Option.{Option, none, some}
 use Prim.Native.Nat.{ℕ, _+_, _*_, _/_, _≤_, _<_}
 use native.Mathlib.Omega.{arith}
-use native.Mathlib.Decide.{ℕ-discrete}
-use borrow.Author.Tests.{eq-eqb, ne-eqb, lt-ltb}
+use native.Mathlib.Decide.{ℕ-discrete, decLt}
+use borrow.Author.Tests.{eq-eqb, ne-eqb, lt-ltb, le-ltb}
+use lib.Bits.{bitAnd}
 use lib.Dec.{eqb, ltb}
 use Rattle.words.specs.Below.{anyBelow}
 use Rattle.words.proofs.AnyLaws.{any-one}
@@ -18,8 +19,12 @@ use Rattle.pairs.specs.Storage.{stored}
 use Rattle.pairs.specs.Changes.{eqNext, Adds, rowBit, NextBit}
 use Rattle.pairs.proofs.Bools.{and-true, and-false, or-false, or-comm, and-assoc}
 use Rattle.pairs.proofs.Sets.{adds-none, adds-as, adds-then, adds-before, adds-beyond, row-bit}
-use Rattle.rounds.specs.Rows.{below, cut, gains, heardIn, brought}
+use Rattle.rounds.specs.Rows.{below, cut, gains, heardIn, brought, Sparse}
 use Rattle.rounds.proofs.Bools.{merge, merge-under, merge-both, below-one, words-one, below-none, below-within, below-wider}
+
+-- the rows of another set stay
+pub sparse-same : (s t : List ℕ) (P : Pairs) (w mask : ℕ) → w ≤ 256 → Adds 1028 s t P → Sparse w mask (stored s 2056) → Sparse w mask (stored t 2056)
+sparse-same s t P w mask hw a f g hg ne b hb = adds-beyond 1028 s t P a 2056 g (some b) (omega arith) hb (omega arith) ∙ f g hg ne b hb
 
 module _ (x : RuleSheet) where
   lump : (B : ℕ → Bool) (C : Option ℕ → Bool) (L : Pairs) (p : Option ℕ) (b : ℕ) (c : Option ℕ) → gains x B C L p b c ≡ ((B b && C c) && (L b c && holds x p b c))
@@ -208,6 +213,16 @@ module _ (x : RuleSheet) where
     bring-all t b h f =
         gains-as s t (λ a. ltb a b && In a) In (below w) (below w) (stored s 0) (some g) (f .sofar)
         (λ a c ha hc. ap (λ (u : Bool). u && below w c) (sym (and-assoc (ltb a b) (ltb a w) (stored s 2056 g (some a) && r a)) ∙ ap (λ (u : Bool). u && (stored s 2056 g (some a) && r a)) (below-within a w b h)))
+
+  -- a row that is no group's
+  pub no-group : (s : List ℕ) (w mask g : ℕ) (r : ℕ → Bool) → w ≤ 256 → g < w → Sparse w mask (stored s 2056) → (bitAnd g mask ≡ g → ⊥)
+      → Adds 1028 s s (gains x (heardIn (stored s 2056) w r g) (below w) (stored s 0) (some g))
+  no-group s w mask g r hw hg f ne =
+      gains-none s (heardIn (stored s 2056) w r g) (below w) (stored s 0) (some g) (λ b c. ap (λ (u : Bool). u && below w c) (go b (decLt b w)))
+    where
+      go : (b : ℕ) → Dec (b < w) → heardIn (stored s 2056) w r g b ≡ false
+      go b (yes d) = ap (λ (u : Bool). ltb b w && (u && r b)) (f g hg ne b (omega arith)) ∙ and-false (ltb b w)
+      go b (no d) = ap (λ (u : Bool). u && (stored s 2056 g (some b) && r b)) (le-ltb b w (omega arith))
 
   -- ---- all rows of G
 

@@ -1,7 +1,8 @@
 -- For the contracts of private functions: the pairs that a set gains, row by row.
+use mathlib.Core.Path.{_≡_}
 use mathlib.Core.Bool.{Bool, true, false, _&&_}
 use mathlib.Core.Option.{Option, none, some}
-use Prim.Native.Nat.{ℕ, _%_, _^_}
+use Prim.Native.Nat.{ℕ, _%_, _^_, _<_}
 use lib.Bits.{bitAnd}
 use lib.Dec.{eqb, ltb}
 use Rattle.words.specs.Bits.{bit}
@@ -39,3 +40,7 @@ brought x G w r L k b c = anyBelow k (λ a. gains x (heardIn G w r a) (below w) 
 -- the rows below k of S, each put into the row of what the mask leaves of its number, the valuations below w of it
 unfoldable pub grouped : Pairs → ℕ → ℕ → ℕ → Pairs
 grouped S mask w k g c = anyBelow k (λ a. eqb g (bitAnd a mask) && cut (λ b. ltb b w && S a (some b)) c)
+
+-- of the rows below w, those that the mask does not leave as they are have no valuation
+abbrev pub Sparse : ℕ → ℕ → Pairs → Type 0
+Sparse w mask G = (g : ℕ) → g < w → (bitAnd g mask ≡ g → ⊥) → (b : ℕ) → b < 256 → G g (some b) ≡ false

@@ -13,7 +13,7 @@ ghost use Rattle.pairs.specs.Changes.{Adds, eqNext};
 ghost use Rattle.refusal.specs.Numbers.{verdictNo};
 ghost use Rattle.lanes.specs.Table.{Before, Seen};
 ghost use Rattle.lanes.specs.Coded.{Coded, sheetOf};
-ghost use Rattle.rounds.specs.Rows.{among, below, cut, gains, heardIn, brought, grouped};
+ghost use Rattle.rounds.specs.Rows.{among, below, cut, gains, heardIn, brought, grouped, Sparse};
 ghost use Rattle.rounds.specs.Round.{Rounded};
 ghost use Rattle.rounds.specs.Firsts.{Words, shows, Told};
 
@@ -256,10 +256,40 @@ fn bring_row(
     }
 }
 
-// The pairs that the scratch set brings.
-fn bring_rows(s: &mut [u64], code: &[u8], len: &[usize], m: usize, n: usize, letters: u64)
+// The same, where rows that the mask does not leave as they are have nothing to bring.
+fn bring_group(
+    s: &mut [u64],
+    t: &mut [u64],
+    st: &mut [u64],
+    code: &[u8],
+    len: &[usize],
+    m: usize,
+    n: usize,
+    letters: u64,
+    mask: usize,
+    g: usize,
+)
     requires { ⌜ Coded m n (now code) (now len) ⌝ }
-    requires { ⌜ 3084 ≤ length (now s) ⌝ }
+    requires { ⌜ (length (now st) ≡ 64) × (length (now t) ≡ 48) × (3084 ≤ length (now s)) × (g < 2 ^ (m + n)) × (2 ^ (m + n) ≤ 256) × Sparse (2 ^ (m + n)) mask (stored (now s) 2056) ⌝ }
+    ensures { λ r. ⌜ ((ks : List ℕ) → Adds 1028 (now (s .entry)) (now (s .exit)) (gains (sheetOf m n (now (code .entry)) (now (len .entry)) ks) (heardIn (stored (now (s .entry)) 2056) (2 ^ (m + n)) (among letters m) g) (below (2 ^ (m + n))) (stored (now (s .entry)) 0) (some g))) ⌝ }
+{
+    if g & mask == g {
+        bring_row(s, t, st, code, len, m, n, letters, g);
+    }
+}
+
+// The pairs that the scratch set brings; its rows are groups by the mask.
+fn bring_rows(
+    s: &mut [u64],
+    code: &[u8],
+    len: &[usize],
+    m: usize,
+    n: usize,
+    letters: u64,
+    mask: usize,
+)
+    requires { ⌜ Coded m n (now code) (now len) ⌝ }
+    requires { ⌜ (3084 ≤ length (now s)) × Sparse (2 ^ (m + n)) mask (stored (now s) 2056) ⌝ }
     ensures { λ r. ⌜ ((ks : List ℕ) → Adds 1028 (now (s .entry)) (now (s .exit)) (brought (sheetOf m n (now (code .entry)) (now (len .entry)) ks) (stored (now (s .entry)) 2056) (2 ^ (m + n)) (among letters m) (stored (now (s .entry)) 0) (2 ^ (m + n)))) ⌝ }
 {
     let v = valuations(m, n);
@@ -267,7 +297,7 @@ fn bring_rows(s: &mut [u64], code: &[u8], len: &[usize], m: usize, n: usize, let
     let mut st = [0u64; 64];
     let mut g: usize = 0;
     while g < v {
-        bring_row(s, &mut t, &mut st, code, len, m, n, letters, g);
+        bring_group(s, &mut t, &mut st, code, len, m, n, letters, mask, g);
         g += 1;
     }
 }
@@ -285,7 +315,7 @@ pub fn later_round(s: &mut [u64], code: &[u8], len: &[usize], m: usize, n: usize
     pairs::clear_rows(s, 2056, v);
     group_rows(s, v, w, mask);
     pairs::clear_rows(s, 1028, v);
-    bring_rows(s, code, len, m, n, letters);
+    bring_rows(s, code, len, m, n, letters, mask);
     pairs::clear_rows(s, 2056, v);
 }
 

@@ -1,7 +1,7 @@
 -- `rounds::later_round` meets its contract: the steps are those of a round on groups. Assumes nothing.
 use native.Mathlib.Omega.{arith}
 use borrow.Author.Needs.{needs}
-use Rattle.rounds.proofs.RoundLaws.{rounded-later}
+use Rattle.rounds.proofs.RoundLaws.{rounded-later, groups-sparse}
 use Rattle.rounds.proofs.later_round.Statement.{statement}
 use Rattle.rounds.proofs.later_round.Tie as tie
 
@@ -24,7 +24,13 @@ clear-rows-requires-2 : tie.Need-clear-rows-requires-2
 clear-rows-requires-2 c κs = search needs
 
 bring-rows-requires : tie.Need-bring-rows-requires
-bring-rows-requires c κs = search needs
+bring-rows-requires c κs = (
+  c .before .before .before .before .before .before .before .before .before .before .before .before .before .before .before .before .before .before .pre .0,
+  (
+    omega (arith, c .before .before .before .clear-rows2 .ensures .same-length),
+    groups-sparse _ _ _ _ _ _ _ _ (c .before .before .before .before .before .before .before .before .before .before .before .before .before .before .valuations .ensures .0) (c .before .before .before .before .before .before .before .before .before .before .before .before .before .before .valuations .ensures .1) (c .before .before .before .before .before .before .before .before .before .before .before .clear-rows .ensures) (c .before .before .before .before .before .before .before .group-rows .ensures) (c .before .before .before .clear-rows2 .ensures),
+  ),
+)
 
 clear-rows-requires-3 : tie.Need-clear-rows-requires-3
 clear-rows-requires-3 c κs = search needs

@@ -15,7 +15,7 @@ use Rattle.circular.proofs.Decide.{turned, atLeast0, circularAt, circul
 use Rattle.words.specs.Below.{anyBelow}
 use Rattle.words.proofs.AnyLaws.{some-any}
 use Rattle.circular.specs.Circular.{Circular}
-use Rattle.circular.specs.Table.{pickN, largerN, clipN, plusN, loopN, cellN, bestN, Small, Next, Closed, readsOf, topN, baseN, Based}
+use Rattle.circular.specs.Table.{pickN, largerN, clipN, plusN, loopN, cellN, bestN, Small, NextEntered, Next, Closed, readsOf, topN, baseN, Based}
 use Rattle.words.specs.Bits.{bit}
 
 -- bounds
@@ -103,6 +103,22 @@ stage-next g k t u h s x = record { cells = λ i b. go i b }
         (ap₂ loopN
         (at-cell g k t s (8 * k) k k (omega arith) (omega arith) (omega arith))
         (at-cell g k t s (7 * k + i % 7) k (i % 7) (omega arith) (omega arith) (omega arith)))))
+
+-- stages of outputs that no walk leads to leave the table as it is
+pub stage-skip : (g t : List ℕ) (from r : ℕ) → NextEntered t from r → Stage g from t → Stage g r t
+stage-skip g t from r n s = go (r - from) from (omega (arith, n .onward)) (omega arith) s
+  where
+    go : (d k : ℕ) → k + d ≡ r → from ≤ k → Stage g k t → Stage g r t
+    go zero k e l s = let q : k ≡ r = omega arith in subst (λ (z : ℕ). Stage g z t) q s
+    go (suc d) k e l s = go d (k + 1) (omega arith) (omega arith) (stage-next g k t t (omega (arith, n .inside)) s (none-entered t k (n .skipped k l (omega arith))))
+
+pub skipped-more : (t : List ℕ) (from n : ℕ) → ((k : ℕ) → from ≤ k → k < n → (i : ℕ) → i < 7 → getD t (7 * i + k) 0 ≡ 0) → ((i : ℕ) → i < 7 → getD t (7 * i + n) 0 ≡ 0)
+    → (k : ℕ) → from ≤ k → k < n + 1 → (i : ℕ) → i < 7 → getD t (7 * i + k) 0 ≡ 0
+skipped-more t from n f e k l h i b = go (ℕ-discrete k n)
+  where
+    go : Dec (k ≡ n) → getD t (7 * i + k) 0 ≡ 0
+    go (yes d) = ap (λ (z : ℕ). getD t (7 * i + z) 0) d ∙ e i b
+    go (no d) = f k l (omega arith) i b
 
 -- a number stands for an entry whose weight is at most w either way
 abbrev pub Rep : ℕ → Entry → ℕ → Type 0

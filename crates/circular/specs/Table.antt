@@ -44,6 +44,12 @@ bestN g (suc k) i j = largerN (bestN g k i j) (plusN (bestN g k i k) (loopN (bes
 pub record Small (l : List ℕ) : Type 0 where
   pub small : (i : ℕ) → i < 49 → getD l i 0 ≤ 4096
 
+-- r is the first output from `from` on that some entry leads to, or 7
+pub record NextEntered (t : List ℕ) (from r : ℕ) : Type 0 where
+  pub onward : from ≤ r
+  pub inside : r ≤ 7
+  pub skipped : (k : ℕ) → from ≤ k → k < r → (i : ℕ) → i < 7 → getD t (7 * i + k) 0 ≡ 0
+
 -- the next table
 pub record Next (old : List ℕ) (k : ℕ) (new : List ℕ) : Type 0 where
   pub cells : (i : ℕ) → i < 49 → getD new i 0 ≡ cellN old k i

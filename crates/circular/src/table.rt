@@ -4,7 +4,7 @@ ghost use mathlib.Core.Bool.{true, false};
 ghost use Prim.Native.Nat.{ℕ, _+_, _*_, _<_, _≤_};
 ghost use lib.ListN.{getD};
 ghost use Rattle.circular.specs.Circular.{Circular};
-ghost use Rattle.circular.specs.Table.{largerN, plusN, loopN, cellN, Small, Next, Closed, baseN, Based, readsOf};
+ghost use Rattle.circular.specs.Table.{largerN, plusN, loopN, cellN, Small, NextEntered, Next, Closed, baseN, Based, readsOf};
 
 // An entry tells the largest weight of the walks from one output to another, where a read one round earlier weighs -1 and one round later
 // 1: LEVEL plus the weight.
@@ -82,6 +82,21 @@ fn is_entered(old: &[u32; 49], k: usize) -> bool
     false
 }
 
+// The first output from `from` on that some walk leads to, or 7 if there is none.
+fn next_entered(t: &[u32; 49], from: usize) -> usize
+    requires { ⌜ from ≤ 7 ⌝ }
+    ensures { λ r. ⌜ NextEntered (now (t .entry)) from r ⌝ }
+{
+    let mut k = from;
+    while k < 7 {
+        if is_entered(t, k) {
+            return k;
+        }
+        k += 1;
+    }
+    7
+}
+
 // Walks that may also pass through output k, for one pair of outputs.
 fn cell(old: &[u32; 49], k: usize, i: usize) -> u32
     requires { ⌜ (k < 7) × (i < 49) × Small (now old) ⌝ }
@@ -98,14 +113,11 @@ fn cell(old: &[u32; 49], k: usize, i: usize) -> u32
     larger(old[i], via)
 }
 
-// The same for all pairs. Most sheets have few outputs that others read, and the other outputs change nothing.
+// The same for all pairs.
 fn stage(old: &[u32; 49], k: usize) -> [u32; 49]
     requires { ⌜ (k < 7) × Small (now old) ⌝ }
     ensures { λ r. ⌜ Next (now (old .entry)) k r ⌝ }
 {
-    if !is_entered(old, k) {
-        return *old;
-    }
     let mut new = [0u32; 49];
     let mut i = 0;
     while i < 49 {
@@ -115,16 +127,16 @@ fn stage(old: &[u32; 49], k: usize) -> [u32; 49]
     new
 }
 
-// Walks of any length, from single reads.
+// Walks of any length, from single reads. No walk passes through an output that none leads to.
 fn closed(g: &[u32; 49]) -> [u32; 49]
     requires { ⌜ Small (now g) ⌝ }
     ensures { λ r. ⌜ Closed (now (g .entry)) r ⌝ }
 {
     let mut t = *g;
-    let mut k = 0;
+    let mut k = next_entered(&t, 0);
     while k < 7 {
         t = stage(&t, k);
-        k += 1;
+        k = next_entered(&t, k + 1);
     }
     t
 }

@@ -310,10 +310,9 @@ pub fn later_round(s: &mut [u64], code: &[u8], len: &[usize], m: usize, n: usize
     ensures { λ r. ⌜ ((ks : List ℕ) → Rounded (2 ^ (m + n)) (now (s .entry)) (now (s .exit)) (stepSet (sheetOf m n (now (code .entry)) (now (len .entry)) ks) (2 ^ (m + n)) (stored (now (s .entry)) 0) (stored (now (s .entry)) 1028) (among letters m))) ⌝ }
 {
     let v = valuations(m, n);
-    let w = (v + 63) / 64;
     let mask = lanes::earlier_mask(code, len, m, n);
     pairs::clear_rows(s, 2056, v);
-    group_rows(s, v, w, mask);
+    group_rows(s, v, 4, mask);
     pairs::clear_rows(s, 1028, v);
     bring_rows(s, code, len, m, n, letters, mask);
     pairs::clear_rows(s, 2056, v);

@@ -8,9 +8,6 @@ use Rattle.rounds.proofs.later_round.Tie as tie
 valuations-requires : tie.Need-valuations-requires
 valuations-requires c κs = search needs
 
-add-w : tie.Need-add-w
-add-w c = search needs
-
 earlier-mask-requires : tie.Need-earlier-mask-requires
 earlier-mask-requires c κs = search needs
 
@@ -40,7 +37,7 @@ same-length c = search needs
 
 returns : tie.Need-returns
 returns c = λ ks.
-    rounded-later _ _ (c .before .before .before .before .before .before .before .before .before .before .before .before .before .before .before .before .before .before .before .before .earlier-mask .ensures ks) _ _ _ (omega (arith, c .before .before .before .before .before .before .before .before .before .before .before .before .before .before .before .before .before .before .before .before .before .valuations .ensures)) (omega (arith, c .before .before .before .before .before .before .before .before .before .before .before .before .before .before .before .before .before .before .before .before .before .valuations .ensures)) _ _ _ _ _ _ _ (c .before .before .before .before .before .before .before .before .before .before .before .before .before .before .before .before .before .before .before .before .before .valuations .ensures .0)
+    rounded-later _ _ (c .before .before .before .before .before .before .before .before .before .before .before .before .before .before .before .before .before .before .before .before .earlier-mask .ensures ks) _ 4 _ (omega (arith, c .before .before .before .before .before .before .before .before .before .before .before .before .before .before .before .before .before .before .before .before .before .valuations .ensures)) (omega (arith, c .before .before .before .before .before .before .before .before .before .before .before .before .before .before .before .before .before .before .before .before .before .valuations .ensures)) _ _ _ _ _ _ _ (c .before .before .before .before .before .before .before .before .before .before .before .before .before .before .before .before .before .before .before .before .before .valuations .ensures .0)
     (c .before .before .before .before .before .before .before .before .before .before .before .before .before .before .before .before .before .before .clear-rows .ensures) (c .before .before .before .before .before .before .before .before .before .before .before .before .before .before .group-rows .ensures) (c .before .before .before .before .before .before .before .before .before .before .clear-rows2 .ensures) (c .before .before .before .before .before .before .bring-rows .ensures ks) (c .before .before .clear-rows3 .ensures)
 
 pub later-round-spec : {M : Type 1} → statement M
@@ -48,7 +45,6 @@ later-round-spec =
     tie.close
     (tie.spec
     valuations-requires
-    add-w
     earlier-mask-requires
     clear-rows-requires
     group-rows-requires

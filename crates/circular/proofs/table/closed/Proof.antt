@@ -1,5 +1,4 @@
-use Rattle.circular.proofs.Codes.{stage-closed}
-use Rattle.circular.proofs.Codes.{Stage, stage-start, stage-small, stage-next}
+use Rattle.circular.proofs.Codes.{Stage, stage-start, stage-small, stage-next, stage-skip, stage-closed}
 use Prim.Native.Nat.{_-_, _≤_}
 use native.Mathlib.Omega.{arith}
 use Rattle.circular.proofs.table.closed.Statement.{statement}
@@ -11,20 +10,26 @@ Inv-loop g t₀ k₀ t k = (k ≤ 7) × Stage g k t
 abbrev μ-loop : tie.MeasureT-loop
 μ-loop g t₀ k₀ t k = 7 - k
 
+next-entered-requires : tie.Need-next-entered-requires Inv-loop μ-loop
+next-entered-requires c κs = omega arith
+
 loop-holds : tie.Need-loop-holds Inv-loop μ-loop
-loop-holds c = (omega arith, stage-start _)
+loop-holds c = (c .next-entered .ensures .inside, stage-skip _ _ _ _ (c .next-entered .ensures) (stage-start _))
 
 stage-requires : tie.Need-stage-requires Inv-loop μ-loop
-stage-requires c κs = (omega arith, stage-small _ _ _ (c .before .before .before .before .pre) (c .before .before .loop .inv .1))
+stage-requires c κs = (omega arith, stage-small _ _ _ (c .before .before .before .before .before .before .pre) (c .before .before .loop .inv .1))
 
-add-k : tie.Need-add-k Inv-loop μ-loop
-add-k c = omega arith
+add-next-entered : tie.Need-add-next-entered Inv-loop μ-loop
+add-next-entered c = omega arith
+
+next-entered-requires-2 : tie.Need-next-entered-requires-2 Inv-loop μ-loop
+next-entered-requires-2 c κs = omega arith
 
 loop-less : tie.Need-loop-less Inv-loop μ-loop
-loop-less c = omega arith
+loop-less c = omega (arith, c .next-entered2 .ensures .onward)
 
 loop-again : tie.Need-loop-again Inv-loop μ-loop
-loop-again c = (omega arith, stage-next _ _ _ _ (omega arith) (c .before .before .before .loop .inv .1) (c .stage .ensures))
+loop-again c = (c .next-entered2 .ensures .inside, stage-skip _ _ _ _ (c .next-entered2 .ensures) (stage-next _ _ _ _ (omega arith) (c .before .before .before .before .before .loop .inv .1) (c .before .before .stage .ensures)))
 
 returns : tie.Need-returns Inv-loop μ-loop
 returns c = stage-closed _ _ _ (omega arith) (c .before .loop .inv .1)
@@ -32,4 +37,14 @@ returns c = stage-closed _ _ _ (omega arith) (c .before .loop .inv .1)
 pub closed-spec : {M : Type 1} → statement M
 closed-spec =
     tie.close
-    (tie.spec Inv-loop μ-loop loop-holds stage-requires add-k loop-less loop-again returns)
+    (tie.spec
+    Inv-loop
+    μ-loop
+    next-entered-requires
+    loop-holds
+    stage-requires
+    add-next-entered
+    next-entered-requires-2
+    loop-less
+    loop-again
+    returns)

@@ -4,8 +4,6 @@ use Rattle.circular.proofs.Fill.{filled-more}
 use mathlib.Core.Path.{_≡_, refl}
 use Prim.Native.Nat.{ℕ, _-_, _≤_, _<_}
 use native.Mathlib.Omega.{arith}
-use borrow.Author.Tests.{not-true}
-use Rattle.circular.proofs.Codes.{none-entered}
 use Rattle.circular.specs.Table.{cellN}
 use Rattle.circular.proofs.table.stage.Statement.{statement}
 use Rattle.circular.proofs.table.stage.Tie as tie
@@ -15,12 +13,6 @@ Inv-loop old k new₀ i₀ new i = (i ≤ 49) × (length new ≡ 49) × ((j : �
 
 abbrev μ-loop : tie.MeasureT-loop
 μ-loop old k new₀ i₀ new i = 49 - i
-
-is-entered-requires : tie.Need-is-entered-requires Inv-loop μ-loop
-is-entered-requires c κs = search needs
-
-returns : tie.Need-returns Inv-loop μ-loop
-returns c = none-entered _ _ (c .before .before .is-entered .ensures (not-true _ (c .before .if1 .taken)))
 
 loop-holds : tie.Need-loop-holds Inv-loop μ-loop
 loop-holds c = (omega arith, refl, (λ j h. absurd (omega arith)))
@@ -41,10 +33,10 @@ loop-less : tie.Need-loop-less Inv-loop μ-loop
 loop-less c = omega arith
 
 loop-again : tie.Need-loop-again Inv-loop μ-loop
-loop-again c = (omega arith, simp length-set (search needs), filled-more (cellN (c .before .before .before .before .before .args .old .now) (c .before .before .before .before .before .args .k)) (c .before .before .loop .new) (c .before .before .loop .i) (c .cell .result) (omega arith) (c .cell .ensures) (c .before .before .loop .inv .2))
+loop-again c = (omega arith, simp length-set (search needs), filled-more (cellN (c .before .before .before .args .old .now) (c .before .before .before .args .k)) (c .before .before .loop .new) (c .before .before .loop .i) (c .cell .result) (omega arith) (c .cell .ensures) (c .before .before .loop .inv .2))
 
-returns-2 : tie.Need-returns-2 Inv-loop μ-loop
-returns-2 c = record { cells = λ j h. c .before .loop .inv .2 j (omega arith) }
+returns : tie.Need-returns Inv-loop μ-loop
+returns c = record { cells = λ j h. c .before .loop .inv .2 j (omega arith) }
 
 pub stage-spec : {M : Type 1} → statement M
 stage-spec =
@@ -52,8 +44,6 @@ stage-spec =
     (tie.spec
     Inv-loop
     μ-loop
-    is-entered-requires
-    returns
     loop-holds
     cell-requires
     mul-new
@@ -61,4 +51,4 @@ stage-spec =
     add-i
     loop-less
     loop-again
-    returns-2)
+    returns)

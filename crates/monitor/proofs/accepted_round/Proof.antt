@@ -57,11 +57,12 @@ same-length c = search needs
 
 returns : tie.Need-returns
 returns c =
+    let a = c .before .before .before .before .before .before .before .before .before .before .before .before .before .before .before .before .args in
     let p = c .before .before .before .before .before .before .before .before .before .before .before .before .before .before .before .before .pre in
     let w = c .with-round .ensures in (
       refl,
-      round-done (c .before .before .before .before .before .before .before .before .before .before .before .before .before .before .before .before .args .x) (p .0) (now (c .before .before .before .before .before .before .before .before .before .before .before .before .before .before .before .before .args .storage)) (c .before .before .before .before .before .before .step .last .0) (c .before .before .before .before .before .before .before .before .before .before .before .before .before .before .before .before .args .r) (c .before .before .before .before .before .before .before .before .before .before .before .before .before .before .before .before .args .known) (c .before .before .before .before .before .before .before .before .before .before .before .before .before .before .before .before .args .value) (c .before .before .before .before .before .before .before .before .before .before .letters-of .result) _ (p .1)
-          (c .before .before .before .before .before .before .before .before .before .before .letters-of .ensures) (c .before .before .before .before .before .before .step .ensures (requiredOf (c .before .before .before .before .before .before .before .before .before .before .before .before .before .before .before .before .args .x .assumed))) (c .before .before .round-verdicts .ensures) (w .0) (w .1) (w .2),
+      round-done (a .x) (p .0) (now (a .storage)) (c .before .before .before .before .before .before .step .last .0) (a .r) (a .known) (a .value) (c .before .before .before .before .before .before .before .before .before .before .letters-of .result) _ (p .1)
+          (c .before .before .before .before .before .before .before .before .before .before .letters-of .ensures) (c .before .before .before .before .before .before .step .ensures (requiredOf (a .x .assumed))) (c .before .before .round-verdicts .ensures) (w .0) (w .1) (w .2),
     )
 
 pub accepted-round-spec : {M : Type 1} → statement M

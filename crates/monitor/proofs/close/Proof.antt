@@ -39,14 +39,15 @@ returns c =
 
 returns-2 : tie.Need-returns-2
 returns-2 c =
-    let bs = now (c .before .before .before .before .before .before .args .sheet) in
+    let a = c .before .before .before .before .before .before .args in
+    let bs = now (a .sheet) in
     let x = c .before .before .before .accept-sheet .result .sheet in
     let e = c .before .enum-told .given .1 in
     let acc = rw e at (c .before .before .before .accept-sheet .ensures .1) in
-    let s = now (c .before .before .before .before .before .before .args .storage) in
-    let r = c .before .before .before .before .before .before .args .before in
+    let s = now (a .storage) in
+    let r = a .before in
     let p = c .closing-on .result in (
-      sheet-accepted bs (given (length (now (c .before .before .before .before .before .before .args .storage))) (c .before .before .before .before .before .before .args .before) 0 0) x acc (rw e at (c .before .before .before .accept-sheet .ensures .0)) closingChecks (p .outcome) (c .closing-on .ensures .0),
+      sheet-accepted bs (given (length (now (a .storage))) (a .before) 0 0) x acc (rw e at (c .before .before .before .accept-sheet .ensures .0)) closingChecks (p .outcome) (c .closing-on .ensures .0),
       closing-of (ClosingDone (ruleSheet x) s r p) (OfSheet bs (λ (y : RuleSheet). ClosingDone y s r p)) r p (p .outcome) (λ d. (ruleSheet x, acc .reads, d)) (c .closing-on .ensures .1),
     )
 

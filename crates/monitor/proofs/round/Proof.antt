@@ -42,16 +42,17 @@ same-length c = search needs
 
 returns-2 : tie.Need-returns-2
 returns-2 c =
-    let bs = now (c .before .before .before .before .before .before .before .before .before .args .sheet) in
+    let a = c .before .before .before .before .before .before .before .before .before .args in
+    let bs = now (a .sheet) in
     let x = c .before .before .before .before .before .before .accept-sheet .result .sheet in
     let e = c .before .before .before .before .enum-told .given .1 in
     let acc = rw e at (c .before .before .before .before .before .before .accept-sheet .ensures .1) in
-    let s = now (c .before .before .before .before .before .before .before .before .before .args .storage) in
+    let s = now (a .storage) in
     let t = c .before .before .round-on .last .1 .0 in
-    let r = c .before .before .before .before .before .before .before .before .before .args .before in
+    let r = a .before in
     let p = c .before .before .round-on .result in (
-      sheet-accepted bs (given (length (now (c .before .before .before .before .before .before .before .before .before .args .storage))) (c .before .before .before .before .before .before .before .before .before .args .before) (c .before .before .before .before .before .before .before .before .before .args .known) (c .before .before .before .before .before .before .before .before .before .args .value)) x acc (rw e at (c .before .before .before .before .before .before .accept-sheet .ensures .0)) roundChecks (p .outcome) (c .before .before .round-on .ensures .0),
-      round-of (RoundDone (ruleSheet x) s t r (c .before .before .before .before .before .before .before .before .before .args .known) (c .before .before .before .before .before .before .before .before .before .args .value) p) (OfSheet bs (λ (y : RuleSheet). RoundDone y s t r (c .before .before .before .before .before .before .before .before .before .args .known) (c .before .before .before .before .before .before .before .before .before .args .value) p)) s t r p (p .outcome)
+      sheet-accepted bs (given (length (now (a .storage))) (a .before) (a .known) (a .value)) x acc (rw e at (c .before .before .before .before .before .before .accept-sheet .ensures .0)) roundChecks (p .outcome) (c .before .before .round-on .ensures .0),
+      round-of (RoundDone (ruleSheet x) s t r (a .known) (a .value) p) (OfSheet bs (λ (y : RuleSheet). RoundDone y s t r (a .known) (a .value) p)) s t r p (p .outcome)
           (λ d. (ruleSheet x, acc .reads, d)) (c .before .before .round-on .ensures .1),
     )
 

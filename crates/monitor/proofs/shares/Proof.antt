@@ -31,9 +31,10 @@ array-read-share-of c = omega arith
 
 share-of-requires : tie.Need-share-of-requires Inv-loop μ-loop
 share-of-requires c κs =
-    let ok = record-is (c .before .before .before .args .n) (c .before .before .before .args .r) (c .before .before .before .pre .1) in
+    let a = c .before .before .before .args in
+    let ok = record-is (a .n) (a .r) (c .before .before .before .pre .1) in
     let same : 4 * c .before .loop .k + 0 ≡ 4 * c .before .loop .k = omega arith in
-    let e = ap (λ (z : ℕ). getD (c .before .before .before .args .r .counts) z 0) same in
+    let e = ap (λ (z : ℕ). getD (a .r .counts) z 0) same in
     (omega arith, omega (arith, e, ok .sums (c .before .loop .k) (omega arith)))
 
 mul-out : tie.Need-mul-out Inv-loop μ-loop

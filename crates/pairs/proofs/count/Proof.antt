@@ -45,10 +45,11 @@ loop-again c = (omega arith, omega (arith, ones-le 64 (getD (c .before .before .
 
 returns : tie.Need-returns Inv-loop μ-loop
 returns c =
+    let a = c .before .before .args in
     let e : c .before .loop .i ≡ 1028 = omega arith in
-    let r : c .before .loop .n ≡ countPairs 256 (stored (c .before .before .args .s .now) 0) =
-    c .before .loop .inv .2 ∙ ap (λ (k : ℕ). sumBelow k (λ j. ones (getD (c .before .before .args .s .now) j 0))) e
-    ∙ pair-count (c .before .before .args .s .now) (λ k h. c .before .loop .inv .3 k (omega arith))
+    let r : c .before .loop .n ≡ countPairs 256 (stored (a .s .now) 0) =
+    c .before .loop .inv .2 ∙ ap (λ (k : ℕ). sumBelow k (λ j. ones (getD (a .s .now) j 0))) e
+    ∙ pair-count (a .s .now) (λ k h. c .before .loop .inv .3 k (omega arith))
     in
     (r, omega arith)
 

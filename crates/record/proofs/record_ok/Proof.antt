@@ -53,9 +53,10 @@ loop-again c = (omega arith, add-up-more (c .before .before .before .before .bef
 
 returns-3 : tie.Need-returns-3 Inv-loop μ-loop
 returns-3 c =
-    let e : c .before .loop .k ≡ c .before .before .before .before .before .before .args .n = omega arith in
-    sym (by-counts (c .before .before .before .before .before .before .args .n) (c .before .before .before .before .before .before .args .r) true (omega arith)
-    (ap (addUp (c .before .before .before .before .before .before .args .r .counts) (c .before .before .before .before .before .before .args .r .rounds)) (sym e) ∙ rw (c .before .before .before .wide .ensures) at (c .before .loop .inv .1)))
+    let a = c .before .before .before .before .before .before .args in
+    let e : c .before .loop .k ≡ a .n = omega arith in
+    sym (by-counts (a .n) (a .r) true (omega arith)
+    (ap (addUp (a .r .counts) (a .r .rounds)) (sym e) ∙ rw (c .before .before .before .wide .ensures) at (c .before .loop .inv .1)))
 
 pub record-ok-spec : {M : Type 1} → statement M
 record-ok-spec =

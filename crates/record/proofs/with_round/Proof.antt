@@ -11,8 +11,9 @@ slice-aggregate-count-verdicts c = search needs
 
 count-verdicts-requires : tie.Need-count-verdicts-requires
 count-verdicts-requires c κs =
+    let a = c .before .before .before .args in
     let p = c .before .before .before .pre in
-    (p .0, search needs, p .3, countable (c .before .before .before .args .n) (c .before .before .before .args .r) _ (record-is (c .before .before .before .args .n) (c .before .before .before .args .r) (p .1)) (p .2) (p .4))
+    (p .0, search needs, p .3, countable (a .n) (a .r) _ (record-is (a .n) (a .r) (p .1)) (p .2) (p .4))
 
 add-t8 : tie.Need-add-t8
 add-t8 c = search needs

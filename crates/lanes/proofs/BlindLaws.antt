@@ -27,7 +27,7 @@ use Rattle.lola.specs.Reads.{place, hasRead}
 use Rattle.lola.specs.Equations.{holds}
 use Rattle.lola.specs.ByteReads.{opReads, bytesRead}
 use Rattle.lola.proofs.TreeReads.{tree-reads}
-use Rattle.lanes.specs.Table.{earlierByte}
+use Rattle.lanes.specs.Around.{earlierByte}
 use Rattle.lanes.specs.Coded.{Coded, sheetOf}
 use Rattle.lanes.proofs.CodeLaws.{agreed-same, agreed-holds}
 

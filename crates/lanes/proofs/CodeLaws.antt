@@ -17,9 +17,7 @@ use Rattle.sheet.proofs.Sheets.{length-trees}
 use Rattle.sheet.proofs.Postfixes.{tree-exactly}
 use Rattle.lola.specs.Value.{Look, value, neighbours}
 use Rattle.lola.specs.Equations.{equations, holds}
-use Rattle.lanes.specs.Table.{tableLook}
 use Rattle.lanes.specs.Coded.{Coded, sheetOf, agreed}
-use Rattle.lanes.proofs.TableLaws.{Filled, filled-look}
 
 -- ---- one equation more
 
@@ -65,6 +63,15 @@ module _ (look : Look) (s : ℕ) (code len : List ℕ) (q v : ℕ) where
   agreed-more k u w e f =
       ap₂ _&&_ e (f ∙ beq-comm (value look (treeOf (parse s [] (codeAt code len k)))) (bit (q + k) v)) ∙ sym (agreed-suc k) ∙ ap firstAgreed (sym (add-one k))
 
+  -- one more, by a test of the code
+  pub agreed-next : (k : ℕ) (x y t : Bool) → firstAgreed k ≡ true → x ≡ value look (treeOf (parse s [] (codeAt code len k))) → y ≡ bit (q + k) v
+      → not (Bool·beq x y) ≡ t → firstAgreed (k + 1) ≡ not t
+  agreed-next k x y t e f g h = sym (agreed-more k true (Bool·beq x y) (sym e) (ap₂ Bool·beq f g)) ∙ twice (Bool·beq x y) ∙ ap not h
+    where
+      twice : (u : Bool) → u ≡ not (not u)
+      twice true = refl
+      twice false = refl
+
   -- an equation that fails is enough
   agreed-fails : (k d : ℕ) → firstAgreed k ≡ false → firstAgreed (k + d) ≡ false
   agreed-fails k zero e = ap firstAgreed (omega arith) ∙ e
@@ -108,14 +115,13 @@ module _ (m n : ℕ) (code len : List ℕ) (c : Coded m n code len) where
   unfolding holds
   agreed-holds ks p v x = agreed-equations (treesOf (m + n) code len n) m p v x
 
-  -- what the evaluator finds in a lane of a table are the equations with that lane's neighbours
-  pub lane-holds : (t : List ℕ) (P : ℕ → Option ℕ) (v : ℕ) (N : ℕ → Option ℕ) → Filled t P v N → (ks : List ℕ) (i : ℕ) → i < 64
-      → agreed (tableLook t i) (treesOf (m + n) code len n) m v ≡ holds (sheetOf m n code len ks) (P i) v (N i)
-  lane-holds t P v N f ks i h =
-      agreed-same (tableLook t i) (neighbours (P i) v (N i)) (m + n) code len m v n
-      (λ j l. value-same (tableLook t i) (neighbours (P i) v (N i)) (filled-look t P v N f i h) (m + n) _
-      (tree-exactly (m + n) (codeAt code len j) _ .0 (c .parts j l .parses) .1))
-      ∙ agreed-holds ks (P i) v (N i)
+  -- what the evaluator finds with reads that are those of a round are the equations of that round
+  pub look-holds : (look : Look) (p : Option ℕ) (v : ℕ) (x : Option ℕ) → ((q : ℕ) (o : Offset) (d : Bool) → q < 8 → look q o d ≡ neighbours p v x q o d)
+      → (ks : List ℕ) → agreed look (treesOf (m + n) code len n) m v ≡ holds (sheetOf m n code len ks) p v x
+  look-holds look p v x f ks =
+      agreed-same look (neighbours p v x) (m + n) code len m v n
+      (λ j l. value-same look (neighbours p v x) f (m + n) _ (tree-exactly (m + n) (codeAt code len j) _ .0 (c .parts j l .parses) .1))
+      ∙ agreed-holds ks p v x
 
 -- ---- the bytes of output k, as the code cuts them out
 

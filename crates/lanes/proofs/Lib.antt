@@ -1,5 +1,7 @@
+pub mod RowLaws
 pub mod StackLaws
+pub mod StepLaws
 pub mod ParseLaws
-pub mod TableLaws
+pub mod AroundLaws
 pub mod CodeLaws
 pub mod BlindLaws

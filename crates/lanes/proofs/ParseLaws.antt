@@ -2,7 +2,7 @@
 use mathlib.Core.Path.{_≡_, refl, sym, ap, _∙_}
 use mathlib.Core.Bool.{Bool, true, false, cond, not, _&&_, _||_}
 use mathlib.Core.List.{List, [], _∷_}
-use Prim.Native.Nat.{ℕ, zero, suc, _+_, _-_, _≤_, _<_}
+use Prim.Native.Nat.{ℕ, zero, suc, _+_, _-_, _*_, _%_, _≤_, _<_}
 use native.Mathlib.Numerals.{add-one}
 use native.Mathlib.Omega.{arith}
 use lib.Dec.{leb, ltb, eqb}
@@ -21,13 +21,14 @@ use Rattle.refusal.specs.declared.Refusal.{Refusal}
 use Rattle.refusal.specs.declared.Refusal.the-variants.{Byte, Values}
 use Rattle.lola.specs.Value.{Look, value}
 use Rattle.lanes.specs.Machine.{negTop, andTop, orTop, stepped}
-use Rattle.lanes.specs.Table.{slot, envAt, tableLook, lane, Stepped}
-use Rattle.lanes.proofs.StackLaws.{byte-read, byte-and, byte-or, byte-not, byte-false, byte-true}
+use Rattle.words.proofs.BitLaws.{bit-none}
+use Rattle.lanes.specs.Around.{slot, readAt, laneLook, below, laneStack, Stepped, RowStepped}
+use Rattle.lanes.proofs.StackLaws.{byte-read, byte-const, byte-not, byte-and, byte-or}
 
--- the values of a stack of trees
-unfoldable pub values : Look → List Expr → List Bool
-values look [] = []
-values look (x ∷ st) = value look x ∷ values look st
+-- the values of a stack of trees, which lie on r
+unfoldable pub values : Look → List Bool → List Expr → List Bool
+values look r [] = r
+values look r (x ∷ st) = value look x ∷ values look r st
 
 -- the reads of an environment of read bytes
 abbrev reads : (ℕ → Bool) → Look
@@ -58,17 +59,23 @@ family env lo hi k b o d f e h w s =
     let r = and-split (leb lo b) (leb b hi) w in
     let l : lo ≤ b = leb-true lo b (r .0) in
     let u : b ≤ hi = leb-true b hi (r .1) in
-    let z : k + (b - lo) ≡ b - 64 = omega arith in
-    ap (λ (j : ℕ). env j ∷ s) (f (b - lo) ∙ z) ∙ byte-read env b s (omega arith) (omega arith)
+    let z : k + (b - lo) ≡ b % 64 = omega arith in
+    ap (λ (j : ℕ). env j ∷ s) (f (b - lo) ∙ z) ∙ byte-read env b s (omega arith)
+
+const-is : (env : ℕ → Bool) (b : ℕ) (s : List Bool) (k : ℕ) (v : Bool) → b ≡ k → k < 2 → eqb k 1 ≡ v → v ∷ s ≡ stepped env b s
+const-is env b s k v e l f = ap (λ (u : Bool). u ∷ s) (sym (ap (λ (j : ℕ). eqb j 1) e ∙ f)) ∙ byte-const env b s (omega arith)
+
+or-is : (env : ℕ → Bool) (b : ℕ) (s : List Bool) → b ≡ 4 → orTop s ≡ stepped env b s
+or-is env b s e = byte-or env b s (omega arith) (λ q. omega arith) (λ q. omega arith) (omega arith)
 
 pub op-means : (env : ℕ → Bool) (b : ℕ) → Means env b (opOf b)
 unfolding opOf readsOf slot
 op-means env b =
-    pick env b (eqb b 0) _ _ (λ e s. byte-false env b s (eqb-true b 0 e))
-    (pick env b (eqb b 1) _ _ (λ e s. byte-true env b s (eqb-true b 1 e))
+    pick env b (eqb b 0) _ _ (λ e s. const-is env b s 0 false (eqb-true b 0 e) (omega arith) refl)
+    (pick env b (eqb b 1) _ _ (λ e s. const-is env b s 1 true (eqb-true b 1 e) (omega arith) refl)
     (pick env b (eqb b 2) _ _ (λ e s. byte-not env b s (eqb-true b 2 e))
     (pick env b (eqb b 3) _ _ (λ e s. byte-and env b s (eqb-true b 3 e))
-    (pick env b (eqb b 4) _ _ (λ e s. byte-or env b s (eqb-true b 4 e))
+    (pick env b (eqb b 4) _ _ (λ e s. or-is env b s (eqb-true b 4 e))
     (pick env b (within 0x40 0x47 b) _ _ (family env 0x40 0x47 0 b Now false (λ q. omega arith) refl (omega arith))
     (pick env b (within 0x50 0x57 b) _ _ (family env 0x50 0x57 16 b Earlier false (λ q. refl) refl (omega arith))
     (pick env b (within 0x58 0x5F b) _ _ (family env 0x58 0x5F 24 b Earlier true (λ q. refl) refl (omega arith))
@@ -78,18 +85,18 @@ op-means env b =
 
 -- ---- one byte
 
--- the rest of the bytes, from a stack of trees with the values vs
-pub record Stacked (look : Look) (s : ℕ) (x : Expr) (rest : List ℕ) (vs : List Bool) : Type 0 where
+-- the rest of the bytes, from a stack of trees with the values vs, which lie on r
+pub record Stacked (look : Look) (r : List Bool) (s : ℕ) (x : Expr) (rest : List ℕ) (vs : List Bool) : Type 0 where
   pub trees : List Expr
   pub left : parse s trees rest ≡ tree x
-  pub same : vs ≡ values look trees
+  pub same : vs ≡ values look r trees
 
 wrong : (r : Refusal) (x : Expr) → broken r ≡ tree x → ⊥
 wrong r x h = let y : _≡_ {A = ℕ} 0 1 = cc in omega arith
 
-module _ (env : ℕ → Bool) (s : ℕ) (x : Expr) (b : ℕ) (bs : List ℕ) (vs : List Bool) where
-  by-op : (op : Op) → Means env b op → (st : List Expr) → vs ≡ values (reads env) st → go-on (applyOp s op st) (λ st′. parse s st′ bs) ≡ tree x
-      → Stacked (reads env) s x bs (stepped env b vs)
+module _ (env : ℕ → Bool) (r : List Bool) (s : ℕ) (x : Expr) (b : ℕ) (bs : List ℕ) (vs : List Bool) where
+  by-op : (op : Op) → Means env b op → (st : List Expr) → vs ≡ values (reads env) r st → go-on (applyOp s op st) (λ st′. parse s st′ bs) ≡ tree x
+      → Stacked (reads env) r s x bs (stepped env b vs)
   unfolding applyOp values value negTop andTop orTop
   by-op (Const v) m st e h = record { trees = constant v ∷ st; left = h; same = sym (m vs) ∙ ap (λ (z : List Bool). v ∷ z) e }
   by-op Not m [] e h = absurd (wrong Values x h)
@@ -102,65 +109,97 @@ module _ (env : ℕ → Bool) (s : ℕ) (x : Expr) (b : ℕ) (bs : List ℕ) (vs
   by-op Or m (y ∷ (z ∷ st)) e h = record { trees = disjunction z y ∷ st; left = h; same = sym (m vs) ∙ ap orTop e }
   by-op (Read q o d) m st e h = go (ltb (q .0) s) h
     where
-      go : (u : Bool) → go-on (cond u (stack (read (q .0) o d ∷ st)) (breaks Byte)) (λ st′. parse s st′ bs) ≡ tree x → Stacked (reads env) s x bs (stepped env b vs)
+      go : (u : Bool) → go-on (cond u (stack (read (q .0) o d ∷ st)) (breaks Byte)) (λ st′. parse s st′ bs) ≡ tree x
+          → Stacked (reads env) r s x bs (stepped env b vs)
       go true k = record { trees = read (q .0) o d ∷ st; left = k; same = sym (m vs) ∙ ap (λ (z : List Bool). env (slot (q .0) o d) ∷ z) e }
       go false k = absurd (wrong Byte x k)
   by-op (Rejected f) m st e h = absurd (wrong f x h)
 
-  next : Stacked (reads env) s x (b ∷ bs) vs → Stacked (reads env) s x bs (stepped env b vs)
+  next : Stacked (reads env) r s x (b ∷ bs) vs → Stacked (reads env) r s x bs (stepped env b vs)
   unfolding parse
   next k = by-op (opOf b) (op-means env b) (k .trees) (k .same) (k .left)
 
--- ---- the whole expression
-
--- k bytes are done, with sp words on the stack
-pub record Done (t e st : List ℕ) (sp k : ℕ) : Type 0 where
-  pub inside : k ≤ length e
-  pub room : sp ≤ k
-  pub follows : (s : ℕ) (x : Expr) → parse s [] e ≡ tree x → (i : ℕ) → i < 64 → Stacked (tableLook t i) s x (drop k e) (lane i st sp)
-
-pub none-done : (t e st : List ℕ) → Done t e st 0 0
-unfolding values lane
-none-done t e st =
-    record { inside = omega arith; room = omega arith; follows = λ s x h i l. record { trees = []; left = h; same = refl } }
-
-pub one-done : (t e st : List ℕ) (sp k : ℕ) (st′ : List ℕ) (r : ℕ) → k < length e → Done t e st sp k → Stepped st sp t (getD e k 0) st′ r → Done t e st′ r (k + 1)
-one-done t e st sp k st′ r h d w =
-    record {
-      inside = omega arith;
-      room = omega (arith, w .room, d .room);
-      follows = λ s x p i l.
-          let f : Stacked (tableLook t i) s x (getD e k 0 ∷ drop (suc k) e) (lane i st sp) = rw (drop-cons e k 0 h) at (d .follows s x p i l) in
-          rw (add-one k, w .lanes i l) (next (envAt t i) s x (getD e k 0) (drop (suc k) e) (lane i st sp) f);
-    }
-
-last : (look : Look) (s : ℕ) (x : Expr) (vs : List Bool) → Stacked look s x [] vs → vs ≡ value look x ∷ []
+last : (look : Look) (r : List Bool) (s : ℕ) (x : Expr) (vs : List Bool) → Stacked look r s x [] vs → vs ≡ value look x ∷ r
 unfolding parse final values
-last look s x vs k = go (k .trees) (k .left) (k .same)
+last look r s x vs k = go (k .trees) (k .left) (k .same)
   where
-    go : (st : List Expr) → final st ≡ tree x → vs ≡ values look st → vs ≡ value look x ∷ []
+    go : (st : List Expr) → final st ≡ tree x → vs ≡ values look r st → vs ≡ value look x ∷ r
     go [] h e = absurd (wrong Values x h)
-    go (y ∷ []) h e = let z : y ≡ x = cc in e ∙ ap (λ (w : Expr). value look w ∷ []) z
+    go (y ∷ []) h e = let z : y ≡ x = cc in e ∙ ap (λ (w : Expr). value look w ∷ r) z
     go (y ∷ (z ∷ st)) h e = absurd (wrong Values x h)
 
-abbrev head : List Bool → Bool
-head [] = false
-head (v ∷ vs) = v
+-- ---- the whole expression, in one lane
 
-lane-top : (i : ℕ) (st : List ℕ) (sp : ℕ) → (sp ≡ 0 → ⊥) → bit i (getD st (sp - 1) 0) ≡ head (lane i st sp)
-unfolding lane
-lane-top i st zero h = absurd (h refl)
-lane-top i st (suc n) h = let e : suc n - 1 ≡ n = omega arith in ap (λ (m : ℕ). bit i (getD st m 0)) e
+-- k bytes of e are done, on a stack that lies on r
+abbrev pub LaneDone : (ℕ → Bool) → List Bool → List ℕ → ℕ → List Bool → Type 0
+LaneDone env r e k vs = (s : ℕ) (x : Expr) → parse s [] e ≡ tree x → Stacked (reads env) r s x (drop k e) vs
 
-module _ (t e st : List ℕ) (sp k : ℕ) (d : Done t e st sp k) (l : length e ≤ k) (s : ℕ) (x : Expr) (p : parse s [] e ≡ tree x) (i : ℕ) (h : i < 64) where
-  all-done : lane i st sp ≡ value (tableLook t i) x ∷ []
-  all-done = last (tableLook t i) s x (lane i st sp) (rw (drop-of-length-le e l) at (d .follows s x p i h))
+lane-more : (env : ℕ → Bool) (r : List Bool) (e : List ℕ) (k : ℕ) (vs vs′ : List Bool) → k < length e → LaneDone env r e k vs
+    → vs′ ≡ stepped env (getD e k 0) vs → LaneDone env r e (k + 1) vs′
+lane-more env r e k vs vs′ h d w s x p =
+    let f : Stacked (reads env) r s x (getD e k 0 ∷ drop (suc k) e) vs = rw (drop-cons e k 0 h) at (d s x p) in
+    rw (add-one k, w) (next env r s x (getD e k 0) (drop (suc k) e) vs f)
 
-  -- the word on top has the value in each lane
-  pub done-top : (sp ≡ 0 → ⊥) → bit i (getD st (sp - 1) 0) ≡ value (tableLook t i) x
-  done-top n = lane-top i st sp n ∙ ap head all-done
+lane-all : (env : ℕ → Bool) (r : List Bool) (e : List ℕ) (k : ℕ) (v : Bool) (vs : List Bool) → length e ≤ k → LaneDone env r e k (v ∷ vs)
+    → (s : ℕ) (x : Expr) → parse s [] e ≡ tree x → v ≡ value (reads env) x
+lane-all env r e k v vs l d s x p = ap head (last (reads env) r s x (v ∷ vs) (rw (drop-of-length-le e l) at (d s x p)))
+  where
+    head : List Bool → Bool
+    head [] = false
+    head (u ∷ us) = u
 
-  -- there is one
-  pub done-none : (r : Bool) → sp ≡ 0 → r ≡ value (tableLook t i) x
-  unfolding lane
-  done-none r z = absurd (let y : [] ≡ value (tableLook t i) x ∷ [] = rw z at all-done in let w : _≡_ {A = ℕ} 0 1 = cc in omega arith)
+-- ---- in all lanes of a word
+
+pub record Done (env f : ℕ) (e st : List ℕ) (top used k : ℕ) : Type 0 where
+  pub inside : k ≤ length e
+  pub room : used ≤ k
+  pub follows : (i : ℕ) → i < 64 → LaneDone (readAt env f i) (false ∷ []) e k (laneStack (bit i top) (λ j. bit i (getD st j 0)) used)
+
+module _ (env f : ℕ) (e : List ℕ) where
+  pub none-done : (st : List ℕ) → Done env f e st 0 0 0
+  unfolding values below
+  none-done st = record {
+    inside = omega arith;
+    room = omega arith;
+    follows = λ i l s x h. record { trees = []; left = h; same = ap (λ (u : Bool). u ∷ []) (bit-none i) };
+  }
+
+  pub one-done : (st : List ℕ) (top used k : ℕ) (st′ : List ℕ) (top′ used′ : ℕ) → k < length e → Done env f e st top used k
+      → Stepped env f (getD e k 0) st top used st′ top′ used′ → Done env f e st′ top′ used′ (k + 1)
+  one-done st top used k st′ top′ used′ h d w = record {
+    inside = omega arith;
+    room = omega (arith, w .room, d .room);
+    follows = λ i l. lane-more (readAt env f i) (false ∷ []) e k _ _ h (d .follows i l) (w .lanes i l);
+  }
+
+  pub all-done : (st : List ℕ) (top used k : ℕ) → Done env f e st top used k → length e ≤ k → (s : ℕ) (x : Expr) → parse s [] e ≡ tree x → (i : ℕ) → i < 64
+      → bit i top ≡ value (laneLook env f i) x
+  all-done st top used k d l s x p i h =
+      lane-all (readAt env f i) (false ∷ []) e k (bit i top) (below (λ j. bit i (getD st j 0)) used) l (d .follows i h) s x p
+
+-- ---- in all lanes of four words, where the row r was there at first
+
+pub record RowDone (env f : ℕ) (e r st top : List ℕ) (used k : ℕ) : Type 0 where
+  pub inside : k ≤ length e
+  pub room : used ≤ k
+  pub follows : (j i : ℕ) → j < 4 → i < 64
+      → LaneDone (readAt env f (64 * j + i)) (bit i (getD r j 0) ∷ []) e k (laneStack (bit i (getD top j 0)) (λ n. bit i (getD st (4 * n + j) 0)) used)
+
+module _ (env f : ℕ) (e r : List ℕ) where
+  pub row-none-done : (st : List ℕ) → RowDone env f e r st r 0 0
+  unfolding values below
+  row-none-done st = record { inside = omega arith; room = omega arith; follows = λ j i g l s x h. record { trees = []; left = h; same = refl } }
+
+  pub row-one-done : (st top : List ℕ) (used k : ℕ) (st′ top′ : List ℕ) (used′ : ℕ) → k < length e → RowDone env f e r st top used k
+      → RowStepped env f (getD e k 0) st top used st′ top′ used′ → RowDone env f e r st′ top′ used′ (k + 1)
+  row-one-done st top used k st′ top′ used′ h d w = record {
+    inside = omega arith;
+    room = omega (arith, w .room, d .room);
+    follows = λ j i g l. lane-more (readAt env f (64 * j + i)) (bit i (getD r j 0) ∷ []) e k _ _ h (d .follows j i g l) (w .lanes j i g l);
+  }
+
+  pub row-all-done : (st top : List ℕ) (used k : ℕ) → RowDone env f e r st top used k → length e ≤ k → (s : ℕ) (x : Expr) → parse s [] e ≡ tree x
+      → (j i : ℕ) → j < 4 → i < 64 → bit i (getD top j 0) ≡ value (laneLook env f (64 * j + i)) x
+  row-all-done st top used k d l s x p j i g h =
+      lane-all (readAt env f (64 * j + i)) (bit i (getD r j 0) ∷ []) e k (bit i (getD top j 0)) (below (λ n. bit i (getD st (4 * n + j) 0)) used) l
+      (d .follows j i g h) s x p

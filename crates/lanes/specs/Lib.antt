@@ -1,3 +1,3 @@
 pub mod Machine
-pub mod Table
+pub mod Around
 pub mod Coded

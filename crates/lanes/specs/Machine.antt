@@ -1,9 +1,9 @@
 -- For the contracts of private functions: what an expression byte does to a stack of truth values. It is total: an operator that
--- lacks a value leaves the stack as it is, and so does an unknown byte. On an expression that parses, the stack follows the stack of
--- trees (proofs/ParseLaws.antt).
-use mathlib.Core.Bool.{Bool, true, false, not, _&&_, _||_, cond}
+-- lacks a value leaves the stack as it is, and a byte that is no operation counts as one. On an expression that parses, the stack
+-- follows the stack of trees (proofs/ParseLaws.antt).
+use mathlib.Core.Bool.{Bool, not, _&&_, _||_, cond}
 use mathlib.Core.List.{List, [], _∷_}
-use Prim.Native.Nat.{ℕ, _-_}
+use Prim.Native.Nat.{ℕ, _%_}
 use lib.Dec.{eqb, ltb}
 
 -- the top of a stack is its head
@@ -23,14 +23,8 @@ orTop (y ∷ (x ∷ s)) = (x || y) ∷ s
 
 -- the bytes below 0x40
 unfoldable pub basic : ℕ → List Bool → List Bool
-basic e s =
-    cond (eqb e 0) (false ∷ s)
-    (cond (eqb e 1) (true ∷ s)
-    (cond (eqb e 2) (negTop s)
-    (cond (eqb e 3) (andTop s)
-    (cond (eqb e 4) (orTop s)
-    s))))
+basic e s = cond (ltb e 2) (eqb e 1 ∷ s) (cond (eqb e 2) (negTop s) (cond (eqb e 3) (andTop s) (orTop s)))
 
 -- one byte, where env k is the value of the read byte 0x40 + k
 unfoldable pub stepped : (ℕ → Bool) → ℕ → List Bool → List Bool
-stepped env e s = cond (ltb e 64) (basic e s) (cond (ltb e 112) (env (e - 64) ∷ s) s)
+stepped env e s = cond (ltb e 64) (basic e s) (env (e % 64) ∷ s)

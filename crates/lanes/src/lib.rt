@@ -1,83 +1,219 @@
-// Expressions evaluated in 64 lanes at once: each read byte has a word of a table.
+// Expressions evaluated in 64 lanes at once, or in four words of 64. What the expressions read is one word, bit byte - 0x40 for the read byte;
+// the reads of one family, one round earlier or one round later, are of the lane's own valuation instead.
 ghost use mathlib.Core.Path.{_≡_};
-ghost use mathlib.Core.Bool.{Bool};
+ghost use mathlib.Core.Bool.{Bool, true, false, not, Bool·beq, _&&_};
 ghost use mathlib.Core.List.{List, []};
 ghost use mathlib.Core.Option.{Option, none, some};
-ghost use Prim.Native.Nat.{ℕ, _+_, _*_, _<_, _≤_};
-ghost use lib.Bits.{bitAnd};
+ghost use Prim.Native.Nat.{ℕ, _+_, _*_, _%_, _<_, _≤_};
+ghost use lib.Bits.{bitAnd, bitOr};
 ghost use lib.ListN.{length, getD};
 ghost use Rattle.words.specs.Bits.{bit};
 ghost use Rattle.sheet.specs.Expression.{Expr, parse, tree};
 ghost use Rattle.sheet.specs.Reading.{treesOf};
 ghost use Rattle.lola.specs.Value.{value};
+ghost use Rattle.lola.specs.Slots.{slots};
 ghost use Rattle.lola.specs.Reads.{hasRead};
 ghost use Rattle.lola.specs.Equations.{holds};
-ghost use Rattle.lanes.specs.Table.{tableLook, Stepped, Put, PutNear, Before, Seen, Ahead, unless, earlierByte};
+ghost use Rattle.lanes.specs.Around.{readAt, laneLook, Stepped, RowStepped, Four, Stored, Beside, Before, Seen, Ahead, unless, earlierByte};
 ghost use Rattle.lanes.specs.Coded.{Coded, sheetOf, agreed};
 use sheet::OutputNo;
 
-// ---- The evaluator
+// The families of reads that may be of the lane's valuation.
+const EARLIER: u8 = 1;
 
-// One expression byte on the stack of words, of which sp are in use; returns how many then are.
-fn step(st: &mut [u64], sp: usize, t: &[u64], e: u8) -> usize
-    requires { ⌜ (sp < length (now st)) × (length (now t) ≡ 48) ⌝ }
-    ensures { λ r. ⌜ Stepped (now (st .entry)) sp (now (t .entry)) e (now (st .exit)) r ⌝ }
+const LATER: u8 = 2;
+
+// ---- One word
+
+// The value of the read byte e in the lanes of the valuations from 64 * j on.
+fn read_word(env: u64, f: u8, j: usize, e: u8) -> u64
+    requires { ⌜ j < 4 ⌝ }
+    ensures { λ r. ⌜ ((i : ℕ) → i < 64 → bit i r ≡ readAt env f (64 * j + i) (e % 64)) ⌝ }
 {
-    if e >= 0x40 {
-        if e < 0x70 {
-            st[sp] = t[(e - 0x40) as usize];
-            return sp + 1;
-        }
-        return sp;
+    let k = e % 64;
+    if k / 16 == f {
+        return words::stream_word((k % 8) as usize, j);
     }
-    if e == 3 {
-        if sp < 2 {
-            return sp;
-        }
-        st[sp - 2] = st[sp - 2] & st[sp - 1];
-        return sp - 1;
-    }
-    if e == 4 {
-        if sp < 2 {
-            return sp;
-        }
-        st[sp - 2] = st[sp - 2] | st[sp - 1];
-        return sp - 1;
+    words::spread((env >> k) % 2 == 1)
+}
+
+// A stack of words: its top, and how many lie below it.
+struct WordStack {
+    top: u64,
+    used: usize,
+}
+
+// One expression byte; what lies below the top is in st.
+fn word_step(st: &mut [u64], s: WordStack, env: u64, f: u8, e: u8) -> WordStack
+    requires { ⌜ s .used < length (now st) ⌝ }
+    ensures { λ r. ⌜ Stepped env f e (now (st .entry)) (s .top) (s .used) (now (st .exit)) (r .top) (r .used) ⌝ }
+{
+    let top = s.top;
+    let used = s.used;
+    if 0x40 <= e {
+        st[used] = top;
+        return WordStack {
+            top: read_word(env, f, 0, e),
+            used: used + 1,
+        };
     }
     if e == 2 {
-        if sp < 1 {
-            return sp;
-        }
-        st[sp - 1] = !st[sp - 1];
-        return sp;
+        return WordStack {
+            top: !top,
+            used: used,
+        };
     }
-    if e == 0 {
-        st[sp] = 0;
-        return sp + 1;
+    if e < 2 {
+        st[used] = top;
+        return WordStack {
+            top: words::spread(e == 1),
+            used: used + 1,
+        };
     }
-    if e == 1 {
-        st[sp] = 0xffff_ffff_ffff_ffff;
-        return sp + 1;
+    if used == 0 {
+        return s;
     }
-    sp
+    let below = st[used - 1];
+    if e == 3 {
+        return WordStack {
+            top: below & top,
+            used: used - 1,
+        };
+    }
+    WordStack {
+        top: below | top,
+        used: used - 1,
+    }
 }
 
 // The value of an expression in each lane; st is room to work in.
-pub fn value_word(st: &mut [u64], t: &[u64], expr: &[u8]) -> u64
-    requires { ⌜ (length (now expr) ≤ 64) × (length (now st) ≡ 64) × (length (now t) ≡ 48) ⌝ }
-    ensures { λ r. ⌜ ((s : ℕ) (x : Expr) → parse s [] (now (expr .entry)) ≡ tree x → (i : ℕ) → i < 64 → bit i r ≡ value (tableLook (now (t .entry)) i) x) ⌝ }
+fn value_word(st: &mut [u64], env: u64, f: u8, expr: &[u8]) -> u64
+    requires { ⌜ (length (now expr) ≤ 64) × (64 ≤ length (now st)) ⌝ }
+    ensures { λ r. ⌜ ((s : ℕ) (x : Expr) → parse s [] (now (expr .entry)) ≡ tree x → (i : ℕ) → i < 64 → bit i r ≡ value (laneLook env f i) x) ⌝ }
 {
-    let mut sp: usize = 0;
+    let mut s = WordStack { top: 0, used: 0 };
     let mut k: usize = 0;
     while k < expr.len() {
-        sp = step(st, sp, t, expr[k]);
+        s = word_step(st, s, env, f, expr[k]);
         k += 1;
     }
-    if sp == 0 {
+    s.top
+}
+
+// ---- Four words
+
+fn fill_row(row: &mut [u64], x: u64)
+    requires { ⌜ length (now row) ≡ 4 ⌝ }
+    ensures { λ r. ⌜ Four (λ j. x) (now (row .entry)) (now (row .exit)) ⌝ }
+{
+    let mut j: usize = 0;
+    while j < 4 {
+        row[j] = x;
+        j += 1;
+    }
+}
+
+fn not_row(row: &mut [u64])
+    requires { ⌜ length (now row) ≡ 4 ⌝ }
+    ensures { λ r. ⌜ (length (now (row .exit)) ≡ 4) × ((j i : ℕ) → j < 4 → i < 64 → bit i (getD (now (row .exit)) j 0) ≡ not (bit i (getD (now (row .entry)) j 0))) ⌝ }
+{
+    let mut j: usize = 0;
+    while j < 4 {
+        row[j] = !row[j];
+        j += 1;
+    }
+}
+
+// Row k of the stack and the row, or either of them.
+fn and_row(row: &mut [u64], st: &[u64], k: usize)
+    requires { ⌜ (length (now row) ≡ 4) × (4 * k + 4 ≤ length (now st)) ⌝ }
+    ensures { λ r. ⌜ Four (λ j. bitAnd (getD (now (st .entry)) (4 * k + j) 0) (getD (now (row .entry)) j 0)) (now (row .entry)) (now (row .exit)) ⌝ }
+{
+    let mut j: usize = 0;
+    while j < 4 {
+        row[j] = st[4 * k + j] & row[j];
+        j += 1;
+    }
+}
+
+fn or_row(row: &mut [u64], st: &[u64], k: usize)
+    requires { ⌜ (length (now row) ≡ 4) × (4 * k + 4 ≤ length (now st)) ⌝ }
+    ensures { λ r. ⌜ Four (λ j. bitOr (getD (now (st .entry)) (4 * k + j) 0) (getD (now (row .entry)) j 0)) (now (row .entry)) (now (row .exit)) ⌝ }
+{
+    let mut j: usize = 0;
+    while j < 4 {
+        row[j] = st[4 * k + j] | row[j];
+        j += 1;
+    }
+}
+
+// Puts the row into the stack as row k.
+fn store_row(st: &mut [u64], k: usize, row: &[u64])
+    requires { ⌜ (length (now row) ≡ 4) × (4 * k + 4 ≤ length (now st)) ⌝ }
+    ensures { λ r. ⌜ Stored k (now (row .entry)) (now (st .entry)) (now (st .exit)) ⌝ }
+{
+    let mut j: usize = 0;
+    while j < 4 {
+        st[4 * k + j] = row[j];
+        j += 1;
+    }
+}
+
+fn read_row(row: &mut [u64], env: u64, f: u8, e: u8)
+    requires { ⌜ length (now row) ≡ 4 ⌝ }
+    ensures { λ r. ⌜ (length (now (row .exit)) ≡ 4) × ((j i : ℕ) → j < 4 → i < 64 → bit i (getD (now (row .exit)) j 0) ≡ readAt env f (64 * j + i) (e % 64)) ⌝ }
+{
+    let mut j: usize = 0;
+    while j < 4 {
+        row[j] = read_word(env, f, j, e);
+        j += 1;
+    }
+}
+
+// One expression byte on a stack of rows: the top is in `top`, what lies below it, `used` rows, in st. Returns how many then do.
+fn row_step(st: &mut [u64], top: &mut [u64], used: usize, env: u64, f: u8, e: u8) -> usize
+    requires { ⌜ (length (now top) ≡ 4) × (4 * used + 4 ≤ length (now st)) ⌝ }
+    ensures { λ r. ⌜ RowStepped env f e (now (st .entry)) (now (top .entry)) used (now (st .exit)) (now (top .exit)) r ⌝ }
+{
+    if 0x40 <= e {
+        store_row(st, used, top);
+        read_row(top, env, f, e);
+        return used + 1;
+    }
+    if e == 2 {
+        not_row(top);
+        return used;
+    }
+    if e < 2 {
+        store_row(st, used, top);
+        fill_row(top, words::spread(e == 1));
+        return used + 1;
+    }
+    if used == 0 {
         return 0;
     }
-    st[sp - 1]
+    if e == 3 {
+        and_row(top, st, used - 1);
+        return used - 1;
+    }
+    or_row(top, st, used - 1);
+    used - 1
 }
+
+// The value of an expression in each lane, left in `top`; st is room to work in.
+fn value_row(st: &mut [u64], top: &mut [u64], env: u64, f: u8, expr: &[u8])
+    requires { ⌜ (length (now expr) ≤ 64) × (256 ≤ length (now st)) × (length (now top) ≡ 4) ⌝ }
+    ensures { λ r. ⌜ ((s : ℕ) (x : Expr) → parse s [] (now (expr .entry)) ≡ tree x → (j i : ℕ) → j < 4 → i < 64 → bit i (getD (now (top .exit)) j 0) ≡ value (laneLook env f (64 * j + i)) x) ⌝ }
+{
+    let mut used: usize = 0;
+    let mut k: usize = 0;
+    while k < expr.len() {
+        used = row_step(st, top, used, env, f, expr[k]);
+        k += 1;
+    }
+}
+
+// ---- The equations
 
 // The number of output k's stream, in a sheet of m inputs.
 pub fn output_stream(m: usize, k: usize) -> usize
@@ -98,9 +234,10 @@ fn output_value(b: usize, m: usize, k: usize) -> bool
 }
 
 // The lanes in which the n outputs, streams m on of b, have the values of their expressions.
-pub fn equations_word(
+fn equations_word(
     st: &mut [u64],
-    t: &[u64],
+    env: u64,
+    f: u8,
     code: &[u8],
     len: &[usize],
     m: usize,
@@ -108,15 +245,15 @@ pub fn equations_word(
     b: usize,
 ) -> u64
     requires { ⌜ Coded m n (now code) (now len) ⌝ }
-    requires { ⌜ (length (now st) ≡ 64) × (length (now t) ≡ 48) ⌝ }
-    ensures { λ r. ⌜ ((i : ℕ) → i < 64 → bit i r ≡ agreed (tableLook (now (t .entry)) i) (treesOf (m + n) (now (code .entry)) (now (len .entry)) n) m b) ⌝ }
+    requires { ⌜ 64 ≤ length (now st) ⌝ }
+    ensures { λ r. ⌜ ((i : ℕ) → i < 64 → bit i r ≡ agreed (laneLook env f i) (treesOf (m + n) (now (code .entry)) (now (len .entry)) n) m b) ⌝ }
 {
     let mut acc: u64 = 0xffff_ffff_ffff_ffff;
     let mut k: usize = 0;
     while k < n {
         let from = 64 * k;
         let to = from + len[k];
-        let x = value_word(st, t, &code[from..to]);
+        let x = value_word(st, env, f, &code[from..to]);
         acc = acc & words::agree(x, output_value(b, m, k));
         if acc == 0 {
             return 0;
@@ -126,138 +263,191 @@ pub fn equations_word(
     acc
 }
 
-// ---- The table
-
-// Eight words of the table, from base on: the streams of v, alike in all lanes.
-fn put_valuation(t: &mut [u64], base: usize, v: usize)
-    requires { ⌜ (base ≤ 40) × (length (now t) ≡ 48) ⌝ }
-    ensures { λ r. ⌜ Put base (λ q i. bit q v) (now (t .entry)) (now (t .exit)) ⌝ }
+// The lanes of acc in which x is v.
+fn keep_row(acc: &mut [u64], x: &[u64], v: bool)
+    requires { ⌜ (length (now acc) ≡ 4) × (length (now x) ≡ 4) ⌝ }
+    ensures { λ r. ⌜ (length (now (acc .exit)) ≡ 4) × ((j i : ℕ) → j < 4 → i < 64 → bit i (getD (now (acc .exit)) j 0) ≡ (bit i (getD (now (acc .entry)) j 0) && Bool·beq (bit i (getD (now (x .entry)) j 0)) v)) ⌝ }
 {
-    let mut q: usize = 0;
-    while q < 8 {
-        t[base + q] = words::spread((v >> q) % 2 == 1);
-        q += 1;
+    let mut j: usize = 0;
+    while j < 4 {
+        acc[j] = acc[j] & words::agree(x[j], v);
+        j += 1;
     }
 }
 
-// Eight words of the table, from base on: the streams of 64 * j + i in lane i.
-fn put_lanes(t: &mut [u64], base: usize, j: usize)
-    requires { ⌜ (base ≤ 40) × (j < 4) × (length (now t) ≡ 48) ⌝ }
-    ensures { λ r. ⌜ Put base (λ q i. bit q (64 * j + i)) (now (t .entry)) (now (t .exit)) ⌝ }
+fn is_empty(row: &[u64]) -> bool
+    requires { ⌜ length (now row) ≡ 4 ⌝ }
+    ensures { λ r. ⌜ (r ≡ true → (j i : ℕ) → j < 4 → bit i (getD (now (row .entry)) j 0) ≡ false) ⌝ }
 {
-    let mut q: usize = 0;
-    while q < 8 {
-        t[base + q] = words::stream_word(q, j);
-        q += 1;
-    }
+    row[0] | row[1] | row[2] | row[3] == 0
 }
 
-// Sixteen words: the streams of v in all lanes, or the defaults where there is no such round.
-fn put_near(t: &mut [u64], base: usize, absent: bool, v: usize)
-    requires { ⌜ (base ≤ 32) × (length (now t) ≡ 48) ⌝ }
-    ensures { λ r. ⌜ PutNear base (λ i. unless absent v) (now (t .entry)) (now (t .exit)) ⌝ }
-{
-    if absent {
-        put_valuation(t, base, 0);
-        put_valuation(t, base + 8, 255);
-    } else {
-        put_valuation(t, base, v);
-        put_valuation(t, base + 8, v);
-    }
-}
-
-// Sixteen words: the streams of 64 * j + i in lane i.
-fn put_near_lanes(t: &mut [u64], base: usize, j: usize)
-    requires { ⌜ (base ≤ 32) × (j < 4) × (length (now t) ≡ 48) ⌝ }
-    ensures { λ r. ⌜ PutNear base (λ i. some (64 * j + i)) (now (t .entry)) (now (t .exit)) ⌝ }
-{
-    put_lanes(t, base, j);
-    put_lanes(t, base + 8, j);
-}
-
-// ---- The rounds after a round
-
-// Prepares the table for rounds after a, or, where first, after nothing.
-pub fn see_before(t: &mut [u64], first: bool, a: usize)
-    requires { ⌜ length (now t) ≡ 48 ⌝ }
-    ensures { λ r. ⌜ Before (now (t .exit)) (unless first a) ⌝ }
-{
-    put_near(t, 16, first, a);
-}
-
-// Prepares it for the round b after that.
-pub fn see(t: &mut [u64], b: usize)
-    requires { ⌜ length (now t) ≡ 48 ⌝ }
-    ensures { λ r. ⌜ ((p : Option ℕ) → Before (now (t .entry)) p → Seen (now (t .exit)) p b) ⌝ }
-{
-    put_valuation(t, 0, b);
-}
-
-// The lanes i in which the equations hold at b before 64 * j + i.
-pub fn successors_word(
-    t: &mut [u64],
+// The same in four words, left in acc.
+fn equations_row(
+    acc: &mut [u64],
     st: &mut [u64],
+    env: u64,
+    f: u8,
     code: &[u8],
     len: &[usize],
     m: usize,
     n: usize,
     b: usize,
-    j: usize,
+)
+    requires { ⌜ Coded m n (now code) (now len) ⌝ }
+    requires { ⌜ (length (now acc) ≡ 4) × (256 ≤ length (now st)) ⌝ }
+    ensures { λ r. ⌜ (length (now (acc .exit)) ≡ 4) × ((j i : ℕ) → j < 4 → i < 64 → bit i (getD (now (acc .exit)) j 0) ≡ agreed (laneLook env f (64 * j + i)) (treesOf (m + n) (now (code .entry)) (now (len .entry)) n) m b) ⌝ }
+{
+    let mut x = [0u64; 4];
+    fill_row(acc, 0xffff_ffff_ffff_ffff);
+    let mut k: usize = 0;
+    while k < n {
+        let from = 64 * k;
+        let to = from + len[k];
+        value_row(st, &mut x, env, f, &code[from..to]);
+        keep_row(acc, &x, output_value(b, m, k));
+        if is_empty(acc) {
+            return;
+        }
+        k += 1;
+    }
+}
+
+// Whether they have, where all reads are those of the word.
+fn equations_bit(env: u64, code: &[u8], len: &[usize], m: usize, n: usize, b: usize) -> bool
+    requires { ⌜ Coded m n (now code) (now len) ⌝ }
+    ensures { λ r. ⌜ r ≡ agreed (slots env) (treesOf (m + n) (now (code .entry)) (now (len .entry)) n) m b ⌝ }
+{
+    let mut k: usize = 0;
+    while k < n {
+        let from = 64 * k;
+        let to = from + len[k];
+        let x = lola::value_bit(env, &code[from..to]);
+        if x != output_value(b, m, k) {
+            return false;
+        }
+        k += 1;
+    }
+    true
+}
+
+// ---- The reads of a round
+
+// The streams of a neighbouring round, twice, or the defaults where there is no such round.
+fn beside(absent: bool, v: usize) -> u64
+    requires { ⌜ v < 256 ⌝ }
+    ensures { λ r. ⌜ Beside r (unless absent v) ⌝ }
+{
+    if absent {
+        return 0xff00;
+    }
+    let x = v as u64;
+    x + 256 * x
+}
+
+// What is read one round earlier: a, or, where first, nothing.
+pub fn before(first: bool, a: usize) -> u64
+    requires { ⌜ a < 256 ⌝ }
+    ensures { λ r. ⌜ Before r (unless first a) ⌝ }
+{
+    65536 * beside(first, a)
+}
+
+// With that, what is read in the round b after it.
+pub fn seen(before: u64, b: usize) -> u64
+    requires { ⌜ (b < 256) × (before < 4294967296) ⌝ }
+    ensures { λ r. ⌜ ((p : Option ℕ) → Before before p → Seen r p b) ⌝ }
+{
+    before + b as u64
+}
+
+// What is read in the round b before c, or, where last, before nothing.
+pub fn ahead(b: usize, last: bool, c: usize) -> u64
+    requires { ⌜ (b < 256) × (c < 256) ⌝ }
+    ensures { λ r. ⌜ Ahead r b (unless last c) ⌝ }
+{
+    b as u64 + 4294967296 * beside(last, c)
+}
+
+// ---- The equations of a round and its neighbours
+
+// The lanes i in which the equations hold at b before i.
+pub fn successors_word(
+    st: &mut [u64],
+    code: &[u8],
+    len: &[usize],
+    m: usize,
+    n: usize,
+    env: u64,
+    b: usize,
 ) -> u64
     requires { ⌜ Coded m n (now code) (now len) ⌝ }
-    requires { ⌜ (length (now st) ≡ 64) × (length (now t) ≡ 48) × (j < 4) ⌝ }
-    ensures { λ r. ⌜ ((p : Option ℕ) → Seen (now (t .entry)) p b → Seen (now (t .exit)) p b × ((ks : List ℕ) (i : ℕ) → i < 64 → bit i r ≡ holds (sheetOf m n (now (code .entry)) (now (len .entry)) ks) p b (some (64 * j + i)))) ⌝ }
+    requires { ⌜ 64 ≤ length (now st) ⌝ }
+    ensures { λ r. ⌜ ((p : Option ℕ) → Seen env p b → (ks : List ℕ) (i : ℕ) → i < 64 → bit i r ≡ holds (sheetOf m n (now (code .entry)) (now (len .entry)) ks) p b (some i)) ⌝ }
 {
-    put_near_lanes(t, 32, j);
-    equations_word(st, t, code, len, m, n, b)
+    equations_word(st, env, LATER, code, len, m, n, b)
+}
+
+// The lanes i of word j in which the equations hold at b before 64 * j + i.
+pub fn successors_row(
+    row: &mut [u64],
+    st: &mut [u64],
+    code: &[u8],
+    len: &[usize],
+    m: usize,
+    n: usize,
+    env: u64,
+    b: usize,
+)
+    requires { ⌜ Coded m n (now code) (now len) ⌝ }
+    requires { ⌜ (length (now row) ≡ 4) × (256 ≤ length (now st)) ⌝ }
+    ensures { λ r. ⌜ ((p : Option ℕ) → Seen env p b → (ks : List ℕ) (j i : ℕ) → j < 4 → i < 64 → bit i (getD (now (row .exit)) j 0) ≡ holds (sheetOf m n (now (code .entry)) (now (len .entry)) ks) p b (some (64 * j + i))) ⌝ }
+{
+    equations_row(row, st, env, LATER, code, len, m, n, b);
 }
 
 // Whether the equations hold at b with nothing after it.
-pub fn holds_at_end(
-    t: &mut [u64],
-    st: &mut [u64],
-    code: &[u8],
-    len: &[usize],
-    m: usize,
-    n: usize,
-    b: usize,
-) -> bool
+pub fn holds_at_end(code: &[u8], len: &[usize], m: usize, n: usize, env: u64, b: usize) -> bool
     requires { ⌜ Coded m n (now code) (now len) ⌝ }
-    requires { ⌜ (length (now st) ≡ 64) × (length (now t) ≡ 48) ⌝ }
-    ensures { λ r. ⌜ ((p : Option ℕ) → Seen (now (t .entry)) p b → Seen (now (t .exit)) p b × ((ks : List ℕ) → r ≡ holds (sheetOf m n (now (code .entry)) (now (len .entry)) ks) p b none)) ⌝ }
+    requires { ⌜ env < 4294967296 ⌝ }
+    ensures { λ r. ⌜ ((p : Option ℕ) → Seen env p b → (ks : List ℕ) → r ≡ holds (sheetOf m n (now (code .entry)) (now (len .entry)) ks) p b none) ⌝ }
 {
-    put_near(t, 32, true, 0);
-    equations_word(st, t, code, len, m, n, b) % 2 == 1
+    equations_bit(env + 0xff00_0000_0000, code, len, m, n, b)
 }
 
-// ---- The rounds before a round
-
-// Prepares the table for the round b before c, or, where last, before nothing.
-pub fn look_ahead(t: &mut [u64], last: bool, b: usize, c: usize)
-    requires { ⌜ length (now t) ≡ 48 ⌝ }
-    ensures { λ r. ⌜ Ahead (now (t .exit)) b (unless last c) ⌝ }
-{
-    put_valuation(t, 0, b);
-    put_near(t, 32, last, c);
-}
-
-// The lanes i in which the equations hold at b after 64 * j + i.
+// The lanes i in which the equations hold at b after i.
 pub fn predecessors_word(
-    t: &mut [u64],
     st: &mut [u64],
     code: &[u8],
     len: &[usize],
     m: usize,
     n: usize,
+    env: u64,
     b: usize,
-    j: usize,
 ) -> u64
     requires { ⌜ Coded m n (now code) (now len) ⌝ }
-    requires { ⌜ (length (now st) ≡ 64) × (length (now t) ≡ 48) × (j < 4) ⌝ }
-    ensures { λ r. ⌜ ((c : Option ℕ) → Ahead (now (t .entry)) b c → Ahead (now (t .exit)) b c × ((ks : List ℕ) (i : ℕ) → i < 64 → bit i r ≡ holds (sheetOf m n (now (code .entry)) (now (len .entry)) ks) (some (64 * j + i)) b c)) ⌝ }
+    requires { ⌜ 64 ≤ length (now st) ⌝ }
+    ensures { λ r. ⌜ ((c : Option ℕ) → Ahead env b c → (ks : List ℕ) (i : ℕ) → i < 64 → bit i r ≡ holds (sheetOf m n (now (code .entry)) (now (len .entry)) ks) (some i) b c) ⌝ }
 {
-    put_near_lanes(t, 16, j);
-    equations_word(st, t, code, len, m, n, b)
+    equations_word(st, env, EARLIER, code, len, m, n, b)
+}
+
+// The lanes i of word j in which the equations hold at b after 64 * j + i.
+pub fn predecessors_row(
+    row: &mut [u64],
+    st: &mut [u64],
+    code: &[u8],
+    len: &[usize],
+    m: usize,
+    n: usize,
+    env: u64,
+    b: usize,
+)
+    requires { ⌜ Coded m n (now code) (now len) ⌝ }
+    requires { ⌜ (length (now row) ≡ 4) × (256 ≤ length (now st)) ⌝ }
+    ensures { λ r. ⌜ ((c : Option ℕ) → Ahead env b c → (ks : List ℕ) (j i : ℕ) → j < 4 → i < 64 → bit i (getD (now (row .exit)) j 0) ≡ holds (sheetOf m n (now (code .entry)) (now (len .entry)) ks) (some (64 * j + i)) b c) ⌝ }
+{
+    equations_row(row, st, env, EARLIER, code, len, m, n, b);
 }
 
 // ---- What the equations see of the round before

@@ -1,13 +1,12 @@
--- `lanes::predecessors_word` meets its contract: the lanes of the table have their neighbours. Assumes nothing.
 use mathlib.Core.Path.{_∙_}
 use borrow.Author.Needs.{needs}
-use Rattle.lanes.proofs.CodeLaws.{lane-holds}
-use Rattle.lanes.proofs.TableLaws.{ahead-kept, ahead-filled}
+use Rattle.lanes.proofs.AroundLaws.{ahead-look}
+use Rattle.lanes.proofs.CodeLaws.{look-holds}
 use Rattle.lanes.proofs.predecessors_word.Statement.{statement}
 use Rattle.lanes.proofs.predecessors_word.Tie as tie
-
-put-near-lanes-requires : tie.Need-put-near-lanes-requires
-put-near-lanes-requires c κs = search needs
+use Rattle.lanes.proofs.predecessors_word.Reads as reads
+use Rattle.lanes.proofs.predecessors_word.Lts as lts
+use Rattle.lanes.proofs.equations_word.Reads as equations-word-reads
 
 equations-word-requires : tie.Need-equations-word-requires
 equations-word-requires c κs = search needs
@@ -15,14 +14,8 @@ equations-word-requires c κs = search needs
 same-length : tie.Need-same-length
 same-length c = search needs
 
-same-length-2 : tie.Need-same-length-2
-same-length-2 c = search needs
-
 returns : tie.Need-returns
-returns c =
-    λ x ahead.
-    let put = c .before .before .before .before .before .before .before .put-near-lanes .ensures in
-    (ahead-kept _ _ _ _ _ ahead put, λ ks i h. c .before .before .equations-word .ensures i h ∙ lane-holds _ _ _ _ (c .before .before .before .before .before .before .before .before .before .before .before .before .before .pre .0) _ _ _ _ (ahead-filled _ _ _ _ _ ahead put) ks i h)
+returns c = λ x ahead ks i h. c .before .before .equations-word .ensures i h ∙ look-holds _ _ _ _ (c .before .before .before .before .before .before .before .pre .0) _ _ _ _ (ahead-look _ _ x ahead i) ks
 
 pub predecessors-word-spec : {M : Type 1} → statement M
-predecessors-word-spec = tie.close (tie.spec put-near-lanes-requires equations-word-requires same-length same-length-2 returns)
+predecessors-word-spec = tie.close (tie.spec equations-word-requires same-length returns)

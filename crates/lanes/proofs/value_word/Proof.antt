@@ -1,27 +1,29 @@
--- `lanes::value_word` meets its contract: in each lane the stack follows the stack of trees. Assumes nothing.
-use native.Mathlib.Omega.{arith}
+use mathlib.Core.Path.{_≡_, refl, _∙_}
+use Prim.Native.Nat.{_-_}
 use borrow.Author.Needs.{needs}
-use Prim.Native.Nat.{ℕ, _-_}
-use mathlib.Core.Path.{_≡_}
+use native.Mathlib.Omega.{arith}
 use lib.ListN.{length}
-use Rattle.lanes.proofs.ParseLaws.{Done, none-done, one-done, done-none, done-top}
+use Rattle.lanes.proofs.ParseLaws.{Done, none-done, one-done, all-done}
 use Rattle.lanes.proofs.value_word.Statement.{statement}
 use Rattle.lanes.proofs.value_word.Tie as tie
+use Rattle.lanes.proofs.value_word.Reads as reads
+use Rattle.lanes.proofs.value_word.Lts as lts
+use Rattle.lanes.proofs.word_step.Reads as word-step-reads
 
 abbrev Inv-loop : tie.InvT-loop
-Inv-loop st₀ t expr sp₀ k₀ st sp k = Done t expr st sp k × (length st ≡ 64)
+Inv-loop st₀ env f expr s₀ k₀ st s k = (length st ≡ length st₀) × Done env f expr st (s .top) (s .used) k
 
 abbrev μ-loop : tie.MeasureT-loop
-μ-loop st₀ t expr sp₀ k₀ st sp k = length expr - k
+μ-loop st₀ env f expr s₀ k₀ st s k = length expr - k
 
 loop-holds : tie.Need-loop-holds Inv-loop μ-loop
-loop-holds c = (none-done _ _ _, c .before .before .before .pre .1)
+loop-holds c = (refl, none-done _ _ _ _)
 
-shared-slice-read-step : tie.Need-shared-slice-read-step Inv-loop μ-loop
-shared-slice-read-step c = search needs
+shared-slice-read-word-step : tie.Need-shared-slice-read-word-step Inv-loop μ-loop
+shared-slice-read-word-step c = search needs
 
-step-requires : tie.Need-step-requires Inv-loop μ-loop
-step-requires c κs = (omega arith, c .before .before .before .before .before .before .before .pre .2)
+word-step-requires : tie.Need-word-step-requires Inv-loop μ-loop
+word-step-requires c κs = search needs
 
 add-k : tie.Need-add-k Inv-loop μ-loop
 add-k c = search needs
@@ -30,30 +32,13 @@ loop-less : tie.Need-loop-less Inv-loop μ-loop
 loop-less c = search needs
 
 loop-again : tie.Need-loop-again Inv-loop μ-loop
-loop-again c =
-    let l = c .before .before .before .before .before .before .loop in
-    (one-done _ _ _ _ _ _ _ (omega arith) (l .inv .0) (c .before .before .step .ensures), omega arith)
+loop-again c = (omega arith, one-done _ _ _ _ _ _ _ _ _ _ (omega arith) (c .before .before .before .before .before .before .loop .inv .1) (c .before .before .word-step .ensures))
 
 same-length : tie.Need-same-length Inv-loop μ-loop
 same-length c = search needs
 
 returns : tie.Need-returns Inv-loop μ-loop
-returns c = λ s x p i h. done-none _ _ _ _ _ (c .before .before .loop .inv .0) (c .before .loop-test .left) s x p i h _ (c .if1 .taken)
-
-sub-result : tie.Need-sub-result Inv-loop μ-loop
-sub-result c = search needs
-
-mul-result : tie.Need-mul-result Inv-loop μ-loop
-mul-result c = search needs
-
-slice-read-result : tie.Need-slice-read-result Inv-loop μ-loop
-slice-read-result c = search needs
-
-same-length-2 : tie.Need-same-length-2 Inv-loop μ-loop
-same-length-2 c = search needs
-
-returns-2 : tie.Need-returns-2 Inv-loop μ-loop
-returns-2 c = λ s x p i h. done-top _ _ _ _ _ (c .before .before .before .loop .inv .0) (c .before .before .loop-test .left) s x p i h (c .before .if1 .left)
+returns c = λ s x p i h. all-done _ _ _ _ _ _ _ (c .before .loop .inv .1) (c .loop-test .left) s x p i h
 
 pub value-word-spec : {M : Type 1} → statement M
 value-word-spec =
@@ -62,15 +47,10 @@ value-word-spec =
     Inv-loop
     μ-loop
     loop-holds
-    shared-slice-read-step
-    step-requires
+    shared-slice-read-word-step
+    word-step-requires
     add-k
     loop-less
     loop-again
     same-length
-    returns
-    sub-result
-    mul-result
-    slice-read-result
-    same-length-2
-    returns-2)
+    returns)

@@ -1,0 +1,83 @@
+use mathlib.Core.Path.{_≡_, ap, ap₂, _∙_}
+use mathlib.Core.Bool.{Bool·beq, _&&_}
+use Prim.Native.Nat.{ℕ, _-_, _<_}
+use borrow.Author.Needs.{needs}
+use native.Mathlib.Omega.{arith}
+use lib.ListN.{getD}
+use Rattle.words.specs.Bits.{bit}
+use Rattle.words.proofs.BitLaws.{bit-and}
+use Rattle.lanes.proofs.RowLaws.{Writing, writing-none, writing-more, writing-all}
+use Rattle.lanes.proofs.keep_row.Statement.{statement}
+use Rattle.lanes.proofs.keep_row.Tie as tie
+use Rattle.lanes.proofs.keep_row.Reads as reads
+use Rattle.lanes.proofs.keep_row.Lts as lts
+use Rattle.words.proofs.agree.Reads as agree-reads
+
+abbrev Inv-loop : tie.InvT-loop
+Inv-loop acc₀ x v j₀ acc j = Writing (λ k w. (i : ℕ) → i < 64 → bit i w ≡ (bit i (getD acc₀ k 0) && Bool·beq (bit i (getD x k 0)) v)) acc₀ acc j
+
+abbrev μ-loop : tie.MeasureT-loop
+μ-loop acc₀ x v j₀ acc j = 4 - j
+
+loop-holds : tie.Need-loop-holds Inv-loop μ-loop
+loop-holds c = writing-none _ _ (c .before .before .pre .0)
+
+mul-acc : tie.Need-mul-acc Inv-loop μ-loop
+mul-acc c = search needs
+
+slice-read-acc : tie.Need-slice-read-acc Inv-loop μ-loop
+slice-read-acc c = search needs
+
+mul-agree : tie.Need-mul-agree Inv-loop μ-loop
+mul-agree c = search needs
+
+shared-slice-read-agree : tie.Need-shared-slice-read-agree Inv-loop μ-loop
+shared-slice-read-agree c = search needs
+
+agree-requires : tie.Need-agree-requires Inv-loop μ-loop
+agree-requires c κs = search needs
+
+mul-acc-2 : tie.Need-mul-acc-2 Inv-loop μ-loop
+mul-acc-2 c = search needs
+
+slice-write-acc : tie.Need-slice-write-acc Inv-loop μ-loop
+slice-write-acc c = search needs
+
+add-j : tie.Need-add-j Inv-loop μ-loop
+add-j c = search needs
+
+loop-less : tie.Need-loop-less Inv-loop μ-loop
+loop-less c = search needs
+
+loop-again : tie.Need-loop-again Inv-loop μ-loop
+loop-again c =
+    writing-more _ _ _ _ _ (c .before .before .before .before .loop .inv) (c .before .before .before .loop-test .taken)
+    (λ i h.
+    bit-and i (getD (c .before .before .before .before .loop .acc) (c .before .before .before .before .loop .j) 0) (c .agree .result)
+    ∙ ap₂ _&&_ (ap (bit i) (c .before .before .before .before .loop .inv .rest _ (omega arith))) (c .agree .ensures i h))
+
+same-length : tie.Need-same-length Inv-loop μ-loop
+same-length c = search needs
+
+returns : tie.Need-returns Inv-loop μ-loop
+returns c = (c .before .loop .inv .size, λ j i h. writing-all _ _ _ _ (c .before .loop .inv) (c .loop-test .left) j h i)
+
+pub keep-row-spec : {M : Type 1} → statement M
+keep-row-spec =
+    tie.close
+    (tie.spec
+    Inv-loop
+    μ-loop
+    loop-holds
+    mul-acc
+    slice-read-acc
+    mul-agree
+    shared-slice-read-agree
+    agree-requires
+    mul-acc-2
+    slice-write-acc
+    add-j
+    loop-less
+    loop-again
+    same-length
+    returns)

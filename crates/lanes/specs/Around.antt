@@ -1,0 +1,97 @@
+-- For the contracts of private functions: the reads of a round in one word, bit byte - 0x40 for the read byte, and stacks of words.
+-- The reads of one family, one round earlier or one round later, may differ from lane to lane: each lane stands for a valuation of that
+-- round.
+use mathlib.Core.Path.{_≡_}
+use mathlib.Core.Bool.{Bool, true, false, cond, _&&_}
+use mathlib.Core.List.{List, [], _∷_}
+use mathlib.Core.Option.{Option, none, some}
+use Prim.Native.Nat.{ℕ, zero, suc, _+_, _*_, _/_, _%_, _^_, _<_, _≤_}
+use lib.Dec.{eqb, leb, ltb}
+use lib.ListN.{length, getD}
+use Rattle.words.specs.Bits.{bit}
+use Rattle.sheet.specs.declared.Offset.{Offset}
+use Rattle.sheet.specs.declared.Offset.the-variants.{Earlier, Now, Later}
+use Rattle.lola.specs.Value.{Look, near}
+use Rattle.lanes.specs.Machine.{stepped}
+
+-- the number of a read's bit: its byte less 0x40
+unfoldable pub slot : ℕ → Offset → Bool → ℕ
+slot q Now d = q
+slot q Earlier false = 16 + q
+slot q Earlier true = 24 + q
+slot q Later false = 32 + q
+slot q Later true = 40 + q
+
+-- the read with the number k, in the lane of the valuation v: of the family f (1 earlier, 2 later) the streams of v are read
+unfoldable pub readAt : ℕ → ℕ → ℕ → ℕ → Bool
+readAt env f v k = cond (eqb (k / 16) f) (bit (k % 8) v) (bit k env)
+
+-- the reads in that lane
+abbrev pub laneLook : ℕ → ℕ → ℕ → Look
+laneLook env f v q o d = readAt env f v (slot q o d)
+
+-- a lane's stack of n + 1 truth values: its top, and below it those of E, the last of them uppermost
+unfoldable pub below : (ℕ → Bool) → ℕ → List Bool
+below E zero = []
+below E (suc n) = E n ∷ below E n
+
+abbrev pub laneStack : Bool → (ℕ → Bool) → ℕ → List Bool
+laneStack x E n = x ∷ below E n
+
+-- a step of a stack of words, 64 lanes: `used` of them lie below the top
+pub record Stepped (env f e : ℕ) (st : List ℕ) (top used : ℕ) (st′ : List ℕ) (top′ used′ : ℕ) : Type 0 where
+  pub room : used′ ≤ used + 1
+  pub lanes : (i : ℕ) → i < 64
+      → laneStack (bit i top′) (λ k. bit i (getD st′ k 0)) used′
+      ≡ stepped (readAt env f i) e (laneStack (bit i top) (λ k. bit i (getD st k 0)) used)
+
+-- a step of a stack of rows of four words, 256 lanes
+pub record RowStepped (env f e : ℕ) (st top : List ℕ) (used : ℕ) (st′ top′ : List ℕ) (used′ : ℕ) : Type 0 where
+  pub room : used′ ≤ used + 1
+  pub lanes : (j i : ℕ) → j < 4 → i < 64
+      → laneStack (bit i (getD top′ j 0)) (λ k. bit i (getD st′ (4 * k + j) 0)) used′
+      ≡ stepped (readAt env f (64 * j + i)) e (laneStack (bit i (getD top j 0)) (λ k. bit i (getD st (4 * k + j) 0)) used)
+
+-- four words are F 0 to F 3
+pub record Four (F : ℕ → ℕ) (t t′ : List ℕ) : Type 0 where
+  pub size : length t′ ≡ length t
+  pub words : (j : ℕ) → j < 4 → getD t′ j 0 ≡ F j
+
+-- four words from 4 k on are those of the row, and no word before them is changed
+pub record Stored (k : ℕ) (row t t′ : List ℕ) : Type 0 where
+  pub size : length t′ ≡ length t
+  pub words : (j : ℕ) → j < 4 → getD t′ (4 * k + j) 0 ≡ getD row j 0
+  pub others : (i : ℕ) → i < 4 * k → getD t′ i 0 ≡ getD t i 0
+
+-- the reads of a neighbouring round, with the default false and with the default true
+pub record Beside (w : ℕ) (v : Option ℕ) : Type 0 where
+  pub small : w < 2 ^ 16
+  pub unset : (q : ℕ) → q < 8 → bit q w ≡ near v q false
+  pub set : (q : ℕ) → q < 8 → bit (8 + q) w ≡ near v q true
+
+-- the word has the round before, p
+pub record Before (w : ℕ) (p : Option ℕ) : Type 0 where
+  pub part : ℕ
+  pub place : w ≡ 65536 * part
+  pub beside : Beside part p
+
+-- the word has the round b and the round before it, p
+pub record Seen (w : ℕ) (p : Option ℕ) (b : ℕ) : Type 0 where
+  pub small : w < 2 ^ 32
+  pub here : (q : ℕ) → q < 8 → bit q w ≡ bit q b
+  pub unset : (q : ℕ) → q < 8 → bit (16 + q) w ≡ near p q false
+  pub set : (q : ℕ) → q < 8 → bit (24 + q) w ≡ near p q true
+
+-- the word has the round b and the round after it, c
+pub record Ahead (w : ℕ) (b : ℕ) (c : Option ℕ) : Type 0 where
+  pub here : (q : ℕ) → q < 8 → bit q w ≡ bit q b
+  pub unset : (q : ℕ) → q < 8 → bit (32 + q) w ≡ near c q false
+  pub set : (q : ℕ) → q < 8 → bit (40 + q) w ≡ near c q true
+
+-- how the code has a neighbouring round that may be missing
+unfoldable pub unless : Bool → ℕ → Option ℕ
+unless absent v = cond absent none (some v)
+
+-- the byte e is a read of stream q one round earlier
+unfoldable pub earlierByte : ℕ → ℕ → Bool
+earlierByte e q = (leb 0x50 e && ltb e 0x60) && eqb q (e % 8)

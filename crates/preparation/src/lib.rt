@@ -193,10 +193,10 @@ fn note(row: &mut [u64], a: usize)
 }
 
 // (a, b) joins the live set and the next layer, unless it is live. `rows` are the next layer's rows.
-fn join(s: &mut [u64], rows: &mut [u64], w: usize, next: usize, a: usize, b: usize)
-    requires { ⌜ (w ≤ 4) × (a < 64 * w) × (b < 256) × (1028 ≤ next) × (next ≤ 2056) × (length (now rows) ≡ 4) × (3084 ≤ length (now s)) ⌝ }
+fn join(s: &mut [u64], rows: &mut [u64], next: usize, a: usize, b: usize)
+    requires { ⌜ (a < 256) × (b < 256) × (1028 ≤ next) × (next ≤ 2056) × (length (now rows) ≡ 4) × (3084 ≤ length (now s)) ⌝ }
     ensures { λ r. ⌜ Joins next (now (s .entry)) (now (s .exit)) (λ x y. eqb x a && (eqNext y (some b) && not (stored (now (s .entry)) 0 a (some b)))) ⌝ }
-    ensures { λ r. ⌜ (Occupied w (now (rows .entry)) (now (s .entry)) next → Occupied w (now (rows .exit)) (now (s .exit)) next) ⌝ }
+    ensures { λ r. ⌜ ((w : ℕ) → w ≤ 4 → a < 64 * w → Occupied w (now (rows .entry)) (now (s .entry)) next → Occupied w (now (rows .exit)) (now (s .exit)) next) ⌝ }
 {
     if pairs::has(s, 0, a, b) {
         return;
@@ -214,7 +214,7 @@ fn join_row(s: &mut [u64], rows: &mut [u64], row: &[u64], w: usize, next: usize,
 {
     let mut a = pairs::next_bit(row, 0, w, 0);
     while a < 64 * w {
-        join(s, rows, w, next, a, b);
+        join(s, rows, next, a, b);
         a = pairs::next_bit(row, 0, w, a + 1);
     }
 }

@@ -11,7 +11,7 @@ same-length : tie.Need-same-length
 same-length c = search needs
 
 returns : tie.Need-returns
-returns c = (joined-not _ _ _ _ (sym (c .before .has .ensures) ∙ c .if1 .taken), λ o. o)
+returns c = (joined-not _ _ _ _ (sym (c .before .has .ensures) ∙ c .if1 .taken), λ w hw ha o. o)
 
 insert-requires : tie.Need-insert-requires
 insert-requires c κs = search needs
@@ -33,7 +33,7 @@ returns-2 c =
     let p = c .before .before .before .before .before .before .before .before .before .before .before .before .before .before .before .before .before .pre in
     let e = c .before .before .before .before .before .before .before .before .before .before .insert .ensures in
     let f = c .before .before .before .before .before .before .insert2 .ensures in
-    (joined-both _ _ _ _ _ _ (p .3) (sym (c .before .before .before .before .before .before .before .before .before .before .before .before .before .has .ensures) ∙ c .before .before .before .before .before .before .before .before .before .before .before .before .if1 .left) e f, occupied-more _ _ _ _ _ _ _ _ _ (p .1) (p .0) (p .2) (p .3) e f (c .before .before .note .ensures))
+    (joined-both _ _ _ _ _ _ (p .2) (sym (c .before .before .before .before .before .before .before .before .before .before .before .before .before .has .ensures) ∙ c .before .before .before .before .before .before .before .before .before .before .before .before .if1 .left) e f, λ w hw ha. occupied-more w _ _ _ _ _ _ _ _ ha hw (p .1) (p .2) e f (c .before .before .note .ensures))
 
 pub join-spec : {M : Type 1} → statement M
 join-spec =

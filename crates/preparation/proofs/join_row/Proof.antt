@@ -41,7 +41,7 @@ loop-again c =
     let p = c .before .before .before .before .before .before .before .before .before .before .before .before .before .before .pre in
     let i = c .before .before .before .before .before .before .before .before .before .loop .inv in
     let j = c .before .before .before .before .before .join .ensures in
-    (omega arith, omega arith, column-more _ _ _ _ _ (p .1) (p .0) _ _ _ _ (c .before .before .before .before .before .before .before .before .loop-test .taken) (i .2) (j .0) (c .next-bit2 .ensures), λ o. j .1 (i .3 o))
+    (omega arith, omega arith, column-more _ _ _ _ _ (p .1) (p .0) _ _ _ _ (c .before .before .before .before .before .before .before .before .loop-test .taken) (i .2) (j .0) (c .next-bit2 .ensures), λ o. j .1 _ (p .0) (c .before .before .before .before .before .before .before .before .loop-test .taken) (i .3 o))
 
 same-length : tie.Need-same-length Inv-loop μ-loop
 same-length c = search needs

@@ -23,7 +23,7 @@ same-length-3 : tie.Need-same-length-3
 same-length-3 c = search needs
 
 returns : tie.Need-returns
-returns c = λ ks. united-no-end _ _ _ _ _ _ _ (sym (c .before .has-end .ensures) ∙ not-true _ (c .if1 .taken)) (c .before .before .before .before .before .before .before .before .unite-valuations .ensures ks)
+returns c = λ ks. united-no-end _ _ _ _ _ _ _ _ (sym (c .before .has-end .ensures) ∙ not-true _ (c .if1 .taken)) (c .before .before .before .before .before .before .before .before .unite-valuations .ensures ks)
 
 unite-requires : tie.Need-unite-requires
 unite-requires c κs = (c .before .before .before .before .before .before .before .before .before .before .before .before .before .before .before .before .before .before .before .before .before .before .pre .0, (c .before .before .before .before .before .before .before .before .before .before .before .before .before .before .before .before .before .before .before .before .before .before .pre .1 .0, omega arith, c .before .before .before .before .before .before .before .before .before .before .before .before .before .before .before .before .before .before .before .before .before .before .pre .1 .2, omega arith, omega arith))
@@ -39,7 +39,7 @@ same-length-6 c = search needs
 
 returns-2 : tie.Need-returns-2
 unfolding unless
-returns-2 c = λ ks. united-end _ _ _ _ _ _ _ _ (sym (c .before .before .before .before .before .before .before .before .before .before .before .has-end .ensures) ∙ not-false _ (c .before .before .before .before .before .before .before .before .before .before .if1 .left)) (c .before .before .before .before .before .before .before .before .before .before .before .before .before .before .before .before .before .before .unite-valuations .ensures ks) (c .before .before .before .before .before .before .unite .ensures ks)
+returns-2 c = λ ks. united-end _ _ _ _ _ _ _ _ _ (sym (c .before .before .before .before .before .before .before .before .before .before .before .has-end .ensures) ∙ not-false _ (c .before .before .before .before .before .before .before .before .before .before .if1 .left)) (c .before .before .before .before .before .before .before .before .before .before .before .before .before .before .before .before .before .before .unite-valuations .ensures ks) (c .before .before .before .before .before .before .unite .ensures ks)
 
 pub unite-row-spec : {M : Type 1} → statement M
 unite-row-spec =

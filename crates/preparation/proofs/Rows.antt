@@ -23,7 +23,7 @@ use Rattle.lanes.specs.Coded.{sheetOf}
 use Rattle.completions.specs.Live.{allowed, allTrue}
 use Rattle.pairs.specs.Changes.{rowBit}
 use Rattle.pairs.proofs.Bools.{and-true, or-false}
-use Rattle.preparation.specs.Search.{Noted, United}
+use Rattle.preparation.specs.Search.{Row, Noted, United}
 
 -- ---- the lanes below a bound
 
@@ -199,3 +199,18 @@ module _ (old ok : List ℕ) (h : ℕ → Bool) where
 
   pub gains-all : (new : List ℕ) (j w : ℕ) → w ≤ j → Writing old new (λ a u. u || (rowBit ok 0 a && h a)) j → United w old new (λ a. rowBit ok 0 a && h a)
   gains-all new j w l p = record { same-length = p .same-length; gains = λ a g. written old (λ a u. u || (rowBit ok 0 a && h a)) new j w a l p g }
+
+-- a row of one word, and of any number of words, lane by lane
+pub word-row : (row : List ℕ) (x w : ℕ) (f : ℕ → Bool) → length row ≡ 4 → w < 2 → ((i : ℕ) → i < 64 → bit i x ≡ f i) → Row w (set row 0 x) f
+unfolding rowBit
+word-row row x w f l u h a g =
+    let d : 0 + a / 64 ≡ 0 = omega arith in
+    let r : a % 64 ≡ a = omega arith in
+    ap₂ (λ (i k : ℕ). bit i (getD (set row 0 x) k 0)) r d ∙ ap (bit a) (getD-set-same row 0 x 0 (omega arith)) ∙ h a (omega arith)
+
+pub lanes-row : (row : List ℕ) (w : ℕ) (f : ℕ → Bool) → w ≤ 4 → ((j i : ℕ) → j < 4 → i < 64 → bit i (getD row j 0) ≡ f (64 * j + i)) → Row w row f
+unfolding rowBit
+lanes-row row w f u h a g =
+    let d : 0 + a / 64 ≡ a / 64 = omega arith in
+    let r : 64 * (a / 64) + a % 64 ≡ a = omega arith in
+    ap (λ (k : ℕ). bit (a % 64) (getD row k 0)) d ∙ h (a / 64) (a % 64) (omega arith) (omega arith) ∙ ap f r

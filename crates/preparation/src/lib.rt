@@ -14,7 +14,7 @@ ghost use Rattle.completions.specs.Live.{Pairs, allowed};
 ghost use Rattle.pairs.specs.Storage.{stored};
 ghost use Rattle.pairs.specs.Changes.{eqNext, rowBit};
 ghost use Rattle.lola.specs.Equations.{holds};
-ghost use Rattle.lanes.specs.Table.{Ahead, unless};
+ghost use Rattle.lanes.specs.Around.{Ahead, unless};
 ghost use Rattle.lanes.specs.Coded.{Coded, sheetOf};
 ghost use Rattle.preparation.specs.Search.{meets, joinersAt, newcomers, enders, Joins, Row, United, Noted, Occupied, Apart, Started, Swept};
 ghost use Rattle.preparation.specs.Prepared.{Prepared, Reach};
@@ -76,33 +76,44 @@ fn covers(row: &[u64], ok: &[u64], w: usize) -> bool
     true
 }
 
-// old with the lanes i of ok in which the equations hold at b after 64 j + i.
-fn gained_word(
-    t: &mut [u64],
+// The lanes i of the w words j in which the equations hold at b after 64 j + i, by what is read.
+fn predecessors(
+    x: &mut [u64],
     st: &mut [u64],
     code: &[u8],
     len: &[usize],
     m: usize,
     n: usize,
+    w: usize,
+    env: u64,
     b: usize,
-    j: usize,
-    ok: u64,
-    old: u64,
-) -> u64
+)
     requires { ⌜ Coded m n (now code) (now len) ⌝ }
-    requires { ⌜ (length (now st) ≡ 64) × (length (now t) ≡ 48) × (j < 4) ⌝ }
-    ensures { λ r. ⌜ ((c : Option ℕ) → Ahead (now (t .entry)) b c → Ahead (now (t .exit)) b c × ((ks : List ℕ) (i : ℕ) → i < 64 → bit i r ≡ (bit i old || (bit i ok && holds (sheetOf m n (now (code .entry)) (now (len .entry)) ks) (some (64 * j + i)) b c)))) ⌝ }
+    requires { ⌜ (w ≤ 4) × (length (now x) ≡ 4) × (256 ≤ length (now st)) ⌝ }
+    ensures { λ r. ⌜ ((c : Option ℕ) → Ahead env b c → (ks : List ℕ) → Row w (now (x .exit)) (λ a. holds (sheetOf m n (now (code .entry)) (now (len .entry)) ks) (some a) b c)) ⌝ }
 {
-    if ok & !old == 0 {
-        return old;
+    if w < 2 {
+        x[0] = lanes::predecessors_word(st, code, len, m, n, env, b);
+        return;
     }
-    old | ok & lanes::predecessors_word(t, st, code, len, m, n, b, j)
+    lanes::predecessors_row(x, st, code, len, m, n, env, b);
+}
+
+// The row gains the valuations that are both in ok and in x.
+fn gain(row: &mut [u64], ok: &[u64], x: &[u64], w: usize)
+    requires { ⌜ (w ≤ 4) × (length (now row) ≡ 4) × (length (now ok) ≡ 4) × (length (now x) ≡ 4) ⌝ }
+    ensures { λ r. ⌜ United w (now (row .entry)) (now (row .exit)) (λ a. rowBit (now (ok .entry)) 0 a && rowBit (now (x .entry)) 0 a) ⌝ }
+{
+    let mut j: usize = 0;
+    while j < w {
+        row[j] = row[j] | ok[j] & x[j];
+        j += 1;
+    }
 }
 
 // The row gains the a of ok that may stand before b and c or, where last, before b and the end.
 fn unite(
     row: &mut [u64],
-    t: &mut [u64],
     st: &mut [u64],
     ok: &[u64],
     code: &[u8],
@@ -115,25 +126,21 @@ fn unite(
     c: usize,
 )
     requires { ⌜ Coded m n (now code) (now len) ⌝ }
-    requires { ⌜ (w ≤ 4) × (length (now row) ≡ 4) × (length (now ok) ≡ 4) × (length (now st) ≡ 64) × (length (now t) ≡ 48) ⌝ }
+    requires { ⌜ (w ≤ 4) × (length (now row) ≡ 4) × (length (now ok) ≡ 4) × (256 ≤ length (now st)) × (b < 256) × (c < 256) ⌝ }
     ensures { λ r. ⌜ ((ks : List ℕ) → United w (now (row .entry)) (now (row .exit)) (λ a. rowBit (now (ok .entry)) 0 a && holds (sheetOf m n (now (code .entry)) (now (len .entry)) ks) (some a) b (unless last c))) ⌝ }
 {
     if covers(row, ok, w) {
         return;
     }
-    lanes::look_ahead(t, last, b, c);
-    let mut j: usize = 0;
-    while j < w {
-        let old = row[j];
-        row[j] = gained_word(t, st, code, len, m, n, b, j, ok[j], old);
-        j += 1;
-    }
+    let env = lanes::ahead(b, last, c);
+    let mut x = [0u64; 4];
+    predecessors(&mut x, st, code, len, m, n, w, env, b);
+    gain(row, ok, &x, w);
 }
 
 // The same for each valuation of the layer's row b.
 fn unite_valuations(
     row: &mut [u64],
-    t: &mut [u64],
     st: &mut [u64],
     ok: &[u64],
     s: &[u64],
@@ -146,13 +153,13 @@ fn unite_valuations(
     b: usize,
 )
     requires { ⌜ Coded m n (now code) (now len) ⌝ }
-    requires { ⌜ (w ≤ 4) × (length (now row) ≡ 4) × (length (now ok) ≡ 4) × (length (now st) ≡ 64) × (length (now t) ≡ 48) × (b < 256) × (layer ≤ 2056) × (3084 ≤ length (now s)) ⌝ }
+    requires { ⌜ (w ≤ 4) × (length (now row) ≡ 4) × (length (now ok) ≡ 4) × (256 ≤ length (now st)) × (b < 256) × (layer ≤ 2056) × (3084 ≤ length (now s)) ⌝ }
     ensures { λ r. ⌜ ((ks : List ℕ) → United w (now (row .entry)) (now (row .exit)) (λ a. rowBit (now (ok .entry)) 0 a && anyBelow (64 * w) (λ c. stored (now (s .entry)) layer b (some c) && holds (sheetOf m n (now (code .entry)) (now (len .entry)) ks) (some a) b (some c)))) ⌝ }
 {
     let first = layer + 4 * b;
     let mut c = pairs::next_bit(s, first, w, 0);
     while c < 64 * w {
-        unite(row, t, st, ok, code, len, m, n, w, b, false, c);
+        unite(row, st, ok, code, len, m, n, w, b, false, c);
         c = pairs::next_bit(s, first, w, c + 1);
     }
 }
@@ -160,7 +167,6 @@ fn unite_valuations(
 // The row gains the a of ok that the layer lets stand before b.
 fn unite_row(
     row: &mut [u64],
-    t: &mut [u64],
     st: &mut [u64],
     ok: &[u64],
     s: &[u64],
@@ -173,14 +179,14 @@ fn unite_row(
     b: usize,
 )
     requires { ⌜ Coded m n (now code) (now len) ⌝ }
-    requires { ⌜ (w ≤ 4) × (length (now row) ≡ 4) × (length (now ok) ≡ 4) × (length (now st) ≡ 64) × (length (now t) ≡ 48) × (b < 256) × (layer ≤ 2056) × (3084 ≤ length (now s)) ⌝ }
+    requires { ⌜ (w ≤ 4) × (length (now row) ≡ 4) × (length (now ok) ≡ 4) × (256 ≤ length (now st)) × (b < 256) × (layer ≤ 2056) × (3084 ≤ length (now s)) ⌝ }
     ensures { λ r. ⌜ ((ks : List ℕ) → United w (now (row .entry)) (now (row .exit)) (λ a. rowBit (now (ok .entry)) 0 a && meets (sheetOf m n (now (code .entry)) (now (len .entry)) ks) (64 * w) (stored (now (s .entry)) layer) a b)) ⌝ }
 {
-    unite_valuations(row, t, st, ok, s, code, len, m, n, w, layer, b);
+    unite_valuations(row, st, ok, s, code, len, m, n, w, layer, b);
     if !pairs::has_end(s, layer, b) {
         return;
     }
-    unite(row, t, st, ok, code, len, m, n, w, b, true, 0);
+    unite(row, st, ok, code, len, m, n, w, b, true, 0);
 }
 
 // Puts a into the row.
@@ -244,7 +250,6 @@ fn join_ends(s: &mut [u64], row: &[u64], w: usize)
 fn join_before(
     s: &mut [u64],
     rows: &mut [u64],
-    t: &mut [u64],
     st: &mut [u64],
     ok: &[u64],
     code: &[u8],
@@ -257,12 +262,12 @@ fn join_before(
     b: usize,
 )
     requires { ⌜ Coded m n (now code) (now len) ⌝ }
-    requires { ⌜ (w ≤ 4) × (2 ^ (m + n) ≤ 64 * w) × (length (now ok) ≡ 4) × (length (now rows) ≡ 4) × (length (now st) ≡ 64) × (length (now t) ≡ 48) × (b < 256) × (layer ≤ 2056) × (1028 ≤ next) × (next ≤ 2056) × (3084 ≤ length (now s)) ⌝ }
+    requires { ⌜ (w ≤ 4) × (2 ^ (m + n) ≤ 64 * w) × (length (now ok) ≡ 4) × (length (now rows) ≡ 4) × (256 ≤ length (now st)) × (b < 256) × (layer ≤ 2056) × (1028 ≤ next) × (next ≤ 2056) × (3084 ≤ length (now s)) ⌝ }
     ensures { λ r. ⌜ ((ks : List ℕ) → Row w (now (ok .entry)) (allowed (sheetOf m n (now (code .entry)) (now (len .entry)) ks)) → Joins next (now (s .entry)) (now (s .exit)) (joinersAt (sheetOf m n (now (code .entry)) (now (len .entry)) ks) (64 * w) b (stored (now (s .entry)) 0) (stored (now (s .entry)) layer))) ⌝ }
     ensures { λ r. ⌜ (Occupied w (now (rows .entry)) (now (s .entry)) next → Occupied w (now (rows .exit)) (now (s .exit)) next) ⌝ }
 {
     let mut row = [0u64; 4];
-    unite_row(&mut row, t, st, ok, s, code, len, m, n, w, layer, b);
+    unite_row(&mut row, st, ok, s, code, len, m, n, w, layer, b);
     join_row(s, rows, &row, w, next, b);
 }
 
@@ -270,7 +275,6 @@ fn join_before(
 fn sweep(
     s: &mut [u64],
     rows: &mut [u64],
-    t: &mut [u64],
     st: &mut [u64],
     occupied: &[u64],
     ok: &[u64],
@@ -283,7 +287,7 @@ fn sweep(
     next: usize,
 )
     requires { ⌜ Coded m n (now code) (now len) ⌝ }
-    requires { ⌜ (w ≤ 4) × (2 ^ (m + n) ≤ 64 * w) × (length (now occupied) ≡ 4) × (length (now ok) ≡ 4) × (length (now rows) ≡ 4) × (length (now st) ≡ 64) × (length (now t) ≡ 48) × (3084 ≤ length (now s)) ⌝ }
+    requires { ⌜ (w ≤ 4) × (2 ^ (m + n) ≤ 64 * w) × (length (now occupied) ≡ 4) × (length (now ok) ≡ 4) × (length (now rows) ≡ 4) × (256 ≤ length (now st)) × (3084 ≤ length (now s)) ⌝ }
     requires { ⌜ (1028 ≤ layer) × (layer ≤ 2056) × (1028 ≤ next) × (next ≤ 2056) × Apart layer next ⌝ }
     requires { ⌜ Occupied w (now occupied) (now s) layer ⌝ }
     ensures { λ r. ⌜ ((ks : List ℕ) → Row w (now (ok .entry)) (allowed (sheetOf m n (now (code .entry)) (now (len .entry)) ks)) → Swept (sheetOf m n (now (code .entry)) (now (len .entry)) ks) (64 * w) (64 * w) layer next (now (s .entry)) (now (s .exit))) ⌝ }
@@ -291,7 +295,7 @@ fn sweep(
 {
     let mut b = pairs::next_bit(occupied, 0, w, 0);
     while b < 64 * w {
-        join_before(s, rows, t, st, ok, code, len, m, n, w, layer, next, b);
+        join_before(s, rows, st, ok, code, len, m, n, w, layer, next, b);
         pairs::take_row(s, layer, b);
         b = pairs::next_bit(occupied, 0, w, b + 1);
     }
@@ -331,8 +335,7 @@ pub fn prepare(
 {
     let v: usize = 1 << (m + n);
     let w = (v + 63) / 64;
-    let mut t = [0u64; 48];
-    let mut st = [0u64; 64];
+    let mut st = [0u64; 256];
     let mut ok = [0u64; 4];
     fill_allowed(&mut ok, m, n, assumed, v, w);
     start(s, &ok, w);
@@ -345,7 +348,6 @@ pub fn prepare(
         sweep(
             s,
             &mut rows,
-            &mut t,
             &mut st,
             &occupied,
             &ok,

@@ -9,7 +9,7 @@ slice-aggregate-unite-row : tie.Need-slice-aggregate-unite-row
 slice-aggregate-unite-row c = search needs
 
 unite-row-requires : tie.Need-unite-row-requires
-unite-row-requires c κs = let p = c .before .before .before .before .before .before .before .before .before .before .before .pre in (p .0, (p .1 .0, search needs, p .1 .2, p .1 .4, p .1 .5, p .1 .6, p .1 .7, p .1 .10))
+unite-row-requires c κs = let p = c .before .before .before .before .before .before .before .before .before .pre in (p .0, (p .1 .0, search needs, p .1 .2, p .1 .4, p .1 .5, p .1 .6, p .1 .9))
 
 slice-aggregate-join-row : tie.Need-slice-aggregate-join-row
 slice-aggregate-join-row c = search needs
@@ -26,13 +26,10 @@ same-length-2 c = search needs
 same-length-3 : tie.Need-same-length-3
 same-length-3 c = search needs
 
-same-length-4 : tie.Need-same-length-4
-same-length-4 c = search needs
-
 returns : tie.Need-returns
 returns c = (
   λ ks r.
-      column-joins _ _ (streams-low _ _ _ _ ks _ (c .before .before .before .before .before .before .before .before .before .before .before .before .before .before .before .before .before .before .before .before .before .before .before .before .before .pre .1 .1)) _ _ _ _ _ _ (row-from _ _ _ _ _ _ (λ a l. empty-row 4 a) r (c .before .before .before .before .before .before .before .before .before .before .before .before .before .unite-row .ensures ks))
+      column-joins _ _ (streams-low _ _ _ _ ks _ (c .before .before .before .before .before .before .before .before .before .before .before .before .before .before .before .before .before .before .before .before .before .pre .1 .1)) _ _ _ _ _ _ (row-from _ _ _ _ _ _ (λ a l. empty-row 4 a) r (c .before .before .before .before .before .before .before .before .before .before .before .unite-row .ensures ks))
       (c .before .before .before .before .join-row .ensures .0),
   c .before .before .before .before .join-row .ensures .1,
 )
@@ -48,5 +45,4 @@ join-before-spec =
     same-length
     same-length-2
     same-length-3
-    same-length-4
     returns)

@@ -16,13 +16,13 @@ use Rattle.preparation.proofs.prepare.Statement.{statement}
 use Rattle.preparation.proofs.prepare.Tie as tie
 
 abbrev Inv-loop : tie.InvT-loop
-Inv-loop s₀ code len m n v w t₀ st₀ ok occupied₀ layer₀ next₀ layers₀ s t st occupied layer next layers =
-    (v ≡ 2 ^ (m + n)) × (v ≤ 64 * w) × (w ≤ 4) × (length ok ≡ 4) × (length occupied ≡ 4) × (length t ≡ 48) × (length st ≡ 64) × (3084 ≤ length s) × (length s ≡ length s₀)
+Inv-loop s₀ code len m n v w st₀ ok occupied₀ layer₀ next₀ layers₀ s st occupied layer next layers =
+    (v ≡ 2 ^ (m + n)) × (v ≤ 64 * w) × (w ≤ 4) × (length ok ≡ 4) × (length occupied ≡ 4) × (length st ≡ 256) × (3084 ≤ length s) × (length s ≡ length s₀)
     × ((1028 ≤ layer) × (layer ≤ 2056) × (1028 ≤ next) × (next ≤ 2056)) × Apart layer next × ((k : ℕ) → getD s k 0 < 2 ^ 64) × Occupied w occupied s layer
     × ((ks : List ℕ) → Row w ok (allowed (sheetOf m n code len ks)) → Searching (sheetOf m n code len ks) layer next s₀ s layers)
 
 abbrev μ-loop : tie.MeasureT-loop
-μ-loop s₀ code len m n v w t₀ st₀ ok occupied₀ layer₀ next₀ layers₀ s t st occupied layer next layers = 65793 - layers
+μ-loop s₀ code len m n v w st₀ ok occupied₀ layer₀ next₀ layers₀ s st occupied layer next layers = 65793 - layers
 
 add-v : tie.Need-add-v Inv-loop μ-loop
 add-v c = omega (arith, c .before .before .before .pre .0 .ranges .streams)
@@ -59,7 +59,6 @@ loop-holds c =
       search needs,
       search needs,
       search needs,
-      search needs,
       omega arith,
       refl,
       (omega arith, omega arith, omega arith, omega arith),
@@ -90,30 +89,27 @@ slice-aggregate-sweep-3 c = search needs
 slice-aggregate-sweep-4 : tie.Need-slice-aggregate-sweep-4 Inv-loop μ-loop
 slice-aggregate-sweep-4 c = search needs
 
-slice-aggregate-sweep-5 : tie.Need-slice-aggregate-sweep-5 Inv-loop μ-loop
-slice-aggregate-sweep-5 c = search needs
-
 sweep-requires : tie.Need-sweep-requires Inv-loop μ-loop
 sweep-requires c κs =
-    let i = c .before .before .before .before .before .before .before .before .before .loop .inv in
-    (c .before .before .before .before .before .before .before .before .before .before .before .before .before .before .before .before .before .before .before .before .before .pre .0, ((i .2, omega arith, i .4, i .3, search needs, i .6, i .5, i .7), ((i .9 .0, i .9 .1, i .9 .2, i .9 .3, i .10), i .12)))
+    let i = c .before .before .before .before .before .before .before .before .loop .inv in
+    (c .before .before .before .before .before .before .before .before .before .before .before .before .before .before .before .before .before .before .before .before .pre .0, ((i .2, omega arith, i .4, i .3, search needs, omega arith, i .6), ((i .8 .0, i .8 .1, i .8 .2, i .8 .3, i .9), i .11)))
 
 add-layers : tie.Need-add-layers Inv-loop μ-loop
 add-layers c =
-    let a = c .before .before .before .before .before .before .before .before .before .before .before .before .before .before .before .before .before .before .before .before .before .before .before .before .before .before .before .args in
-    omega (arith, search-bound _ _ _ _ (c .before .before .before .before .before .before .before .before .before .before .before .before .before .before .before .before .before .before .before .before .before .before .before .before .before .before .before .pre .0 .ranges .streams) _ _ _ _ _ _ (c .before .before .before .before .before .before .before .before .before .before .before .before .before .before .before .loop .inv .13 (requiredOf (a .assumed)) (c .before .before .before .before .before .before .before .before .before .before .before .before .before .before .before .before .before .before .before .before .before .before .fill-allowed .ensures _ _)))
+    let a = c .before .before .before .before .before .before .before .before .before .before .before .before .before .before .before .before .before .before .before .before .before .before .before .before .before .args in
+    omega (arith, search-bound _ _ _ _ (c .before .before .before .before .before .before .before .before .before .before .before .before .before .before .before .before .before .before .before .before .before .before .before .before .before .pre .0 .ranges .streams) _ _ _ _ _ _ (c .before .before .before .before .before .before .before .before .before .before .before .before .before .loop .inv .12 (requiredOf (a .assumed)) (c .before .before .before .before .before .before .before .before .before .before .before .before .before .before .before .before .before .before .before .before .fill-allowed .ensures _ _)))
 
 loop-less : tie.Need-loop-less Inv-loop μ-loop
 loop-less c =
-    let a = c .before .before .before .before .before .before .before .before .before .before .before .before .before .before .before .before .before .before .before .before .before .before .before .before .before .before .before .args in
-    omega (arith, search-bound _ _ _ _ (c .before .before .before .before .before .before .before .before .before .before .before .before .before .before .before .before .before .before .before .before .before .before .before .before .before .before .before .pre .0 .ranges .streams) _ _ _ _ _ _ (c .before .before .before .before .before .before .before .before .before .before .before .before .before .before .before .loop .inv .13 (requiredOf (a .assumed)) (c .before .before .before .before .before .before .before .before .before .before .before .before .before .before .before .before .before .before .before .before .before .before .fill-allowed .ensures _ _)))
+    let a = c .before .before .before .before .before .before .before .before .before .before .before .before .before .before .before .before .before .before .before .before .before .before .before .before .before .args in
+    omega (arith, search-bound _ _ _ _ (c .before .before .before .before .before .before .before .before .before .before .before .before .before .before .before .before .before .before .before .before .before .before .before .before .before .pre .0 .ranges .streams) _ _ _ _ _ _ (c .before .before .before .before .before .before .before .before .before .before .before .before .before .loop .inv .12 (requiredOf (a .assumed)) (c .before .before .before .before .before .before .before .before .before .before .before .before .before .before .before .before .before .before .before .before .fill-allowed .ensures _ _)))
 
 loop-again : tie.Need-loop-again Inv-loop μ-loop
 loop-again c =
-    let a = c .before .before .before .before .before .before .before .before .before .before .before .before .before .before .before .before .before .before .before .before .before .before .before .before .before .before .before .args in
-    let i = c .before .before .before .before .before .before .before .before .before .before .before .before .before .before .before .loop .inv in
-    let q = i .13 (requiredOf (a .assumed)) (c .before .before .before .before .before .before .before .before .before .before .before .before .before .before .before .before .before .before .before .before .before .before .fill-allowed .ensures _ _) in
-    let w = c .before .before .before .before .before .sweep .ensures in (
+    let a = c .before .before .before .before .before .before .before .before .before .before .before .before .before .before .before .before .before .before .before .before .before .before .before .before .before .args in
+    let i = c .before .before .before .before .before .before .before .before .before .before .before .before .before .loop .inv in
+    let q = i .12 (requiredOf (a .assumed)) (c .before .before .before .before .before .before .before .before .before .before .before .before .before .before .before .before .before .before .before .before .fill-allowed .ensures _ _) in
+    let w = c .before .before .before .before .sweep .ensures in (
       i .0,
       i .1,
       i .2,
@@ -122,23 +118,22 @@ loop-again c =
       omega arith,
       omega arith,
       omega arith,
-      omega arith,
-      (i .9 .2, i .9 .3, i .9 .0, i .9 .1),
-      apart-turned _ _ (i .10),
-      λ k. c .before .before .before .slice-known3 .given k .fits,
+      (i .8 .2, i .8 .3, i .8 .0, i .8 .1),
+      apart-turned _ _ (i .9),
+      λ k. c .before .before .slice-known3 .given k .fits,
       w .1 (rows-none _ _ _ (q .free)),
       λ ks r.
-          search-step _ _ _ _ (c .before .before .before .before .before .before .before .before .before .before .before .before .before .before .before .before .before .before .before .before .before .before .before .before .before .before .before .pre .0 .ranges .streams) _ _ (i .0) (i .1) (i .2) ks _ _ _ _ _ _ _ _ (i .13 ks r) (i .12) (c .before .before .before .before .before .before .before .before .before .before .before .before .before .next-bit .ensures) (c .before .before .before .before .before .before .before .before .before .before .before .before .if1 .taken) (w .0 ks r),
+          search-step _ _ _ _ (c .before .before .before .before .before .before .before .before .before .before .before .before .before .before .before .before .before .before .before .before .before .before .before .before .before .pre .0 .ranges .streams) _ _ (i .0) (i .1) (i .2) ks _ _ _ _ _ _ _ _ (i .12 ks r) (i .11) (c .before .before .before .before .before .before .before .before .before .before .before .next-bit .ensures) (c .before .before .before .before .before .before .before .before .before .before .if1 .taken) (w .0 ks r),
     )
 
 count-requires : tie.Need-count-requires Inv-loop μ-loop
-count-requires c κs = let i = c .before .before .before .before .loop .inv in i .7
+count-requires c κs = let i = c .before .before .before .before .loop .inv in i .6
 
-sub-t19 : tie.Need-sub-t19 Inv-loop μ-loop
-sub-t19 c =
+sub-t18 : tie.Need-sub-t18 Inv-loop μ-loop
+sub-t18 c =
     let a = c .before .before .before .before .before .before .before .before .before .before .before .before .before .before .before .before .before .args in
     let i = c .before .before .before .before .before .loop .inv in
-    layers-some _ _ _ _ (c .before .before .before .before .before .before .before .before .before .before .before .before .before .before .before .before .before .pre .0 .ranges .streams) (a .assumed) (c .before .before .before .before .before .before .before .before .before .before .before .before .before .before .before .before .before .pre .1 .0) _ _ _ _ _ _ _ _ (i .13 (requiredOf (a .assumed)) (c .before .before .before .before .before .before .before .before .before .before .before .before .fill-allowed .ensures _ _)) (i .12) (c .before .before .before .next-bit .ensures) (c .before .before .if1 .left)
+    layers-some _ _ _ _ (c .before .before .before .before .before .before .before .before .before .before .before .before .before .before .before .before .before .pre .0 .ranges .streams) (a .assumed) (c .before .before .before .before .before .before .before .before .before .before .before .before .before .before .before .before .before .pre .1 .0) _ _ _ _ _ _ _ _ (i .12 (requiredOf (a .assumed)) (c .before .before .before .before .before .before .before .before .before .before .before .before .fill-allowed .ensures _ _)) (i .11) (c .before .before .before .next-bit .ensures) (c .before .before .if1 .left)
 
 same-length : tie.Need-same-length Inv-loop μ-loop
 same-length c = search needs
@@ -149,8 +144,8 @@ returns c =
     let i = c .before .before .before .before .before .loop .inv in
     let n = c .count .ensures in
     let f =
-    search-finish _ _ _ _ (c .before .before .before .before .before .before .before .before .before .before .before .before .before .before .before .before .before .pre .0 .ranges .streams) (a .assumed) (c .before .before .before .before .before .before .before .before .before .before .before .before .before .before .before .before .before .pre .1 .0) _ _ _ _ _ _ _ _ (i .13 (requiredOf (a .assumed)) (c .before .before .before .before .before .before .before .before .before .before .before .before .fill-allowed .ensures _ _)) (i .12)
-    (c .before .before .before .next-bit .ensures) (c .before .before .if1 .left) _ _ _ (i .10) (i .9) (i .11) (c .before .before .before .before .before .before .before .before .start .ensures) (n .0) (n .1) in
+    search-finish _ _ _ _ (c .before .before .before .before .before .before .before .before .before .before .before .before .before .before .before .before .before .pre .0 .ranges .streams) (a .assumed) (c .before .before .before .before .before .before .before .before .before .before .before .before .before .before .before .before .before .pre .1 .0) _ _ _ _ _ _ _ _ (i .12 (requiredOf (a .assumed)) (c .before .before .before .before .before .before .before .before .before .before .before .before .fill-allowed .ensures _ _)) (i .11)
+    (c .before .before .before .next-bit .ensures) (c .before .before .if1 .left) _ _ _ (i .9) (i .8) (i .10) (c .before .before .before .before .before .before .before .before .start .ensures) (n .0) (n .1) in
     (f .0, (f .1, f .2))
 
 pub prepare-spec : {M : Type 1} → statement M
@@ -174,12 +169,11 @@ prepare-spec =
     slice-aggregate-sweep-2
     slice-aggregate-sweep-3
     slice-aggregate-sweep-4
-    slice-aggregate-sweep-5
     sweep-requires
     add-layers
     loop-less
     loop-again
     count-requires
-    sub-t19
+    sub-t18
     same-length
     returns)

@@ -69,7 +69,8 @@ fn output_reads(code: &[u8], len: &[usize], n: usize, s: usize) -> u64
     expression_reads(&code[from..to])
 }
 
-fn all_reads(code: &[u8], len: &[usize], n: usize) -> [u64; 7]
+// The words of the outputs.
+pub fn all_reads(code: &[u8], len: &[usize], n: usize) -> [u64; 7]
     requires { ⌜ (n ≤ 7) × (length (now code) ≡ 448) × (length (now len) ≡ 7) × ((k : ℕ) → k < n → getD (now len) k 0 ≤ 64) ⌝ }
     ensures { λ r. ⌜ Rows (now (code .entry)) (now (len .entry)) n r ⌝ }
 {
@@ -83,7 +84,7 @@ fn all_reads(code: &[u8], len: &[usize], n: usize) -> [u64; 7]
 }
 
 // The offsets at which a word has a read of a stream: 1 earlier, 2 now, 4 later, added up.
-fn mask_at(word: u64, stream: StreamNo) -> u8
+pub fn mask_at(word: u64, stream: StreamNo) -> u8
     requires { ⌜ stream .0 < 16 ⌝ }
     ensures { λ r. ⌜ Mask word (stream .0) r ⌝ }
 {

@@ -19,11 +19,3 @@ fill-more P l i v h p g j b = go (decLt j i)
 
 pub filled-more : (f : ℕ → ℕ) (l : List ℕ) (i v : ℕ) → i < length l → v ≡ f i → ((j : ℕ) → j < i → getD l j 0 ≡ f j) → (j : ℕ) → j < i + 1 → getD (set l i v) j 0 ≡ f j
 filled-more f l i v h e g = fill-more (λ j x. x ≡ f j) l i v h e g
-
--- what holds below i, and at i, holds below i + 1
-pub below-more : (P : ℕ → Type 0) (i : ℕ) → P i → ((j : ℕ) → j < i → P j) → (j : ℕ) → j < i + 1 → P j
-below-more P i p f j h = go (decLt j i)
-  where
-    go : Dec (j < i) → P j
-    go (yes q) = f j q
-    go (no q) = let e : i ≡ j = omega arith in subst P e p

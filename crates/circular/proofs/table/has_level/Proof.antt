@@ -3,7 +3,7 @@ use mathlib.Core.Path.{sym}
 use mathlib.Core.Bool.{false≢true}
 use Prim.Native.Nat.{ℕ, _+_, _*_, _-_, _≤_, _<_}
 use lib.ListN.{getD}
-use Rattle.circular.proofs.Fill.{below-more}
+use borrow.Author.Count.{below-more}
 use Rattle.circular.proofs.table.has_level.Statement.{statement}
 use Rattle.circular.proofs.table.has_level.Tie as tie
 
@@ -38,7 +38,7 @@ loop-less : tie.Need-loop-less Inv-loop μ-loop
 loop-less c = omega arith
 
 loop-again : tie.Need-loop-again Inv-loop μ-loop
-loop-again c = (omega arith, below-more (λ j. getD (c .before .before .before .before .args .t .now) (8 * j + j) 0 < 1024) _ (c .if1 .left) (c .before .before .before .loop .inv .1))
+loop-again c = (omega arith, below-more (λ j. getD (c .before .before .before .before .args .t .now) (8 * j + j) 0 < 1024) _ (c .before .before .before .loop .inv .1) (c .if1 .left))
 
 returns-2 : tie.Need-returns-2 Inv-loop μ-loop
 returns-2 c = λ e s h. c .before .loop .inv .1 s (omega arith)

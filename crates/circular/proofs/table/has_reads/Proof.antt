@@ -3,7 +3,7 @@ use mathlib.Core.Path.{_≡_, sym}
 use mathlib.Core.Bool.{false, false≢true}
 use Prim.Native.Nat.{ℕ, _-_, _≤_, _<_}
 use Rattle.circular.specs.Table.{readsOfWords}
-use Rattle.circular.proofs.Fill.{below-more}
+use borrow.Author.Count.{below-more}
 use Rattle.circular.proofs.Masks.{no-reads}
 use Rattle.circular.proofs.table.has_reads.Statement.{statement}
 use Rattle.circular.proofs.table.has_reads.Tie as tie
@@ -39,7 +39,7 @@ loop-less : tie.Need-loop-less Inv-loop μ-loop
 loop-less c = omega arith
 
 loop-again : tie.Need-loop-again Inv-loop μ-loop
-loop-again c = (omega arith, below-more (λ j. (q o : ℕ) → readsOfWords (c .before .before .before .before .args .words .now) (c .before .before .before .before .args .m) j q o ≡ false) _ (no-reads _ _ (omega arith)) (c .before .before .before .loop .inv .1))
+loop-again c = (omega arith, below-more (λ j. (q o : ℕ) → readsOfWords (c .before .before .before .before .args .words .now) (c .before .before .before .before .args .m) j q o ≡ false) _ (c .before .before .before .loop .inv .1) (no-reads _ _ (omega arith)))
 
 returns-2 : tie.Need-returns-2 Inv-loop μ-loop
 returns-2 c = λ e s h. c .before .loop .inv .1 s (omega arith)

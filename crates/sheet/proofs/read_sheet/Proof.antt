@@ -1,6 +1,8 @@
 use native.Mathlib.Omega.{arith}
 use mathlib.Core.Path.{refl, sym, _∙_}
+use Prim.Native.Nat.{_+_}
 use Rattle.sheet.specs.RuleSheet.{readSheet}
+use Rattle.sheet.specs.Reading.{treesOf}
 use Rattle.sheet.proofs.Headers.{fields}
 use Rattle.sheet.proofs.Sheets.{reading-by, when-accepted}
 use Rattle.sheet.proofs.Packing.{usable}
@@ -39,7 +41,7 @@ returns c =
     let d = c .before .before .before .before .before .before .h .given .0 in
     let f = fields _ _ _ _ e in
     let r = c .before .before .read-outputs in (
-      rw e (reading-by (d .0) (d .1 .0) (d .1 .1 .0) (r .result) _ _ (r .ensures .0)),
+      rw e (reading-by (d .0) (d .1 .0) (d .1 .1 .0) (r .result) (treesOf (d .0 + d .1 .0) (r .last .1 .1 .1 .1 .0) (r .last .1 .1 .1 .0) (d .1 .0)) _ (r .ensures .0)),
       when-accepted (r .result) (usable (d .0) (d .1 .0) (d .1 .1 .0) _ _ (f .1) (f .2)) (r .ensures .1),
     )
 

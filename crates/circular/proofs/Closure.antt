@@ -345,17 +345,3 @@ module _ (n : ℕ) (E : ℕ → ℕ → ℕ → Bool) where
       (made-plus i k j (Best E k i k) (loop (Best E k k k) (Best E k k j))
       (made k i k (omega arith) hi h)
       (made-loop k j (Best E k k k) (Best E k k j) (made k k k (omega arith) h h) (made k k j (omega arith) h hj)))
-
--- an entry is the supremum of the weights of the walks from i to j
-abbrev pub Exact : (n : ℕ) (E : ℕ → ℕ → ℕ → Bool) → ℕ → ℕ → Entry → Type 0
-Exact n E i j none = (p l : ℕ) → Walk n E i j p l → ⊥
-Exact n E i j (fin p l) = Walk n E i j p l × ((p′ l′ : ℕ) → Walk n E i j p′ l′ → p′ + l ≤ p + l′)
-Exact n E i j unb = (B : ℕ) → (p : ℕ) × (l : ℕ) × Walk n E i j p l × (l + B ≤ p)
-
-exact-of : (n : ℕ) (E : ℕ → ℕ → ℕ → Bool) (i j : ℕ) (x : Entry) → ((p l : ℕ) → Walk n E i j p l → Le (fin p l) x) → Made n E i j x → Exact n E i j x
-exact-of n E i j none b m = b
-exact-of n E i j (fin p l) b m = (m, b)
-exact-of n E i j unb b m = m
-
-pub best-exact : (n : ℕ) (E : ℕ → ℕ → ℕ → Bool) (i j : ℕ) → i < n → j < n → Exact n E i j (Best E n i j)
-best-exact n E i j hi hj = exact-of n E i j (Best E n i j) (λ p l w. bounded n E w) (made n E n i j (omega arith) hi hj)

@@ -240,11 +240,3 @@ joined-trace x formed ls os g h bytes sol = record { letters = letters; satisfie
         subst (λ (N : ℕ). Solves (outputs x) N (rightOf x N (inputsBy ls)) (outputsBy (x .inputs) (joined (x .inputs) ls os))) (sym (joined-length (x .inputs) ls os h))
         (solves-of (outputs x) (edges x) (length ls) (rightOf x (length ls) (inputsBy ls)) (right-reads x formed (length ls) (inputsBy ls)) (outputsBy 0 os)
         (outputsBy (x .inputs) (joined (x .inputs) ls os)) sol agree)
-
--- Every trace is joined from its letters and its output bytes.
-pub trace-joined : (x : RuleSheet) (ls vs : List ℕ) → TraceOf x ls vs → joined (x .inputs) ls (map (λ v. v / 2 ^ x .inputs) vs) ≡ vs
-trace-joined x ls vs h = ap (λ (l : List ℕ). joined (x .inputs) l (map (λ v. v / 2 ^ x .inputs) vs)) (sym (h .letters)) ∙ parts vs
-  where
-    parts : (us : List ℕ) → joined (x .inputs) (map (letter x) us) (map (λ v. v / 2 ^ x .inputs) us) ≡ us
-    parts [] = refl
-    parts (u ∷ us) = ap₂ _∷_ (join-parts (x .inputs) u) (parts us)

@@ -47,13 +47,6 @@ LiveBy s d a b = (h : Live s a b) × (length (h .rest) ≤ d)
 abbrev pub Settled : RuleSheet → ℕ → ℕ → Type 0
 Settled s w d = T (not (anyPair w (layer s w d)))
 
--- What preparation leaves, whatever the order of its search: each pair of S is live, S has each allowed valuation with the end mark,
--- and with (b, c) each (a, b) that the equations at b allow.
-pub record Complete (s : RuleSheet) (w : ℕ) (S : Pairs) : Type 0 where
-  pub sound : (a : ℕ) (b : Option ℕ) → a < w → Within w b → T (S a b) → Live s a b
-  pub ends : (a : ℕ) → a < w → T (allowed s a) → T (S a none)
-  pub steps : (a b : ℕ) (c : Option ℕ) → a < w → b < w → Within w c → T (S b c) → T (allowed s a) → T (holds s (some a) b c) → T (S a (some b))
-
 module _ (s : RuleSheet) (w : ℕ) where
   ended : (d : ℕ) (a : ℕ) → T (allowed s a) → LiveBy s d a none
   ended d a t = (record { from = t; rest = []; starts = refl; satisfies = tt }, omega arith)
@@ -92,17 +85,6 @@ module _ (s : RuleSheet) (w : ℕ) where
     -- one more valuation adds pairs and loses none
     pub within-more : (d : ℕ) → Subset w (liveWithin s w d) (liveWithin s w (suc d))
     within-more d a b ha hb t = let x : LiveBy s d a b = within-found d a b t in within-from (suc d) a b (x .0, omega (arith, x .1))
-
-    -- ---- a set that is sound and closed under the steps is the live set, in whatever order it was made
-
-    closed-list : (S : Pairs) → Complete s w S → (a : ℕ) (vs : List ℕ) → T (allowed s a) → Follows s (some a) vs → T (S a (first vs))
-    closed-list S c a [] ok f = c .ends a (allowed-within s w small a ok) ok
-    closed-list S c a (v ∷ vs) ok f =
-        c .steps a v (first vs) (allowed-within s w small a ok) (allowed-within s w small v (f .0)) (first-within s w small (some v) vs (f .2))
-        (closed-list S c v vs (f .0) (f .2)) ok (f .1)
-
-    pub complete-exact : (S : Pairs) → Complete s w S → Represents w S (Live s)
-    complete-exact S c a b ha hb = (c .sound a b ha hb, λ h. rw (← h .starts) (closed-list S c a (h .rest) (h .from) (h .satisfies)))
 
     -- ---- a layer with no pair is the last
 

@@ -45,6 +45,3 @@ pub true-of : (b : Bool) → T b → b ≡ true
 true-of true t = refl
 true-of false t = absurd t
 
-pub false-of : (b : Bool) → T (not b) → b ≡ false
-false-of true t = absurd t
-false-of false t = refl

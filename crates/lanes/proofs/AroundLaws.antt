@@ -33,9 +33,6 @@ there-beside f v e l = rw e record {
   set = λ q h. bit-above 8 q v v l;
 }
 
-pub before-of : (w : ℕ) (p : Option ℕ) → Beside w p → Before (65536 * w) p
-before-of w p h = record { part = w; place = refl; beside = h }
-
 module _ (w : ℕ) (p : Option ℕ) (h : Beside w p) (b : ℕ) (l : b < 256) where
   seen-word : Seen (b + 65536 * w) p b
   seen-word = record {

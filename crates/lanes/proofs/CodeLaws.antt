@@ -9,14 +9,13 @@ use native.Mathlib.Numerals.{add-one}
 use native.Mathlib.Omega.{arith}
 use lib.ListN.{length, getD, take, drop}
 use Rattle.words.specs.Bits.{bit}
-use Rattle.sheet.specs.Expression.{Expr, constant, negation, conjunction, disjunction, read, parse, tree}
-use Rattle.sheet.specs.Postfix.{InSheet}
+use Rattle.sheet.specs.Expression.{Expr, parse, tree}
 use Rattle.sheet.specs.Reading.{treeOf, codeAt, treesOf}
 use Rattle.sheet.specs.declared.Offset.{Offset}
 use Rattle.sheet.proofs.Sheets.{length-trees}
-use Rattle.sheet.proofs.Postfixes.{tree-exactly}
 use Rattle.lola.specs.Value.{Look, value, neighbours}
 use Rattle.lola.specs.Equations.{equations, holds}
+use Rattle.lola.proofs.ValueLaws.{value-of-bytes}
 use Rattle.lanes.specs.Coded.{Coded, sheetOf, agreed}
 
 -- ---- one equation more
@@ -86,15 +85,6 @@ module _ (look : Look) (s : ℕ) (code len : List ℕ) (q v : ℕ) where
 
 -- ---- the equations of the sheet
 
--- an expression's value depends on its reads alone, and these are of streams below 8
-value-same : (look look′ : Look) → ((q : ℕ) (o : Offset) (d : Bool) → q < 8 → look q o d ≡ look′ q o d) → (s : ℕ) (e : Expr) → InSheet s e → value look e ≡ value look′ e
-unfolding value InSheet
-value-same look look′ f s (constant c) h = refl
-value-same look look′ f s (negation e) h = ap not (value-same look look′ f s e h)
-value-same look look′ f s (conjunction e g) h = ap₂ _&&_ (value-same look look′ f s e (h .0)) (value-same look look′ f s g (h .1))
-value-same look look′ f s (disjunction e g) h = ap₂ _||_ (value-same look look′ f s e (h .0)) (value-same look look′ f s g (h .1))
-value-same look look′ f s (read q o d) h = f q o d (h .1)
-
 -- the equations agree where the values of the expressions do
 pub agreed-same : (look look′ : Look) (s : ℕ) (code len : List ℕ) (q v k : ℕ)
     → ((j : ℕ) → j < k → value look (treeOf (parse s [] (codeAt code len j))) ≡ value look′ (treeOf (parse s [] (codeAt code len j))))
@@ -120,7 +110,7 @@ module _ (m n : ℕ) (code len : List ℕ) (c : Coded m n code len) where
       → (ks : List ℕ) → agreed look (treesOf (m + n) code len n) m v ≡ holds (sheetOf m n code len ks) p v x
   look-holds look p v x f ks =
       agreed-same look (neighbours p v x) (m + n) code len m v n
-      (λ j l. value-same look (neighbours p v x) f (m + n) _ (tree-exactly (m + n) (codeAt code len j) _ .0 (c .parts j l .parses) .1))
+      (λ j l. value-of-bytes look (neighbours p v x) f (m + n) (codeAt code len j) _ (c .parts j l .parses))
       ∙ agreed-holds ks p v x
 
 -- ---- the bytes of output k, as the code cuts them out

@@ -1,3 +1,4 @@
 pub mod Places
 pub mod Stack
 pub mod TreeReads
+pub mod ValueLaws

@@ -14,7 +14,7 @@ use Rattle.sheet.specs.RuleSheet.{RuleSheet, streams}
 use Rattle.lola.specs.Equations.{holds}
 use Rattle.completions.specs.Live.{Pairs, Live, allowed}
 use Rattle.completions.specs.Steps.{Within, Represents, anyNext, anyPair}
-use Rattle.completions.proofs.Tests.{and-left, and-right, and-both, either, not-both, not-fails, true-of, false-of}
+use Rattle.completions.proofs.Tests.{and-left, and-right, and-both, either, not-both, not-fails, true-of}
 use Rattle.completions.proofs.Search.{next-found, next-from, pair-found}
 use Rattle.completions.proofs.Range.{live-within}
 use Rattle.completions.proofs.Backward.{endSet, backSet, liveWithin, layer, LiveBy, Settled, within-found, within-from, within-more, all-short}

@@ -14,7 +14,7 @@ use Rattle.refusal.specs.declared.Outcome.{Outcome}
 use Rattle.refusal.specs.declared.Outcome.the-variants as outcome
 use Rattle.sheet.specs.Bytes.{opOf}
 use Rattle.sheet.specs.Expression.{Expr, Next, stack, breaks, Parsed, tree, broken, applyOp, final, go-on, parse, outcomeOf}
-use Rattle.sheet.specs.Depth.{depthAfter, depthCheck, onwards}
+use Rattle.sheet.specs.Depth.{depthAfter}
 use Rattle.sheet.specs.declared.StreamNo.{StreamNo}
 use Rattle.sheet.specs.declared.Op.{Op}
 use Rattle.sheet.specs.declared.Op.the-variants.{Const, Not, And, Or, Read, Rejected}
@@ -123,30 +123,3 @@ module _ (s : ℕ) (e : List ℕ) (i d : ℕ) (h : i ≡ length e) (kept : Kept 
 
   pub not-one-left : (d ≡ 1 → ⊥) → parse s [] e ≡ broken Values
   not-one-left n = at-end ∙ ended s (kept .0) .1 (λ q. n (sym (kept .1) ∙ q))
-
--- The check that keeps the number of values alone agrees with the reading of trees.
-pub depth-check : (s : ℕ) (bs : List ℕ) (st : List Expr) → depthCheck s (length st) bs ≡ outcomeOf (parse s st bs)
-unfolding depthCheck parse final
-depth-check s [] [] = refl
-depth-check s [] (t ∷ []) = refl
-depth-check s [] (t ∷ (u ∷ st)) = simp (ne-eqb (suc (suc (length st))) 1 (λ q. omega arith))
-depth-check s (b ∷ bs) st =
-    ap (λ (x : Depth). onwards x (λ e. depthCheck s e bs)) (agrees s (opOf b) st) ∙ go (applyOp s (opOf b) st) (λ st′. depth-check s bs st′)
-  where
-    go : (n : Next) → ((st′ : List Expr) → depthCheck s (length st′) bs ≡ outcomeOf (parse s st′ bs)) → onwards (depthOf n) (λ e. depthCheck s e bs) ≡ outcomeOf (go-on n (λ st′. parse s st′ bs))
-    go (stack st′) rec = rec st′
-    go (breaks r) rec = refl
-
--- It accepts exactly the expressions that are read as one tree.
-pub depth-exactly : (s : ℕ) (bs : List ℕ) → (depthCheck s 0 bs ≡ outcome.Accepted) ↔ ((t : Expr) × (parse s [] bs ≡ tree t))
-depth-exactly s bs = (there, back)
-  where
-    there : depthCheck s 0 bs ≡ outcome.Accepted → (t : Expr) × (parse s [] bs ≡ tree t)
-    there h = go (parse s [] bs) (sym (depth-check s bs []) ∙ h)
-      where
-        go : (p : Parsed) → outcomeOf p ≡ outcome.Accepted → (t : Expr) × (p ≡ tree t)
-        go (tree t) q = (t, refl)
-        go (broken r) q = absurd (let y : _≡_ {A = ℕ} 0 1 = cc in omega arith)
-
-    back : (t : Expr) × (parse s [] bs ≡ tree t) → depthCheck s 0 bs ≡ outcome.Accepted
-    back h = depth-check s bs [] ∙ ap outcomeOf (h .1)

@@ -21,12 +21,3 @@ depthAfter s And d = cond (ltb d 2) (Refused Values) (Is (d - 1))
 depthAfter s Or d = cond (ltb d 2) (Refused Values) (Is (d - 1))
 depthAfter s (Read q o v) d = cond (ltb (q .0) s) (Is (d + 1)) (Refused Byte)
 depthAfter s (Rejected r) d = Refused r
-
-abbrev pub onwards : Depth → (ℕ → Outcome) → Outcome
-onwards (Is d) f = f d
-onwards (Refused r) f = outcome.Refused r
-
--- the check of an expression that keeps the number of values alone (the law `depth-check` of proofs/Depths.antt: it agrees with the trees)
-unfoldable pub depthCheck : ℕ → ℕ → List ℕ → Outcome
-depthCheck s d [] = cond (eqb d 1) outcome.Accepted (outcome.Refused Values)
-depthCheck s d (b ∷ bs) = onwards (depthAfter s (opOf b) d) (λ e. depthCheck s e bs)

@@ -13,12 +13,11 @@ use borrow.Author.Tests.{lt-ltb, le-ltb, le-leb, lt-leb}
 use Rattle.words.specs.Bits.{bit}
 use Rattle.words.proofs.BitLaws.{bit-none, bit-all, one-shl}
 use Rattle.words.proofs.JoinLaws.{bit-low, bit-above, bit-high-part, join-lt}
-use Rattle.sheet.specs.Expression.{Expr, constant, negation, conjunction, disjunction, read, tree, parse}
-use Rattle.sheet.specs.Postfix.{InSheet}
-use Rattle.sheet.proofs.Postfixes.{tree-exactly}
+use Rattle.sheet.specs.Expression.{Expr, tree, parse}
 use Rattle.sheet.specs.declared.Offset.{Offset}
 use Rattle.sheet.specs.declared.Offset.the-variants.{Earlier, Now, Later}
-use Rattle.lola.specs.Value.{Look, value}
+use Rattle.lola.specs.Value.{value}
+use Rattle.lola.proofs.ValueLaws.{value-of-bytes}
 use Rattle.lola.specs.Slots.{slots}
 use Rattle.lola.proofs.Places.{joint, lookAt, right}
 use Rattle.sheet.specs.Reading.{codeAt}
@@ -114,20 +113,6 @@ environment-of m letters buf t c e l h g bc be bl =
     at q Later false k = third c e l (bc .small) (be .small) (32 + q) q (omega arith) ∙ bl .low q k
     at q Later true k = third c e l (bc .small) (be .small) (40 + q) (8 + q) (omega arith) ∙ bl .high q k
 
--- ---- the value of an expression by its reads alone
-
-value-same : (s : ℕ) (x y : Look) → ((q : ℕ) (o : Offset) (d : Bool) → q < 8 → x q o d ≡ y q o d) → (t : Expr) → InSheet s t → value x t ≡ value y t
-unfolding value InSheet
-value-same s x y e (constant c) h = refl
-value-same s x y e (negation a) h = simp (value-same s x y e a h)
-value-same s x y e (conjunction a b) h = simp (value-same s x y e a (h .0), value-same s x y e b (h .1))
-value-same s x y e (disjunction a b) h = simp (value-same s x y e a (h .0), value-same s x y e b (h .1))
-value-same s x y e (read q o d) h = e q o d (h .1)
-
-pub value-of-bytes : (s : ℕ) (x y : Look) → ((q : ℕ) (o : Offset) (d : Bool) → q < 8 → x q o d ≡ y q o d) → (e : List ℕ) (t : Expr) → parse s [] e ≡ tree t
-    → value x t ≡ value y t
-value-of-bytes s x y f e t p = value-same s x y f t (tree-exactly s e t .0 p .1)
-
 -- `1 << m`
 pub shifted-one : (m : ℕ) → m ≤ 8 → (1 * 2 ^ m % 2 ^ 64 ≡ 2 ^ m) × (2 ^ m ≤ 256)
 shifted-one m h = let g : 2 ^ m ≤ 2 ^ 8 = pow-mono {i = m} {j = 8} h in (one-shl m (omega arith), omega arith)
@@ -156,7 +141,7 @@ unfolding sides right
 place-value m n code len letters buf s t env v x h e f =
     let p = x .parses s h in
     f (m + n) (treeIn (m + n) code len s) (ap (parse (m + n) []) (part-code code len s) ∙ p)
-    ∙ value-of-bytes (m + n) (slots env) (lookAt m (length letters) (valuesOf letters) (valuesOf buf) t) (e .reads) (codeAt code len s) (treeIn (m + n) code len s) p
+    ∙ value-of-bytes (slots env) (lookAt m (length letters) (valuesOf letters) (valuesOf buf) t) (e .reads) (m + n) (codeAt code len s) (treeIn (m + n) code len s) p
 
 -- ---- letters
 

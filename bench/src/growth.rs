@@ -1,7 +1,7 @@
 //! How the cost of the proved library grows with one thing at a time.
 
-use crate::measure;
-use crate::timing::shortest;
+use crate::measure::{ProvedTimes, Subject};
+use crate::timing::Effort;
 use crate::workloads::{dense, session_lines, Unheard, Workload};
 use jigwaret::raw;
 use outside::cases::session_sheet;
@@ -9,13 +9,10 @@ use outside::journal::{call_of_line, Call, Held};
 use outside::random::Random;
 use outside::sheet::{byte_of_read, write, NO_ASSUMPTION};
 
-/// Seconds of a preparation and of a round.
+/// How much there is of the thing that grows, and what it costs.
 pub struct Cost {
-    /// How much there is of the thing that grows.
     pub amount: usize,
-    pub pairs: f64,
-    pub preparation: f64,
-    pub round: f64,
+    pub times: ProvedTimes,
 }
 
 /// Expressions of so many bytes, each of two reads and negations. Each reads an input one round
@@ -32,26 +29,31 @@ fn padded(inputs: usize, outputs: usize, length: usize) -> Vec<u8> {
     write(inputs as u8, NO_ASSUMPTION, &expressions)
 }
 
-fn cost(amount: usize, sheet: Vec<u8>, unheard: usize) -> Cost {
-    let workload = Workload { name: "growth", sheet, rounds: 12 };
-    let preparation = measure::prepare(&workload).times.proved;
-    let found = measure::rounds(&workload, Unheard::Share(unheard));
-    Cost { amount, pairs: found.pairs, preparation, round: found.times.proved }
+fn workload(sheet: Vec<u8>) -> Workload {
+    Workload { name: "growth", sheet, rounds: 12 }
+}
+
+/// With nothing heard.
+fn cost(amount: usize, sheet: Vec<u8>) -> Cost {
+    Cost { amount, times: Subject::new(&workload(sheet)).proved(Effort::FULL, Unheard::Share(100)) }
 }
 
 /// By the number of streams, half of them inputs, with expressions of 15 bytes and nothing heard.
 pub fn by_streams() -> Vec<Cost> {
-    (2..=8usize).map(|streams| cost(streams, padded(streams.div_ceil(2), streams / 2, 15), 100)).collect()
+    (2..=8usize).map(|streams| cost(streams, padded(streams.div_ceil(2), streams / 2, 15))).collect()
 }
 
 /// By the bytes of an expression: the same values, with negations that cancel out.
 pub fn by_length() -> Vec<Cost> {
-    [3, 7, 15, 31, 63].map(|length| cost(length, padded(4, 3, length), 100)).into()
+    [3, 7, 15, 31, 63].map(|length| cost(length, padded(4, 3, length))).into()
 }
 
 /// By the share of inputs that were not heard, and so by the pairs reached.
 pub fn by_unheard() -> Vec<Cost> {
-    [0, 10, 30, 60, 100].map(|share| cost(share, dense(4, 4), share)).into()
+    let workload = workload(dense(4, 4));
+    let subject = Subject::new(&workload);
+    let cost = |share| Cost { amount: share, times: subject.proved(Effort::FULL, Unheard::Share(share)) };
+    [0, 10, 30, 60, 100].map(cost).into()
 }
 
 /// How many rounds are timed at once.
@@ -76,7 +78,7 @@ pub fn by_rounds() -> Vec<(usize, f64)> {
         while (held.record[0] as usize) < before {
             play(&mut held);
         }
-        let [time] = shortest([&mut || play(&mut held.clone())]);
+        let [time] = Effort::FULL.shortest([&mut || play(&mut held.clone())]);
         (before, time / STRETCH as f64)
     };
     [0, 10_000, 100_000, 999_000].map(seconds).into()

@@ -1,52 +1,88 @@
-//! Times the proved library against the same algorithm without a proof and a plain monitor, prints
-//! the tables and writes docs/BENCHMARKS.md.
+//! Times the proved library against the same algorithm without a proof, a straightforward monitor and
+//! the outside tests, prints the tables and writes docs/BENCHMARKS.md. With the argument `quick`, it
+//! prints the tables of checks, preparation, rounds and the program, from fewer repeats, and writes
+//! nothing.
 
-use bench::workloads::{self, Unheard};
-use bench::{growth, measure, program, report};
+use bench::measure::{self, CheckTimes, PreparationTimes, RoundTimes, Subject};
+use bench::timing::Effort;
+use bench::workloads::{self, Unheard, TRACE_LENGTHS};
+use bench::{growth, program, report};
 use outside::cases;
-use std::fs;
-use std::io;
 use std::path::Path;
+use std::{env, fs, io, process};
 
 fn main() -> io::Result<()> {
-    let text = document();
-    print!("{text}");
-    fs::write(Path::new(env!("CARGO_MANIFEST_DIR")).join("../docs/BENCHMARKS.md"), text)
+    let arguments: Vec<String> = env::args().skip(1).collect();
+    match arguments.iter().map(String::as_str).collect::<Vec<_>>()[..] {
+        [] => {
+            let text = document();
+            print!("{text}");
+            fs::write(Path::new(env!("CARGO_MANIFEST_DIR")).join("../docs/BENCHMARKS.md"), text)
+        }
+        ["quick"] => {
+            quick();
+            Ok(())
+        }
+        _ => {
+            eprintln!("usage: bench [quick]");
+            process::exit(2)
+        }
+    }
+}
+
+fn quick() {
+    println!("Checking a sheet\n\n{}", report::checks(&checks(Effort::QUICK)));
+    let (preparations, rounds) = journals(Effort::QUICK);
+    println!("Preparation\n\n{}", report::preparations(&preparations));
+    println!("A round\n\n{}", report::rounds(&rounds));
+    println!("The program\n\n{}", report::program(&program::time(Effort::QUICK)));
 }
 
 fn document() -> String {
-    let checks = [
-        measure::check("session", &cases::session_sheet()),
-        measure::check("formula", &workloads::formula()),
-        measure::check("longest", &cases::longest()),
-        measure::check("dense, 4 inputs", &workloads::dense(4, 4)),
-    ];
-    let journals = workloads::journals();
-    let preparations: Vec<_> = journals.iter().map(measure::prepare).collect();
-    let mut rounds = Vec::new();
-    for workload in &journals {
-        for share in [0, 30, 100] {
-            rounds.push(measure::rounds(workload, Unheard::Share(share)));
-        }
-        if workload.name == "formula" {
-            rounds.push(measure::rounds(workload, Unheard::First));
-        }
-    }
-    let traces: Vec<_> = workloads::traces()
-        .iter()
-        .flat_map(|workload| [1024, 4096].map(|rounds| measure::evaluate(workload, rounds)))
-        .collect();
+    let checks = checks(Effort::FULL);
+    let (preparations, rounds) = journals(Effort::FULL);
+    let evaluate = |workload| TRACE_LENGTHS.map(|rounds| measure::evaluate(Effort::FULL, workload, rounds));
+    let traces: Vec<_> = workloads::traces().iter().map(evaluate).collect();
+    let program = program::time(Effort::FULL);
     format!(
         include_str!("benchmarks.txt"),
         setting = report::setting(),
+        enough = Effort::FULL.enough,
+        targets = report::targets(&preparations, &rounds, &traces, &program),
         checks = report::checks(&checks),
         preparations = report::preparations(&preparations),
         rounds = report::rounds(&rounds),
         traces = report::traces(&traces),
-        program = report::program(&program::time()),
+        program = report::program(&program),
         by_streams = report::costs("streams", &growth::by_streams()),
         by_length = report::costs("bytes of an expression", &growth::by_length()),
         by_unheard = report::round_costs("of 100 inputs not heard", &growth::by_unheard()),
         by_rounds = report::lengths(&growth::by_rounds()),
     )
+}
+
+fn checks(effort: Effort) -> Vec<CheckTimes> {
+    let check = |name, sheet: Vec<u8>| measure::check(effort, name, &sheet);
+    vec![
+        check("session", cases::session_sheet()),
+        check("formula", workloads::formula()),
+        check("longest", cases::longest()),
+        check("dense, 4 inputs", workloads::dense(4, 4)),
+    ]
+}
+
+fn journals(effort: Effort) -> (Vec<PreparationTimes>, Vec<RoundTimes>) {
+    let mut preparations = Vec::new();
+    let mut rounds = Vec::new();
+    for workload in &workloads::journals() {
+        let subject = Subject::new(workload);
+        preparations.push(subject.preparation(effort));
+        for share in [0, 30, 100] {
+            rounds.push(subject.rounds(effort, Unheard::Share(share)));
+        }
+        if workload.name == "formula" {
+            rounds.push(subject.rounds(effort, Unheard::First));
+        }
+    }
+    (preparations, rounds)
 }

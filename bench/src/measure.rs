@@ -1,12 +1,13 @@
-//! Times of the proved library, of the same algorithm without a proof and of a plain monitor on the
-//! same inputs, after checking that their answers are the same.
+//! Times of the proved library and of what it is compared with on the same inputs, after checking that
+//! the answers are the same.
 
 use crate::fast::entries::{self, Journal};
 use crate::fast::{trace, Sheet};
-use crate::timing::{shortest, shortest_by_parts, Parts};
+use crate::straightforward;
+use crate::timing::{Effort, Parts};
 use crate::workloads::{self, Unheard, Workload};
 use jigwaret::raw;
-use outside::journal::{Answer, Book, Held};
+use outside::journal::{Book, Held};
 use outside::monitor::{Heard, Monitor};
 use outside::{circular, language};
 use std::hint::black_box;
@@ -14,13 +15,24 @@ use std::hint::black_box;
 /// Rounds are timed in parts that last so long at least, in seconds.
 const SHORTEST_PART: f64 = 60e-6;
 
-/// Seconds.
+/// Seconds of a function, in the library, in the same algorithm without a proof, and in the outside
+/// tests.
 #[derive(Clone, Copy)]
 pub struct Times {
     pub proved: f64,
-    /// The same algorithm, called as the library is.
     pub fast: f64,
     pub plain: f64,
+}
+
+/// Seconds of the monitors.
+#[derive(Clone, Copy)]
+pub struct MonitorTimes {
+    pub proved: f64,
+    /// The same algorithm, called as the library is.
+    pub fast: f64,
+    pub straightforward: f64,
+    /// The outside tests' monitor.
+    pub tabled: f64,
 }
 
 pub struct CheckTimes {
@@ -35,18 +47,27 @@ pub struct PreparationTimes {
     pub outputs: usize,
     pub live_pairs: u32,
     pub reach: usize,
-    pub times: Times,
+    pub times: MonitorTimes,
 }
 
 pub struct RoundTimes {
     pub name: &'static str,
+    pub streams: usize,
     pub unheard: Unheard,
     /// The mean number of pairs reached.
     pub pairs: f64,
     /// Of one round.
-    pub times: Times,
+    pub times: MonitorTimes,
     /// The same algorithm with a sheet that is read once.
     pub kept: f64,
+}
+
+/// Seconds of the library alone.
+pub struct ProvedTimes {
+    pub preparation: f64,
+    pub round: f64,
+    /// The mean number of pairs reached.
+    pub pairs: f64,
 }
 
 pub struct TraceTimes {
@@ -55,54 +76,184 @@ pub struct TraceTimes {
     pub times: Times,
 }
 
-fn times([proved, fast, plain]: [f64; 3]) -> Times {
-    Times { proved, fast, plain }
-}
-
 /// Rules 1 to 10.
-pub fn check(name: &'static str, sheet: &[u8]) -> CheckTimes {
+pub fn check(effort: Effort, name: &'static str, sheet: &[u8]) -> CheckTimes {
     let expected = circular::accept(sheet).err().unwrap_or(0);
     assert_eq!((raw::check(sheet), Sheet::accept(sheet).err().unwrap_or(0)), (expected, expected), "{name}");
-    let found = shortest([
+    let [proved, fast, plain] = effort.shortest([
         &mut || assert_eq!(raw::check(black_box(sheet)), expected),
         &mut || assert_eq!(Sheet::accept(black_box(sheet)).err().unwrap_or(0), expected),
         &mut || assert_eq!(circular::accept(black_box(sheet)).err().unwrap_or(0), expected),
     ]);
-    CheckTimes { name, bytes: sheet.len(), times: times(found) }
+    CheckTimes { name, bytes: sheet.len(), times: Times { proved, fast, plain } }
 }
 
-pub fn prepare(workload: &Workload) -> PreparationTimes {
-    let sheet = &workload.sheet;
-    let monitor = Monitor::new(sheet).expect("an accepted sheet");
-    let journal = Journal::prepare(Sheet::accept(sheet).expect("an accepted sheet"));
-    let (proved, fast) = both_prepared(sheet);
-    assert!(proved == fast, "{}: preparation", workload.name);
-    let live_pairs = proved.answer[0];
-    assert_eq!((live_pairs as usize, journal.reach), (monitor.live.count(), monitor.reach), "{}", workload.name);
-    let mut first = Held::fresh();
-    let mut second = Held::fresh();
-    let found = shortest([
-        &mut || assert_eq!(raw::prepare(sheet, &mut first.storage, &mut first.record, &mut first.answer), 0),
-        &mut || assert_eq!(entries::prepare(sheet, &mut second.storage, &mut second.record, &mut second.answer), 0),
-        &mut || assert!(black_box(Monitor::new(sheet)).is_ok()),
-    ]);
-    PreparationTimes {
-        name: workload.name,
-        inputs: sheet[5] as usize,
-        outputs: sheet[6] as usize,
-        live_pairs,
-        reach: journal.reach,
-        times: times(found),
+/// A workload with all that preparation finds in its sheet.
+pub struct Subject<'a> {
+    workload: &'a Workload,
+    /// By the library.
+    prepared: Held,
+    /// By the same algorithm, with the sheet read once.
+    kept: Journal<'a>,
+    straightforward: straightforward::Monitor,
+    tabled: Monitor,
+}
+
+impl Subject<'_> {
+    /// Prepares the sheet on all sides, and compares what they found.
+    pub fn new(workload: &Workload) -> Subject<'_> {
+        let (sheet, name) = (&workload.sheet, workload.name);
+        let (mut prepared, mut fast) = (Held::fresh(), Held::fresh());
+        assert_eq!((proved_preparation(sheet, &mut prepared), fast_preparation(sheet, &mut fast)), (0, 0), "{name}");
+        assert!(prepared == fast, "{name}: preparation");
+        let kept = Journal::prepare(Sheet::accept(sheet).expect("accepted by the others"));
+        let straightforward = straightforward::Monitor::new(sheet).expect("accepted by the others");
+        let tabled = Monitor::new(sheet).expect("accepted by the others");
+        let live = prepared.answer[0] as usize;
+        assert_eq!((straightforward.live.len(), tabled.live.count()), (live, live), "{name}");
+        assert_eq!((kept.live_pairs as usize, kept.reach), (live, tabled.reach), "{name}");
+        Subject { workload, prepared, kept, straightforward, tabled }
+    }
+
+    pub fn preparation(&self, effort: Effort) -> PreparationTimes {
+        let sheet = &self.workload.sheet;
+        let (mut first, mut second) = (Held::fresh(), Held::fresh());
+        let [proved, fast, straightforward, tabled] = effort.shortest([
+            &mut || assert_eq!(proved_preparation(sheet, &mut first), 0),
+            &mut || assert_eq!(fast_preparation(sheet, &mut second), 0),
+            &mut || assert!(black_box(straightforward::Monitor::new(sheet)).is_ok()),
+            &mut || assert!(black_box(Monitor::new(sheet)).is_ok()),
+        ]);
+        PreparationTimes {
+            name: self.workload.name,
+            inputs: self.tabled.sheet.inputs,
+            outputs: self.tabled.sheet.outputs(),
+            live_pairs: self.prepared.answer[0],
+            reach: self.tabled.reach,
+            times: MonitorTimes { proved, fast, straightforward, tabled },
+        }
+    }
+
+    pub fn rounds(&self, effort: Effort, unheard: Unheard) -> RoundTimes {
+        let sheet = &self.workload.sheet;
+        let heard = workloads::rounds(self.workload, &self.tabled, unheard);
+        let pairs = self.same_answers(&heard);
+        let stretches = self.stretches(effort, &heard);
+        let [proved, fast, kept, straightforward, tabled] = effort
+            .shortest_by_parts([
+                &mut |parts| {
+                    let mut held = self.prepared.clone();
+                    stretches.play(parts, |round| assert_eq!(proved_round(sheet, &mut held, round), 0));
+                },
+                &mut |parts| {
+                    let mut held = self.prepared.clone();
+                    stretches.play(parts, |round| assert_eq!(fast_round(sheet, &mut held, round), 0));
+                },
+                &mut |parts| {
+                    let mut kept = self.kept.clone();
+                    stretches.play(parts, |round| assert!(kept.round(round.known, round.value).is_ok()));
+                },
+                &mut |parts| {
+                    let mut journal = straightforward::Journal::new(&self.straightforward);
+                    stretches.play(parts, |round| assert!(journal.round(round.known, round.value).is_ok()));
+                },
+                &mut |parts| {
+                    let mut book = Book::new(&self.tabled);
+                    stretches.play(parts, |round| assert!(book.round(round).is_ok()));
+                },
+            ])
+            .map(|time| time / heard.len() as f64);
+        let times = MonitorTimes { proved, fast, straightforward, tabled };
+        let streams = self.tabled.sheet.inputs + self.tabled.sheet.outputs();
+        RoundTimes { name: self.workload.name, streams, unheard, pairs, times, kept }
+    }
+
+    /// The library alone, on a journal that the others answer alike.
+    pub fn proved(&self, effort: Effort, unheard: Unheard) -> ProvedTimes {
+        let sheet = &self.workload.sheet;
+        let heard = workloads::rounds(self.workload, &self.tabled, unheard);
+        let pairs = self.same_answers(&heard);
+        let mut held = Held::fresh();
+        let [preparation] = effort.shortest([&mut || assert_eq!(proved_preparation(sheet, &mut held), 0)]);
+        let stretches = self.stretches(effort, &heard);
+        let [journal] = effort.shortest_by_parts([&mut |parts| {
+            let mut held = self.prepared.clone();
+            stretches.play(parts, |round| assert_eq!(proved_round(sheet, &mut held, round), 0));
+        }]);
+        ProvedTimes { preparation, round: journal / heard.len() as f64, pairs }
+    }
+
+    /// So many rounds at once last long enough to be timed, even with the fastest monitor.
+    fn stretches<'a>(&self, effort: Effort, heard: &'a [Heard]) -> Stretches<'a> {
+        let [fastest] = effort.shortest([&mut || {
+            let mut kept = self.kept.clone();
+            heard.iter().for_each(|round| assert!(kept.round(round.known, round.value).is_ok()));
+        }]);
+        Stretches { heard, length: (SHORTEST_PART / fastest * heard.len() as f64).ceil() as usize }
+    }
+
+    /// Plays a journal on all sides and compares numbers, verdicts and records after each call, and the
+    /// storage of the two that have some. Returns the mean number of pairs reached.
+    fn same_answers(&self, heard: &[Heard]) -> f64 {
+        let (sheet, name) = (&self.workload.sheet, self.workload.name);
+        let (mut proved, mut fast, mut kept) = (self.prepared.clone(), self.prepared.clone(), self.kept.clone());
+        let mut journal = straightforward::Journal::new(&self.straightforward);
+        let mut book = Book::new(&self.tabled);
+        let n = self.tabled.sheet.outputs();
+        let mut pairs = 0;
+        for &round in heard {
+            let numbers = (proved_round(sheet, &mut proved, round), fast_round(sheet, &mut fast, round));
+            assert_eq!(numbers, (0, 0), "{name}");
+            assert!(proved == fast, "{name}: round {}", proved.record[0]);
+            let own = kept.round(round.known, round.value).expect("accepted by the others");
+            let direct = journal.round(round.known, round.value).expect("accepted by the others");
+            let tabled = book.round(round).expect("accepted by the others");
+            for k in 0..n {
+                let verdicts = [own[k] as u32, direct[k] as u32, tabled.verdicts[k] as u32];
+                assert_eq!(verdicts, [proved.answer[k]; 3], "{name}");
+                assert_eq!([journal.counts[k], book.counts[k]], [proved.counts(k); 2], "{name}");
+            }
+            assert_eq!(kept.record[..], proved.record[..], "{name}");
+            pairs += proved.storage[1028..2056].iter().map(|word| word.count_ones()).sum::<u32>();
+        }
+        let first = raw::close(sheet, &proved.storage, &mut proved.record, &mut proved.answer);
+        let second = entries::close(sheet, &fast.storage, &mut fast.record, &mut fast.answer);
+        assert_eq!((first, second), (0, 0), "{name}");
+        assert!(proved == fast, "{name}: closing");
+        let own = kept.close().expect("accepted by the others");
+        let direct = journal.close().expect("accepted by the others");
+        let tabled = book.close().expect("accepted by the others");
+        for k in 0..n {
+            let verdicts = [own.0[k] as u32, direct.0[k] as u32, tabled.verdicts[k] as u32];
+            assert_eq!(verdicts, [proved.answer[k]; 3], "{name}: closing");
+            assert_eq!([own.1[k], direct.1[k], tabled.shares[k]], [proved.answer[n + k]; 3], "{name}: closing");
+        }
+        pairs as f64 / heard.len() as f64
     }
 }
 
-/// What the library and the fast entries prepare.
-fn both_prepared(sheet: &[u8]) -> (Held, Held) {
-    let mut proved = Held::fresh();
-    let mut fast = Held::fresh();
-    assert_eq!(raw::prepare(sheet, &mut proved.storage, &mut proved.record, &mut proved.answer), 0);
-    assert_eq!(entries::prepare(sheet, &mut fast.storage, &mut fast.record, &mut fast.answer), 0);
-    (proved, fast)
+/// A journal's rounds, so many of which are timed at once.
+struct Stretches<'a> {
+    heard: &'a [Heard],
+    length: usize,
+}
+
+impl Stretches<'_> {
+    fn play(&self, parts: &mut Parts, mut take: impl FnMut(Heard)) {
+        parts.end_part();
+        for stretch in self.heard.chunks(self.length) {
+            stretch.iter().for_each(|&round| take(round));
+            parts.end_part();
+        }
+    }
+}
+
+fn proved_preparation(sheet: &[u8], held: &mut Held) -> u32 {
+    raw::prepare(sheet, &mut held.storage, &mut held.record, &mut held.answer)
+}
+
+fn fast_preparation(sheet: &[u8], held: &mut Held) -> u32 {
+    entries::prepare(sheet, &mut held.storage, &mut held.record, &mut held.answer)
 }
 
 fn proved_round(sheet: &[u8], held: &mut Held, heard: Heard) -> u32 {
@@ -113,96 +264,17 @@ fn fast_round(sheet: &[u8], held: &mut Held, heard: Heard) -> u32 {
     entries::round(sheet, &mut held.storage, &mut held.record, heard.known, heard.value, &mut held.answer)
 }
 
-pub fn rounds(workload: &Workload, unheard: Unheard) -> RoundTimes {
-    let sheet = &workload.sheet;
-    let monitor = Monitor::new(sheet).expect("an accepted sheet");
-    let heard = workloads::rounds(workload, &monitor, unheard);
-    let pairs = same_answers(workload, &monitor, &heard);
-    let (prepared, _) = both_prepared(sheet);
-    let journal = Journal::prepare(Sheet::accept(sheet).expect("an accepted sheet"));
-    // So many rounds at once last long enough to be timed, even with the fastest monitor.
-    let [fastest] = shortest([&mut || play_kept(&mut journal.clone(), &heard)]);
-    let length = (SHORTEST_PART / fastest * heard.len() as f64).ceil() as usize;
-    let each_part = |parts: &mut Parts, play: &mut dyn FnMut(&[Heard])| {
-        parts.end_part();
-        for part in heard.chunks(length) {
-            play(part);
-            parts.end_part();
-        }
-    };
-    let [proved, fast, kept, plain] = shortest_by_parts([
-        &mut |parts| {
-            let mut held = prepared.clone();
-            let mut take = |&round: &Heard| assert_eq!(proved_round(sheet, &mut held, round), 0);
-            each_part(parts, &mut |part| part.iter().for_each(&mut take));
-        },
-        &mut |parts| {
-            let mut held = prepared.clone();
-            let mut take = |&round: &Heard| assert_eq!(fast_round(sheet, &mut held, round), 0);
-            each_part(parts, &mut |part| part.iter().for_each(&mut take));
-        },
-        &mut |parts| {
-            let mut kept = journal.clone();
-            each_part(parts, &mut |part| play_kept(&mut kept, part));
-        },
-        &mut |parts| {
-            let mut book = Book::new(&monitor);
-            let mut take = |&round: &Heard| assert!(book.round(round).is_ok());
-            each_part(parts, &mut |part| part.iter().for_each(&mut take));
-        },
-    ])
-    .map(|time| time / heard.len() as f64);
-    RoundTimes { name: workload.name, unheard, pairs, times: Times { proved, fast, plain }, kept }
-}
-
-fn play_kept(journal: &mut Journal, heard: &[Heard]) {
-    heard.iter().for_each(|round| assert!(journal.round(round.known, round.value).is_ok()));
-}
-
-/// Plays a journal on all sides and compares numbers, verdicts, records and storage after each call.
-/// Returns the mean number of pairs reached.
-fn same_answers(workload: &Workload, monitor: &Monitor, heard: &[Heard]) -> f64 {
-    let (sheet, name) = (&workload.sheet, workload.name);
-    let (mut proved, mut fast) = both_prepared(sheet);
-    let mut kept = Journal::prepare(Sheet::accept(sheet).expect("an accepted sheet"));
-    let mut book = Book::new(monitor);
-    let n = monitor.sheet.outputs();
-    let mut pairs = 0;
-    for &round in heard {
-        assert_eq!((proved_round(sheet, &mut proved, round), fast_round(sheet, &mut fast, round)), (0, 0), "{name}");
-        assert!(proved == fast, "{name}: round {}", proved.record[0]);
-        let verdicts = kept.round(round.known, round.value).expect("accepted by the others");
-        let Answer { verdicts: plain, .. } = book.round(round).expect("accepted by the others");
-        for k in 0..n {
-            assert_eq!((verdicts[k] as u32, plain[k] as u32), (proved.answer[k], proved.answer[k]), "{name}");
-        }
-        assert_eq!(kept.record[..], proved.record[..], "{name}");
-        pairs += proved.storage[1028..2056].iter().map(|word| word.count_ones()).sum::<u32>();
-    }
-    let first = raw::close(sheet, &proved.storage, &mut proved.record, &mut proved.answer);
-    let second = entries::close(sheet, &fast.storage, &mut fast.record, &mut fast.answer);
-    assert_eq!((first, second), (0, 0), "{name}");
-    assert!(proved == fast, "{name}: closing");
-    let (verdicts, shares) = kept.close().expect("accepted by the others");
-    let plain = book.close().expect("accepted by the others");
-    for k in 0..n {
-        assert_eq!((verdicts[k] as u32, shares[k]), (proved.answer[k], proved.answer[n + k]), "{name}");
-        assert_eq!((plain.verdicts[k] as u32, plain.shares[k]), (proved.answer[k], proved.answer[n + k]), "{name}");
-    }
-    pairs as f64 / heard.len() as f64
-}
-
-pub fn evaluate(workload: &Workload, rounds: usize) -> TraceTimes {
+pub fn evaluate(effort: Effort, workload: &Workload, rounds: usize) -> TraceTimes {
     let (sheet, name) = (&workload.sheet, workload.name);
     let letters = workloads::letters(workload, rounds);
     let expected = language::evaluate(sheet, &letters, rounds).expect("an accepted sheet");
     let (mut first, mut second) = (vec![0; rounds], vec![0; rounds]);
     assert_eq!((raw::evaluate(sheet, &letters, &mut first), &first), (0, &expected), "{name}");
     assert_eq!((trace::evaluate(sheet, &letters, &mut second), &second), (0, &expected), "{name}");
-    let found = shortest([
+    let [proved, fast, plain] = effort.shortest([
         &mut || assert_eq!(raw::evaluate(sheet, &letters, &mut first), 0),
         &mut || assert_eq!(trace::evaluate(sheet, &letters, &mut second), 0),
         &mut || assert!(black_box(language::evaluate(sheet, &letters, rounds)).is_ok()),
     ]);
-    TraceTimes { name, rounds, times: times(found) }
+    TraceTimes { name, rounds, times: Times { proved, fast, plain } }
 }

@@ -1,6 +1,6 @@
 //! The proved program `journal` and the unproved one on the same journal.
 
-use crate::timing::clock;
+use crate::timing::{clock, Effort};
 use crate::workloads::session_lines;
 use outside::cases::session_sheet;
 use outside::random::Random;
@@ -11,7 +11,6 @@ use std::path::{Path, PathBuf};
 use std::process::{Command, Stdio};
 
 pub const ROUNDS: usize = 1_000_000;
-const REPEATS: usize = 5;
 
 /// Seconds of both.
 pub struct Timed {
@@ -20,7 +19,7 @@ pub struct Timed {
 }
 
 /// Times both programs, or tells what is missing.
-pub fn time() -> Result<Timed, String> {
+pub fn time(effort: Effort) -> Result<Timed, String> {
     let package = Path::new(env!("CARGO_MANIFEST_DIR"));
     let proved = package.join("../target/bin/journal");
     let fast = env::current_exe().map_err(|error| error.to_string())?.with_file_name("journal");
@@ -30,20 +29,20 @@ pub fn time() -> Result<Timed, String> {
         }
     }
     let folder = env::temp_dir().join(format!("jigwaret-bench-{}", std::process::id()));
-    let timed = time_in(&folder, &proved, &fast);
+    let timed = time_in(&folder, &proved, &fast, effort.program_runs);
     // What is left behind does no harm.
     let _ = fs::remove_dir_all(&folder);
     timed.map_err(|error| error.to_string())
 }
 
-fn time_in(folder: &Path, proved: &Path, fast: &Path) -> io::Result<Timed> {
+fn time_in(folder: &Path, proved: &Path, fast: &Path, runs: usize) -> io::Result<Timed> {
     fs::create_dir_all(folder)?;
     fs::write(folder.join("sheet.slr"), session_sheet())?;
     fs::write(folder.join("lines"), session_lines(&mut Random::new(3), ROUNDS) + ".\n")?;
     let programs = [proved.canonicalize()?, fast.canonicalize()?];
     let outputs = ["proved", "fast"].map(|name| folder.join(name));
     let mut best = [f64::INFINITY; 2];
-    for _ in 0..REPEATS {
+    for _ in 0..runs {
         for (i, program) in programs.iter().enumerate() {
             best[i] = best[i].min(run(program, folder, &outputs[i])?);
         }

@@ -1,8 +1,9 @@
 //! The measurements as a document.
 
 use crate::growth::Cost;
-use crate::measure::{CheckTimes, PreparationTimes, RoundTimes, TraceTimes};
+use crate::measure::{CheckTimes, MonitorTimes, PreparationTimes, RoundTimes, TraceTimes};
 use crate::program::{Timed, ROUNDS};
+use crate::workloads::TRACE_LENGTHS;
 use std::fmt::Write;
 use std::fs;
 use std::time::{SystemTime, UNIX_EPOCH};
@@ -52,7 +53,17 @@ pub fn checks(all: &[CheckTimes]) -> String {
 
 pub fn preparations(all: &[PreparationTimes]) -> String {
     table(
-        &["sheet", "inputs", "outputs", "live pairs", "reach", "proved : fast", "plain : proved", "proved, time here"],
+        &[
+            "sheet",
+            "inputs",
+            "outputs",
+            "live pairs",
+            "reach",
+            "proved : fast",
+            "straightforward : proved",
+            "tabled : proved",
+            "proved, time here",
+        ],
         all.iter().map(|each| {
             let times = each.times;
             vec![
@@ -62,7 +73,8 @@ pub fn preparations(all: &[PreparationTimes]) -> String {
                 each.live_pairs.to_string(),
                 each.reach.to_string(),
                 ratio(times.proved / times.fast),
-                ratio(times.plain / times.proved),
+                ratio(times.straightforward / times.proved),
+                ratio(times.tabled / times.proved),
                 seconds(times.proved),
             ]
         }),
@@ -77,7 +89,8 @@ pub fn rounds(all: &[RoundTimes]) -> String {
             "pairs reached",
             "proved : fast",
             "proved : fast, sheet kept",
-            "plain : proved",
+            "straightforward : proved",
+            "tabled : proved",
             "proved, time of a round here",
         ],
         all.iter().map(|each| {
@@ -88,17 +101,18 @@ pub fn rounds(all: &[RoundTimes]) -> String {
                 format!("{:.0}", each.pairs),
                 ratio(times.proved / times.fast),
                 ratio(times.proved / each.kept),
-                ratio(times.plain / times.proved),
+                ratio(times.straightforward / times.proved),
+                ratio(times.tabled / times.proved),
                 seconds(times.proved),
             ]
         }),
     )
 }
 
-pub fn traces(all: &[TraceTimes]) -> String {
+pub fn traces(all: &[[TraceTimes; 2]]) -> String {
     table(
         &["sheet", "rounds", "proved : fast", "plain : proved", "proved, time here"],
-        all.iter().map(|each| {
+        all.iter().flatten().map(|each| {
             let times = each.times;
             vec![
                 each.name.to_string(),
@@ -125,8 +139,9 @@ pub fn program(timed: &Result<Timed, String>) -> String {
 pub fn round_costs(what: &str, all: &[Cost]) -> String {
     table(
         &[what, "pairs reached", "a round"],
-        all.iter()
-            .map(|each| vec![each.amount.to_string(), format!("{:.0}", each.pairs), ratio(each.round / all[0].round)]),
+        all.iter().map(|Cost { amount, times }| {
+            vec![amount.to_string(), format!("{:.0}", times.pairs), ratio(times.round / all[0].times.round)]
+        }),
     )
 }
 
@@ -134,12 +149,12 @@ pub fn round_costs(what: &str, all: &[Cost]) -> String {
 pub fn costs(what: &str, all: &[Cost]) -> String {
     table(
         &[what, "pairs reached", "preparation", "a round"],
-        all.iter().map(|each| {
+        all.iter().map(|Cost { amount, times }| {
             vec![
-                each.amount.to_string(),
-                format!("{:.0}", each.pairs),
-                ratio(each.preparation / all[0].preparation),
-                ratio(each.round / all[0].round),
+                amount.to_string(),
+                format!("{:.0}", times.pairs),
+                ratio(times.preparation / all[0].times.preparation),
+                ratio(times.round / all[0].times.round),
             ]
         }),
     )
@@ -150,6 +165,92 @@ pub fn lengths(all: &[(usize, f64)]) -> String {
         &["rounds before", "a round"],
         all.iter().map(|(rounds, seconds)| vec![rounds.to_string(), ratio(seconds / all[0].1)]),
     )
+}
+
+/// The most of proved : fast.
+const MOST_OVER_FAST: f64 = 1.3;
+/// The least of straightforward : proved.
+const LEAST_SPEED: f64 = 30.0;
+/// The most of a longer trace : a shorter one.
+const MOST_GROWTH: f64 = 5.0;
+/// The most of the proved program : the unproved one.
+const MOST_OVER_PROGRAM: f64 = 1.5;
+
+/// A ratio, and what it was found on.
+type Found = (f64, String);
+
+/// The targets, and how far this run met them.
+pub fn targets(
+    preparations: &[PreparationTimes],
+    rounds: &[RoundTimes],
+    traces: &[[TraceTimes; 2]],
+    program: &Result<Timed, String>,
+) -> String {
+    let prepared = |fewest_streams: usize, ratio: fn(MonitorTimes) -> f64| -> Vec<Found> {
+        let sheets = preparations.iter().filter(|each| each.inputs + each.outputs >= fewest_streams);
+        sheets.map(|each| (ratio(each.times), each.name.to_string())).collect()
+    };
+    let heard = |fewest_streams: usize, ratio: fn(MonitorTimes) -> f64| -> Vec<Found> {
+        let journals = rounds.iter().filter(|each| each.streams >= fewest_streams);
+        let name = |each: &RoundTimes| format!("{}, {} not heard", each.name, each.unheard.name());
+        journals.map(|each| (ratio(each.times), name(each))).collect()
+    };
+    let over_fast = |times: MonitorTimes| times.proved / times.fast;
+    let of_straightforward = |times: MonitorTimes| times.straightforward / times.proved;
+    let longer = |[short, long]: &[TraceTimes; 2]| (long.times.proved / short.times.proved, long.name.to_string());
+    let timed = |timed: &Timed| (timed.proved / timed.fast, "session".to_string());
+    let [short, long] = TRACE_LENGTHS;
+    [
+        target(
+            format!("Proved takes at most {MOST_OVER_FAST} times as long as fast, in preparation and in rounds."),
+            |ratio| ratio <= MOST_OVER_FAST,
+            &[("preparation", prepared(0, over_fast)), ("rounds", heard(0, over_fast))],
+        ),
+        target(
+            format!("Proved is at least {LEAST_SPEED} times as fast as straightforward on sheets of 8 streams."),
+            |ratio| ratio >= LEAST_SPEED,
+            &[("preparation", prepared(8, of_straightforward)), ("rounds", heard(8, of_straightforward))],
+        ),
+        target(
+            format!(
+                "A whole trace of {long} rounds takes proved at most {MOST_GROWTH} times as long as one of {short}."
+            ),
+            |ratio| ratio <= MOST_GROWTH,
+            &[("whole traces", traces.iter().map(longer).collect())],
+        ),
+        target(
+            format!("The program `journal` takes at most {MOST_OVER_PROGRAM} times as long as the unproved one."),
+            |ratio| ratio <= MOST_OVER_PROGRAM,
+            &[("program", program.iter().map(timed).collect())],
+        ),
+    ]
+    .concat()
+}
+
+/// A sentence, whether all ratios meet it, and for each group how many do, and the smallest and the
+/// largest.
+fn target(sentence: String, met: impl Fn(f64) -> bool, groups: &[(&str, Vec<Found>)]) -> String {
+    let all: Vec<&Found> = groups.iter().flat_map(|(_, found)| found).collect();
+    let outcome = match all[..] {
+        [] => "Not measured",
+        _ if all.iter().all(|(value, _)| met(*value)) => "Met",
+        _ => "Not met",
+    };
+    let mut text = format!("- {sentence} **{outcome}.**\n");
+    for (name, found) in groups {
+        let mut sorted: Vec<&Found> = found.iter().collect();
+        sorted.sort_by(|one, other| one.0.total_cmp(&other.0));
+        let count = found.iter().filter(|(value, _)| met(*value)).count();
+        let shown = |(value, on): &Found| format!("{} ({on})", ratio(*value));
+        text += &match sorted[..] {
+            [] => String::new(),
+            [only] => format!("  - {name}: {}\n", shown(only)),
+            [least, .., most] => {
+                format!("  - {name}: {count} of {} meet it; from {} to {}\n", found.len(), shown(least), shown(most))
+            }
+        };
+    }
+    text
 }
 
 /// The kind of machine and today's date.
@@ -193,6 +294,19 @@ mod tests {
         assert_eq!(civil(59), (1970, 3, 1));
         assert_eq!(civil(11_016), (2000, 2, 29));
         assert_eq!(civil(20_454), (2026, 1, 1));
+    }
+
+    #[test]
+    fn targets_by_hand() {
+        let met = |found: &[f64]| {
+            let found = found.iter().map(|&ratio| (ratio, format!("sheet {ratio}"))).collect();
+            target("At most 2.".to_string(), |ratio| ratio <= 2.0, &[("rounds", found)])
+        };
+        assert_eq!(met(&[]), "- At most 2. **Not measured.**\n");
+        assert_eq!(met(&[1.5]), "- At most 2. **Met.**\n  - rounds: 1.50 (sheet 1.5)\n");
+        let found = met(&[2.0, 2.5, 0.5]);
+        let expected = "  - rounds: 2 of 3 meet it; from 0.50 (sheet 0.5) to 2.50 (sheet 2.5)\n";
+        assert_eq!(found, format!("- At most 2. **Not met.**\n{expected}"));
     }
 
     #[test]

@@ -45,6 +45,9 @@ pub fn journals() -> Vec<Workload> {
     ]
 }
 
+/// The rounds of the whole traces that are timed.
+pub const TRACE_LENGTHS: [usize; 2] = [1024, 4096];
+
 pub fn traces() -> Vec<Workload> {
     let workload = |name, sheet| Workload { name, sheet, rounds: 4096 };
     vec![

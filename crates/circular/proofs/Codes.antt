@@ -1,10 +1,9 @@
 -- The tables of numbers that the code keeps stand for the tables of entries. Assumes nothing.
 use mathlib.Core.Path.{_≡_, refl, sym, subst, ap, ap₂, _∙_}
-use Prim.Native.Nat.{ℕ, zero, suc, _+_, _*_, _-_, _/_, _%_, _^_, _≤_, _<_}
+use Prim.Native.Nat.{ℕ, zero, suc, _+_, _*_, _-_, _^_, _≤_, _<_}
 use mathlib.Core.Bool.{Bool, true, false, _&&_, false≢true}
 use mathlib.Core.List.{List}
 use native.Mathlib.Omega.{arith}
-use native.Mathlib.Decide.{ℕ-discrete}
 use native.Mathlib.Numerals.{add-one}
 use lib.Pow.{pow-mono}
 use lib.ListN.{getD}
@@ -13,17 +12,16 @@ use borrow.Author.Tests.{ltb-true, ltb-false, leb-true, leb-false, lt-ltb, le-lt
 use Rattle.circular.proofs.Closure.{Entry, none, fin, unb, pick, larger, plus, blow, loop, top, Best}
 use Rattle.circular.proofs.Decide.{turned, atLeast0, circularAt, circular?, circular?-true, circular?-of}
 use Rattle.words.specs.Below.{anyBelow}
-use Rattle.words.proofs.AnyLaws.{some-any}
-use Rattle.circular.specs.Circular.{Circular}
-use Rattle.circular.specs.Table.{pickN, largerN, clipN, plusN, loopN, cellN, bestN, Small, NextEntered, Next, Closed, readsOf, topN, baseN, Based}
-use Rattle.words.specs.Bits.{bit}
+use Rattle.words.proofs.AnyLaws.{some-any, none-any}
+use Rattle.circular.specs.Circular.{Edge, Reach, last, then, Circular}
+use Rattle.circular.specs.Table.{pickN, largerN, clipN, plusN, loopN, cellN, bestN, topN, baseN, Next, Based, Closed}
 
 -- bounds
 pick-le : (b : Bool) (x y : ℕ) → x ≤ 4096 → y ≤ 4096 → pickN b x y ≤ 4096
 pick-le true x y h g = h
 pick-le false x y h g = g
 
-larger-le : (x y : ℕ) → x ≤ 4096 → y ≤ 4096 → largerN x y ≤ 4096
+pub larger-le : (x y : ℕ) → x ≤ 4096 → y ≤ 4096 → largerN x y ≤ 4096
 unfolding largerN
 larger-le x y h g = pick-le (ltb x y) y x g h
 
@@ -35,7 +33,7 @@ clip-le s = go (leb 5120 s) refl
     go true e = omega arith
     go false e = omega (arith, leb-false 5120 s e)
 
-plus-le : (x y : ℕ) → plusN x y ≤ 4096
+pub plus-le : (x y : ℕ) → plusN x y ≤ 4096
 unfolding plusN
 plus-le x y =
     pick-le (eqb x 0) 0 _ (omega arith)
@@ -46,79 +44,6 @@ plus-le x y =
 pub loop-le : (c x : ℕ) → x ≤ 4096 → loopN c x ≤ 4096
 unfolding loopN
 loop-le c x h = pick-le (leb c 1024) x _ h (pick-le (eqb x 0) 0 4096 (omega arith) (omega arith))
-
-pub best-le : (g : List ℕ) → Small g → (k i j : ℕ) → i < 7 → j < 7 → bestN g k i j ≤ 4096
-unfolding bestN
-best-le g h zero i j hi hj = h .small (7 * i + j) (omega arith)
-best-le g h (suc k) i j hi hj =
-    larger-le (bestN g k i j) (plusN (bestN g k i k) (loopN (bestN g k k k) (bestN g k k j)))
-    (best-le g h k i j hi hj) (plus-le (bestN g k i k) (loopN (bestN g k k k) (bestN g k k j)))
-
--- an output that no walk leads to changes nothing
-pub cell-same : (old : List ℕ) (k i : ℕ) → getD old (i / 7 * 7 + k) 0 ≡ 0 → cellN old k i ≡ getD old i 0
-unfolding cellN plusN largerN
-cell-same old k i e =
-    ap (λ (x : ℕ). largerN (getD old i 0) (plusN x (loopN (getD old (8 * k) 0) (getD old (7 * k + i % 7) 0)))) e
-    ∙ ap (λ (b : Bool). pickN b 0 (getD old i 0)) (le-ltb (getD old i 0) 0 (omega arith))
-
-pub none-entered : (old : List ℕ) (k : ℕ) → ((i : ℕ) → i < 7 → getD old (7 * i + k) 0 ≡ 0) → Next old k old
-none-entered old k f = record {
-  cells = λ i h.
-      let e : i / 7 * 7 + k ≡ 7 * (i / 7) + k = omega arith in
-      sym (cell-same old k i (ap (λ (p : ℕ). getD old p 0) e ∙ f (i / 7) (omega arith)));
-}
-
-pub entered-more : (old : List ℕ) (k n : ℕ) → getD old (7 * n + k) 0 ≡ 0 → ((i : ℕ) → i < n → getD old (7 * i + k) 0 ≡ 0) → (i : ℕ) → i < n + 1 → getD old (7 * i + k) 0 ≡ 0
-entered-more old k n e f i h = go (ℕ-discrete i n)
-  where
-    go : Dec (i ≡ n) → getD old (7 * i + k) 0 ≡ 0
-    go (yes d) = ap (λ (p : ℕ). getD old (7 * p + k) 0) d ∙ e
-    go (no d) = f i (omega arith)
-
--- the flat table after k stages
-pub record Stage (g : List ℕ) (k : ℕ) (t : List ℕ) : Type 0 where
-  pub cells : (i : ℕ) → i < 49 → getD t i 0 ≡ bestN g k (i / 7) (i % 7)
-
-pub stage-start : (g : List ℕ) → Stage g 0 g
-unfolding bestN
-stage-start g = record { cells = λ i h. ap (λ z. getD g z 0) (omega arith) }
-
-pub stage-small : (g : List ℕ) (k : ℕ) (t : List ℕ) → Small g → Stage g k t → Small t
-stage-small g k t h s = record { small = λ i b. subst (λ z. z ≤ 4096) (sym (s .cells i b)) (best-le g h k (i / 7) (i % 7) (omega arith) (omega arith)) }
-
-at-cell : (g : List ℕ) (k : ℕ) (t : List ℕ) → Stage g k t → (i a b : ℕ) → i < 49 → i / 7 ≡ a → i % 7 ≡ b → getD t i 0 ≡ bestN g k a b
-at-cell g k t s i a b h p q = s .cells i h ∙ ap₂ (bestN g k) p q
-
-pub stage-next : (g : List ℕ) (k : ℕ) (t u : List ℕ) → k < 7 → Stage g k t → Next t k u → Stage g (k + 1) u
-unfolding cellN bestN
-stage-next g k t u h s x = record { cells = λ i b. go i b }
-  where
-    go : (i : ℕ) → i < 49 → getD u i 0 ≡ bestN g (k + 1) (i / 7) (i % 7)
-    go i b =
-        rw add-one
-        (x .cells i b
-        ∙ ap₂ largerN (s .cells i b)
-        (ap₂ plusN
-        (at-cell g k t s (i / 7 * 7 + k) (i / 7) k (omega arith) (omega arith) (omega arith))
-        (ap₂ loopN
-        (at-cell g k t s (8 * k) k k (omega arith) (omega arith) (omega arith))
-        (at-cell g k t s (7 * k + i % 7) k (i % 7) (omega arith) (omega arith) (omega arith)))))
-
--- stages of outputs that no walk leads to leave the table as it is
-pub stage-skip : (g t : List ℕ) (from r : ℕ) → NextEntered t from r → Stage g from t → Stage g r t
-stage-skip g t from r n s = go (r - from) from (omega (arith, n .onward)) (omega arith) s
-  where
-    go : (d k : ℕ) → k + d ≡ r → from ≤ k → Stage g k t → Stage g r t
-    go zero k e l s = let q : k ≡ r = omega arith in subst (λ (z : ℕ). Stage g z t) q s
-    go (suc d) k e l s = go d (k + 1) (omega arith) (omega arith) (stage-next g k t t (omega (arith, n .inside)) s (none-entered t k (n .skipped k l (omega arith))))
-
-pub skipped-more : (t : List ℕ) (from n : ℕ) → ((k : ℕ) → from ≤ k → k < n → (i : ℕ) → i < 7 → getD t (7 * i + k) 0 ≡ 0) → ((i : ℕ) → i < 7 → getD t (7 * i + n) 0 ≡ 0)
-    → (k : ℕ) → from ≤ k → k < n + 1 → (i : ℕ) → i < 7 → getD t (7 * i + k) 0 ≡ 0
-skipped-more t from n f e k l h i b = go (ℕ-discrete k n)
-  where
-    go : Dec (k ≡ n) → getD t (7 * i + k) 0 ≡ 0
-    go (yes d) = ap (λ (z : ℕ). getD t (7 * i + z) 0) d ∙ e i b
-    go (no d) = f k l (omega arith) i b
 
 -- a number stands for an entry whose weight is at most w either way
 abbrev pub Rep : ℕ → Entry → ℕ → Type 0
@@ -193,20 +118,20 @@ pow-le : (k : ℕ) → k ≤ 7 → 2 ^ k ≤ 128
 pow-le k h = pow-mono h
 
 -- the table of codes stands for the table of entries
-module _ (E : ℕ → ℕ → ℕ → Bool) (g : List ℕ) (base : (i j : ℕ) → i < 7 → j < 7 → Rep 1 (top (E i j 0) (E i j 1) (E i j 2)) (getD g (7 * i + j) 0)) where
-  pub rep-best : (k i j : ℕ) → k ≤ 7 → i < 7 → j < 7 → Rep (2 ^ k) (Best E k i j) (bestN g k i j)
+module _ (E : ℕ → ℕ → ℕ → Bool) where
+  pub rep-best : (g : ℕ → ℕ → ℕ) → ((i j : ℕ) → Rep 1 (top (E i j 0) (E i j 1) (E i j 2)) (g i j)) → (k i j : ℕ) → k ≤ 7 → Rep (2 ^ k) (Best E k i j) (bestN g k i j)
   unfolding Best bestN
-  rep-best zero i j h hi hj = base i j hi hj
-  rep-best (suc k) i j h hi hj =
+  rep-best g base zero i j h = base i j
+  rep-best g base (suc k) i j h =
       let b : 2 ^ k ≤ 128 = pow-le k (omega arith) in
       rep-wider (2 ^ k + 2 ^ k) (2 ^ suc k)
       (larger (Best E k i j) (plus (Best E k i k) (loop (Best E k k k) (Best E k k j))))
       (largerN (bestN g k i j) (plusN (bestN g k i k) (loopN (bestN g k k k) (bestN g k k j)))) (omega arith)
       (rep-larger (2 ^ k + 2 ^ k) (Best E k i j) (plus (Best E k i k) (loop (Best E k k k) (Best E k k j))) (bestN g k i j) (plusN (bestN g k i k) (loopN (bestN g k k k) (bestN g k k j))) (omega arith)
-      (rep-wider (2 ^ k) (2 ^ k + 2 ^ k) (Best E k i j) (bestN g k i j) (omega arith) (rep-best k i j (omega arith) hi hj))
+      (rep-wider (2 ^ k) (2 ^ k + 2 ^ k) (Best E k i j) (bestN g k i j) (omega arith) (rep-best g base k i j (omega arith)))
       (rep-plus (2 ^ k) (Best E k i k) (loop (Best E k k k) (Best E k k j)) (bestN g k i k) (loopN (bestN g k k k) (bestN g k k j)) (omega arith)
-      (rep-best k i k (omega arith) hi h)
-      (rep-loop (2 ^ k) (Best E k k k) (Best E k k j) (bestN g k k k) (bestN g k k j) (omega arith) (rep-best k k k (omega arith) h h) (rep-best k k j (omega arith) h hj))))
+      (rep-best g base k i k (omega arith))
+      (rep-loop (2 ^ k) (Best E k k k) (Best E k k j) (bestN g k k k) (bestN g k k j) (omega arith) (rep-best g base k k k (omega arith)) (rep-best g base k k j (omega arith)))))
 
 rep-up : (w : ℕ) (a : Entry) (x : ℕ) → w ≤ 512 → Rep w a x → leb 1024 x ≡ atLeast0 a
 unfolding atLeast0
@@ -218,43 +143,50 @@ rep-up w (fin p l) x h r = go (leb l p) refl
     go false e = lt-leb 1024 x (omega (arith, leb-false l p e))
 rep-up w unb x h r = le-leb 1024 x (omega arith)
 
--- the base tables
+-- the largest weights of single reads
 top-le : (a b c : Bool) → topN a b c ≤ 4096
 unfolding topN
 top-le a b c = pick-le c 1025 _ (omega arith) (pick-le b 1024 _ (omega arith) (pick-le a 1023 0 (omega arith) (omega arith)))
 
-pub based-small : (masks : List ℕ) (up : Bool) (g : List ℕ) → Based masks up g → Small g
+pub base-le : (up : Bool) (e : ℕ → Bool) → baseN up e ≤ 4096
 unfolding baseN
-based-small masks true g h = record { small = λ i b. rw (h .cells i b) (top-le (bit 0 (getD masks i 0)) (bit 1 (getD masks i 0)) (bit 2 (getD masks i 0))) }
-based-small masks false g h = record { small = λ i b. rw (h .cells i b) (top-le (bit 2 (getD masks i 0)) (bit 1 (getD masks i 0)) (bit 0 (getD masks i 0))) }
+base-le true e = top-le (e 0) (e 1) (e 2)
+base-le false e = top-le (e 2) (e 1) (e 0)
 
-based-rep : (masks g : List ℕ) → Based masks true g → (i j : ℕ) → i < 7 → j < 7 → Rep 1 (top (readsOf masks i j 0) (readsOf masks i j 1) (readsOf masks i j 2)) (getD g (7 * i + j) 0)
-unfolding readsOf baseN
-based-rep masks g h i j hi hj =
-    let x = getD masks (7 * i + j) 0 in
-    subst (Rep 1 (top (bit 0 x) (bit 1 x) (bit 2 x))) (sym (h .cells (7 * i + j) (omega arith))) (rep-top (bit 0 x) (bit 1 x) (bit 2 x))
+pub base-same : (up : Bool) (e f : ℕ → Bool) → ((o : ℕ) → o ≤ 2 → e o ≡ f o) → baseN up e ≡ baseN up f
+unfolding baseN
+base-same true e f h = rw (h 0 (omega arith), h 1 (omega arith), h 2 (omega arith)) refl
+base-same false e f h = rw (h 0 (omega arith), h 1 (omega arith), h 2 (omega arith)) refl
 
-turned-rep : (masks g : List ℕ) → Based masks false g → (i j : ℕ) → i < 7 → j < 7 → Rep 1 (top (turned (readsOf masks) i j 0) (turned (readsOf masks) i j 1) (turned (readsOf masks) i j 2)) (getD g (7 * i + j) 0)
-unfolding readsOf baseN turned
-turned-rep masks g h i j hi hj =
-    let x = getD masks (7 * i + j) 0 in
-    subst (Rep 1 (top (bit 2 x) (bit 1 x) (bit 0 x))) (sym (h .cells (7 * i + j) (omega arith))) (rep-top (bit 2 x) (bit 1 x) (bit 0 x))
+-- the table after k stages
+pub record Stage (n : ℕ) (g : ℕ → ℕ → ℕ) (k : ℕ) (t : List ℕ) : Type 0 where
+  pub cells : (i j : ℕ) → i < n → j < n → getD t (8 * i + j) 0 ≡ bestN g k i j
 
-diagonal : (g r : List ℕ) → Closed g r → (s : ℕ) → s < 7 → getD r (8 * s) 0 ≡ bestN g 7 s s
-diagonal g r c s h = c .cells (8 * s) (omega arith) ∙ ap₂ (bestN g 7) (omega arith) (omega arith)
+module _ (n : ℕ) (g : ℕ → ℕ → ℕ) where
+  pub stage-start : (t : List ℕ) → Based n g t → Stage n g 0 t
+  unfolding bestN
+  stage-start t b = record { cells = b .cells }
 
-pub rising-is : (masks g r : List ℕ) → Based masks true g → Closed g r → (s : ℕ) → s < 7 → leb 1024 (getD r (8 * s) 0) ≡ atLeast0 (Best (readsOf masks) 7 s s)
-rising-is masks g r b c s h =
-    rw (diagonal g r c s h)
-    (rep-up 128 (Best (readsOf masks) 7 s s) (bestN g 7 s s) (omega arith) (rep-best (readsOf masks) g (based-rep masks g b) 7 s s (omega arith) h h))
+  pub stage-next : (k : ℕ) (t u : List ℕ) → k < n → n ≤ 8 → Stage n g k t → Next n t k u → Stage n g (k + 1) u
+  unfolding cellN bestN
+  stage-next k t u h l s x =
+      record {
+        cells = λ i j hi hj.
+            rw add-one
+            (x .cells i j hi (omega arith)
+            ∙ ap₂ largerN (s .cells i j hi hj) (ap₂ plusN (s .cells i k hi h) (ap₂ loopN (s .cells k k h h) (s .cells k j h hj))));
+      }
 
-pub falling-is : (masks g r : List ℕ) → Based masks false g → Closed g r → (s : ℕ) → s < 7 → leb 1024 (getD r (8 * s) 0) ≡ atLeast0 (Best (turned (readsOf masks)) 7 s s)
-falling-is masks g r b c s h =
-    rw (diagonal g r c s h)
-    (rep-up 128 (Best (turned (readsOf masks)) 7 s s) (bestN g 7 s s) (omega arith) (rep-best (turned (readsOf masks)) g (turned-rep masks g b) 7 s s (omega arith) h h))
+  pub stage-closed : (k : ℕ) (t : List ℕ) → k ≡ n → Stage n g k t → Closed n g t
+  stage-closed k t e s = record { cells = λ i j hi hj. s .cells i j hi hj ∙ ap (λ z. bestN g z i j) e }
 
-pub stage-closed : (g : List ℕ) (k : ℕ) (t : List ℕ) → k ≡ 7 → Stage g k t → Closed g t
-stage-closed g k t e s = record { cells = λ i h. s .cells i h ∙ ap (λ z. bestN g z (i / 7) (i % 7)) e }
+-- the entries of closed walks
+module _ (n : ℕ) (few : n ≤ 7) (E : ℕ → ℕ → ℕ → Bool) where
+  closed-is : (g : ℕ → ℕ → ℕ) → ((i j : ℕ) → Rep 1 (top (E i j 0) (E i j 1) (E i j 2)) (g i j)) → (r : List ℕ) → Closed n g r
+      → (s : ℕ) → s < n → leb 1024 (getD r (8 * s + s) 0) ≡ atLeast0 (Best E n s s)
+  closed-is g base r c s h =
+      rw (c .cells s s h h)
+      (rep-up (2 ^ n) (Best E n s s) (bestN g n s s) (omega (arith, pow-le n few)) (rep-best E g base n s s few))
 
 -- the scan
 and-true : (a b x y : Bool) → x ≡ a → y ≡ b → x ≡ true → y ≡ true → a && b ≡ true
@@ -271,28 +203,52 @@ pub any-more : (f : ℕ → Bool) (s : ℕ) → anyBelow s f ≡ false → f s �
 unfolding anyBelow
 any-more f s h e = rw add-one (rw e h)
 
-module _ (masks g g′ r r′ : List ℕ) (b : Based masks true g) (b′ : Based masks false g′) (c : Closed g r) (c′ : Closed g′ r′) (s : ℕ) (h : s < 7) where
-  pub at-both : 1024 ≤ getD r (8 * s) 0 → 1024 ≤ getD r′ (8 * s) 0 → circularAt 7 (readsOf masks) s ≡ true
-  unfolding circularAt
-  at-both p q =
-      and-true (atLeast0 (Best (readsOf masks) 7 s s)) (atLeast0 (Best (turned (readsOf masks)) 7 s s)) (leb 1024 (getD r (8 * s) 0)) (leb 1024 (getD r′ (8 * s) 0))
-      (rising-is masks g r b c s h) (falling-is masks g′ r′ b′ c′ s h) (le-leb _ _ p) (le-leb _ _ q)
-
-  pub at-first : getD r (8 * s) 0 < 1024 → circularAt 7 (readsOf masks) s ≡ false
-  unfolding circularAt
-  at-first p =
-      and-false-l (atLeast0 (Best (readsOf masks) 7 s s)) (atLeast0 (Best (turned (readsOf masks)) 7 s s)) (leb 1024 (getD r (8 * s) 0)) (rising-is masks g r b c s h) (lt-leb _ _ p)
-
-  pub at-second : getD r′ (8 * s) 0 < 1024 → circularAt 7 (readsOf masks) s ≡ false
-  unfolding circularAt
-  at-second q =
-      and-false-r (atLeast0 (Best (readsOf masks) 7 s s)) (atLeast0 (Best (turned (readsOf masks)) 7 s s)) (leb 1024 (getD r′ (8 * s) 0)) (falling-is masks g′ r′ b′ c′ s h) (lt-leb _ _ q)
-
 -- what the scan comes to, by the definition
-pub yes-circular : (E : ℕ → ℕ → ℕ → Bool) (s : ℕ) → s < 7 → circularAt 7 E s ≡ true → Circular 7 E
+yes-circular : (n : ℕ) (E : ℕ → ℕ → ℕ → Bool) (s : ℕ) → s < n → circularAt n E s ≡ true → Circular n E
 unfolding circular?
-yes-circular E s h e = circular?-true 7 E (some-any 7 (circularAt 7 E) s h e)
+yes-circular n E s h e = circular?-true n E (some-any n (circularAt n E) s h e)
 
-pub not-circular : (E : ℕ → ℕ → ℕ → Bool) (s : ℕ) → s ≡ 7 → anyBelow s (circularAt 7 E) ≡ false → Circular 7 E → ⊥
+pub not-circular : (n : ℕ) (E : ℕ → ℕ → ℕ → Bool) (s : ℕ) → s ≡ n → anyBelow s (circularAt n E) ≡ false → Circular n E → ⊥
 unfolding circular?
-not-circular E s e h c = false≢true (sym (rw e at h) ∙ circular?-of 7 E c)
+not-circular n E s e h c = false≢true (sym (rw e at h) ∙ circular?-of n E c)
+
+-- no reads at all
+pub none-reads : (n : ℕ) (E : ℕ → ℕ → ℕ → Bool) → ((s : ℕ) → s < n → (q o : ℕ) → E s q o ≡ false) → Circular n E → ⊥
+none-reads n E f c = go (c .reach)
+  where
+    no-edge : {s q o : ℕ} → Edge n E s q o → ⊥
+    no-edge {s} {q} {o} e = false≢true (sym (f s (e .from) q o) ∙ e .is)
+
+    go : {N s t q u : ℕ} → Reach n E N s t q u → ⊥
+    go (last r) = no-edge (r .edge)
+    go (then r w) = no-edge (r .edge)
+
+module _ (n : ℕ) (few : n ≤ 7) (E : ℕ → ℕ → ℕ → Bool) (r : List ℕ) (c : Closed n (λ s q. baseN true (E s q)) r) where
+  rising-is : (s : ℕ) → s < n → leb 1024 (getD r (8 * s + s) 0) ≡ atLeast0 (Best E n s s)
+  unfolding baseN
+  rising-is = closed-is n few E (λ s q. baseN true (E s q)) (λ i j. rep-top (E i j 0) (E i j 1) (E i j 2)) r c
+
+  pub at-first : (s : ℕ) → s < n → getD r (8 * s + s) 0 < 1024 → circularAt n E s ≡ false
+  unfolding circularAt
+  at-first s h p = and-false-l (atLeast0 (Best E n s s)) (atLeast0 (Best (turned E) n s s)) (leb 1024 (getD r (8 * s + s) 0)) (rising-is s h) (lt-leb _ _ p)
+
+  -- no closed walk of weight at least 0
+  pub none-rises : ((s : ℕ) → s < n → getD r (8 * s + s) 0 < 1024) → Circular n E → ⊥
+  none-rises f = not-circular n E n refl (none-any n (circularAt n E) (λ s h. at-first s h (f s h)))
+
+  module _ (r′ : List ℕ) (c′ : Closed n (λ s q. baseN false (E s q)) r′) where
+    falling-is : (s : ℕ) → s < n → leb 1024 (getD r′ (8 * s + s) 0) ≡ atLeast0 (Best (turned E) n s s)
+    unfolding baseN turned
+    falling-is = closed-is n few (turned E) (λ s q. baseN false (E s q)) (λ i j. rep-top (E i j 2) (E i j 1) (E i j 0)) r′ c′
+
+    pub at-both : (s : ℕ) → s < n → 1024 ≤ getD r (8 * s + s) 0 → 1024 ≤ getD r′ (8 * s + s) 0 → Circular n E
+    unfolding circularAt
+    at-both s h p q =
+        yes-circular n E s h
+        (and-true (atLeast0 (Best E n s s)) (atLeast0 (Best (turned E) n s s)) (leb 1024 (getD r (8 * s + s) 0)) (leb 1024 (getD r′ (8 * s + s) 0))
+        (rising-is s h) (falling-is s h) (le-leb _ _ p) (le-leb _ _ q))
+
+    pub at-second : (s : ℕ) → s < n → getD r′ (8 * s + s) 0 < 1024 → circularAt n E s ≡ false
+    unfolding circularAt
+    at-second s h q =
+        and-false-r (atLeast0 (Best E n s s)) (atLeast0 (Best (turned E) n s s)) (leb 1024 (getD r′ (8 * s + s) 0)) (falling-is s h) (lt-leb _ _ q)

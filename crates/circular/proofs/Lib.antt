@@ -3,6 +3,7 @@ pub mod Walks
 pub mod Closure
 pub mod Decide
 pub mod Codes
+pub mod Rows
 pub mod Fill
 pub mod Pigeon
 pub mod Unique

@@ -1,5 +1,5 @@
 -- The words and masks of reads. Assumes nothing.
-use mathlib.Core.Path.{_≡_, refl, sym, _∙_}
+use mathlib.Core.Path.{_≡_, refl, sym, ap, _∙_}
 use Prim.Native.Nat.{ℕ, suc, _+_, _-_, _*_, _/_, _%_, _^_, _≤_, _<_}
 use native.Mathlib.Omega.{arith}
 use native.Mathlib.Numerals.{add-one}
@@ -26,10 +26,10 @@ use Rattle.lola.specs.Reads.{place}
 use Rattle.circular.specs.Circular.{Circular, CircularSheet, edges}
 use Rattle.circular.specs.Table as table
 use Rattle.lola.specs.ByteReads.{opReads, bytesRead}
-use Rattle.circular.specs.Masks.{Marks, Rows, Mask, Masks, Tells}
-use Rattle.sheet.proofs.Formed.{usable-formed}
+use Rattle.circular.specs.Masks.{Marks, Rows, Mask, Masks, Tells, readsOfCode}
 use Rattle.circular.proofs.Bools.{and-r, or-assoc, or-false}
-use Rattle.circular.proofs.Trees.{edges-are, outputs-are, edge-in}
+use Rattle.circular.proofs.Codes.{base-same}
+use Rattle.circular.proofs.Trees.{edges-are, outputs-are}
 use Rattle.circular.proofs.Sweep.{circular-map}
 
 -- a byte names one of 8 streams
@@ -125,16 +125,44 @@ tells x u ws masks r m = record { reads = λ s q o hs hq ho. go s q o hs hq ho }
         let c : Mask (getD ws s 0) (x .inputs + q) (getD masks (7 * s + q) 0) = rw (row, col) at (m .cells (7 * s + q) (omega arith)) in
         c .bits o ho ∙ r .rows s hs .bits (x .inputs + q) o ho ∙ sym (edges-are x u s q o)
 
--- so the table is circular just where the sheet is
-module _ (x : Sheet) (u : Usable x) (masks : List ℕ) (t : Tells (ruleSheet x) masks) where
-  pub told-circular : Circular 7 (table.readsOf masks) → CircularSheet (ruleSheet x)
-  told-circular =
-      circular-map (λ s q o e. edge-in (ruleSheet x) (usable-formed x u) s q o (e .off) (sym (t .reads s q o (e .from) (e .to) (e .off)) ∙ e .is))
+-- the largest weight of a mask's reads is that of the word's
+pub mask-base : (up : Bool) (w m q x : ℕ) → Mask w (m + q) x → table.baseN up (λ o. bit o x) ≡ table.baseN up (table.readsOfWord w m q)
+unfolding table.readsOfWord
+mask-base up w m q x h = base-same up (λ o. bit o x) (λ o. bit (3 * (m + q) + o) w) (h .bits)
 
-  pub circular-told : CircularSheet (ruleSheet x) → Circular 7 (table.readsOf masks)
+-- a word with no bit from 3 m on has no read of an output
+pub no-reads : (w m : ℕ) → w / 2 ^ (3 * m) ≡ 0 → (q o : ℕ) → table.readsOfWord w m q o ≡ false
+unfolding table.readsOfWord
+no-reads w m e q o =
+    let at : 3 * (m + q) + o ≡ 3 * m + (3 * q + o) = omega arith in
+    ap (λ i. bit i w) at ∙ sym (bit-shr (3 * q + o) (3 * m) w) ∙ rw e (bit-none (3 * q + o))
+
+-- the words tell the reads of the bytes
+module _ (code len : List ℕ) (m n : ℕ) (ws : List ℕ) (few : n ≤ 7) (r : Rows code len n ws) where
+  word-reads : (s q o : ℕ) → s < n → o ≤ 2 → table.readsOfWords ws m s q o ≡ readsOfCode code len m n s q o
+  unfolding table.readsOfWord readsOfCode
+  word-reads s q o h l = r .rows s (omega arith) .bits (m + q) o l
+
+  pub told-circular : Circular n (table.readsOfWords ws m) → Circular n (readsOfCode code len m n)
+  told-circular =
+      circular-map (λ s q o e. record { from = e .from; to = e .to; off = e .off; is = sym (word-reads s q o (e .from) (e .off)) ∙ e .is })
+
+  pub circular-told : Circular n (readsOfCode code len m n) → Circular n (table.readsOfWords ws m)
   circular-told =
+      circular-map (λ s q o e. record { from = e .from; to = e .to; off = e .off; is = word-reads s q o (e .from) (e .off) ∙ e .is })
+
+-- and those of the sheet
+module _ (x : Sheet) (u : Usable x) where
+  pub sheet-circular : Circular (x .outputs) (readsOfCode (x .code) (x .len) (x .inputs) (x .outputs)) → CircularSheet (ruleSheet x)
+  unfolding readsOfCode
+  sheet-circular =
       circular-map
       (λ s q o e.
-      let hs : s < 7 = omega (arith, e .from, outputs-are x u, u .ranges .outputs) in
-      let hq : q < 7 = omega (arith, e .to, outputs-are x u, u .ranges .outputs) in
-      record { from = hs; to = hq; off = e .off; is = t .reads s q o hs hq (e .off) ∙ e .is })
+      record { from = omega (arith, e .from, outputs-are x u); to = omega (arith, e .to, outputs-are x u); off = e .off; is = edges-are x u s q o ∙ e .is })
+
+  pub circular-sheet : CircularSheet (ruleSheet x) → Circular (x .outputs) (readsOfCode (x .code) (x .len) (x .inputs) (x .outputs))
+  unfolding readsOfCode
+  circular-sheet =
+      circular-map
+      (λ s q o e.
+      record { from = omega (arith, e .from, outputs-are x u); to = omega (arith, e .to, outputs-are x u); off = e .off; is = sym (edges-are x u s q o) ∙ e .is })

@@ -21,6 +21,10 @@ pub record Marks (e : List ℕ) (w : ℕ) : Type 0 where
 abbrev pub bytesOf : List ℕ → List ℕ → ℕ → ℕ → List ℕ
 bytesOf code len n s = cond (ltb s n) (codeAt code len s) []
 
+-- the reads between n outputs, from their bytes: output q is stream m + q
+unfoldable pub readsOfCode : List ℕ → List ℕ → ℕ → ℕ → ℕ → ℕ → ℕ → Bool
+readsOfCode code len m n s q o = bytesRead (bytesOf code len n s) (m + q) o
+
 -- the words of the outputs
 pub record Rows (code len : List ℕ) (n : ℕ) (ws : List ℕ) : Type 0 where
   pub rows : (s : ℕ) → s < 7 → Marks (bytesOf code len n s) (getD ws s 0)

@@ -69,7 +69,8 @@ fn output_reads(code: &[u8], len: &[usize], n: usize, s: usize) -> u64
     expression_reads(&code[from..to])
 }
 
-fn all_reads(code: &[u8], len: &[usize], n: usize) -> [u64; 7]
+// The words of the outputs.
+pub fn all_reads<'a>(code: &'a [u8], len: &'a [usize], n: usize) -> [u64; 7]
     requires { ⌜ (n ≤ 7) × (length (now code) ≡ 448) × (length (now len) ≡ 7) × ((k : ℕ) → k < n → getD (now len) k 0 ≤ 64) ⌝ }
     ensures { λ r. ⌜ Rows (now (code .entry)) (now (len .entry)) n r ⌝ }
 {
@@ -83,7 +84,7 @@ fn all_reads(code: &[u8], len: &[usize], n: usize) -> [u64; 7]
 }
 
 // The offsets at which a word has a read of a stream: 1 earlier, 2 now, 4 later, added up.
-fn mask_at(word: u64, stream: StreamNo) -> u8
+pub fn mask_at(word: u64, stream: StreamNo) -> u8
     requires { ⌜ stream .0 < 16 ⌝ }
     ensures { λ r. ⌜ Mask word (stream .0) r ⌝ }
 {
@@ -111,9 +112,7 @@ pub fn sheet_masks(x: Sheet) -> [u8; 49]
     requires { ⌜ Usable x ⌝ }
     ensures { λ r. ⌜ Tells (ruleSheet x) r ⌝ }
 {
-    let code = x.code;
-    let len = x.len;
     let n = x.outputs as usize;
-    let words = all_reads(&code, &len, n);
+    let words = all_reads(&x.code, &x.len, n);
     masks_of(&words, x.inputs)
 }

@@ -1,200 +1,231 @@
-// The circularity check on a table of reads: Kleene's algorithm for the largest weights of walks between outputs.
+// The circularity check on the reads between outputs: Kleene's algorithm for the largest weights of walks.
 ghost use mathlib.Core.Path.{_≡_};
 ghost use mathlib.Core.Bool.{true, false};
 ghost use Prim.Native.Nat.{ℕ, _+_, _*_, _<_, _≤_};
 ghost use lib.ListN.{getD};
+ghost use Rattle.words.specs.Bits.{bit};
 ghost use Rattle.circular.specs.Circular.{Circular};
-ghost use Rattle.circular.specs.Table.{largerN, plusN, loopN, cellN, Small, NextEntered, Next, Closed, baseN, Based, readsOf};
+ghost use Rattle.circular.specs.Table.{pickN, largerN, clipN, plusN, loopN, topN, baseN, readsOfWord, readsOfWords, Small, Part, Tails, joinedN, Next, Based, Closed};
+use super::reads::mask_at;
+use sheet::OutputNo;
 
-// An entry tells the largest weight of the walks from one output to another, where a read one round earlier weighs -1 and one round later
-// 1: LEVEL plus the weight.
-const NO_WALK: u32 = 0;
+// A table has 8 rows of 8 entries. Entry 8 * s + q tells the largest weight of the walks from output s to output q, where a read one round
+// earlier weighs -1 and one round later 1: LEVEL plus the weight.
+const NO_WALK: u16 = 0;
 
-const LEVEL: u32 = 1024;
+const LEVEL: u16 = 1024;
 
-const LOWER: u32 = 1023;
+const LOWER: u16 = 1023;
 
-const HIGHER: u32 = 1025;
+const HIGHER: u16 = 1025;
 
-const UNBOUNDED: u32 = 4096;
+const UNBOUNDED: u16 = 4096;
 // A sum of two entries from here on would be UNBOUNDED or more.
-const BEYOND: u32 = 5120;
+const BEYOND: u16 = 5120;
+
+// The first of two entries, or the second.
+fn pick(first: bool, x: u16, y: u16) -> u16
+    ensures { λ r. ⌜ r ≡ pickN first x y ⌝ }
+{
+    if first { x } else { y }
+}
 
 // The larger weight.
-fn larger(x: u32, y: u32) -> u32
+fn larger(x: u16, y: u16) -> u16
     ensures { λ r. ⌜ r ≡ largerN x y ⌝ }
 {
-    if x < y { y } else { x }
+    pick(x < y, y, x)
+}
+
+// A sum of two entries, as an entry.
+fn clip(s: u16) -> u16
+    ensures { λ r. ⌜ r ≡ clipN s ⌝ }
+{
+    if s < LEVEL {
+        return NO_WALK;
+    }
+    pick(BEYOND <= s, UNBOUNDED, s - LEVEL)
 }
 
 // One walk after the other.
-fn plus(x: u32, y: u32) -> u32
+fn plus(x: u16, y: u16) -> u16
     requires { ⌜ (x ≤ 4096) × (y ≤ 4096) ⌝ }
     ensures { λ r. ⌜ r ≡ plusN x y ⌝ }
 {
-    if x == NO_WALK {
-        return NO_WALK;
-    }
-    if y == NO_WALK {
-        return NO_WALK;
-    }
-    if x == UNBOUNDED {
-        return UNBOUNDED;
-    }
-    if y == UNBOUNDED {
-        return UNBOUNDED;
-    }
-    let s = x + y;
-    if BEYOND <= s {
-        return UNBOUNDED;
-    }
-    if LEVEL <= s {
-        return s - LEVEL;
-    }
-    NO_WALK
+    let bounded = pick(y == UNBOUNDED, UNBOUNDED, clip(x + y));
+    let some = pick(x == UNBOUNDED, UNBOUNDED, bounded);
+    pick(x == NO_WALK, NO_WALK, pick(y == NO_WALK, NO_WALK, some))
 }
 
 // Any number of rounds of a closed walk of weight c, and then x.
-fn looped(c: u32, x: u32) -> u32
+fn looped(c: u16, x: u16) -> u16
     ensures { λ r. ⌜ r ≡ loopN c x ⌝ }
 {
     if c <= LEVEL {
         return x;
     }
-    if x == NO_WALK {
-        return NO_WALK;
-    }
-    UNBOUNDED
+    pick(x == NO_WALK, NO_WALK, UNBOUNDED)
 }
 
-// Whether some walk leads to output k.
-fn is_entered(old: &[u32; 49], k: usize) -> bool
-    requires { ⌜ k < 7 ⌝ }
-    ensures { λ r. ⌜ (r ≡ false → (i : ℕ) → i < 7 → getD (now (old .entry)) (7 * i + k) 0 ≡ 0) ⌝ }
+// Walks from output k, after any number of rounds of a closed walk there.
+fn tails(t: &[u16], k: usize) -> [u16; 8]
+    requires { ⌜ (k < 8) × Small (now t) ⌝ }
+    ensures { λ r. ⌜ Tails (now (t .entry)) k r ⌝ }
 {
-    let mut i: usize = 0;
-    while i < 7 {
-        if old[7 * i + k] != NO_WALK {
-            return true;
-        }
-        i += 1;
-    }
-    false
-}
-
-// The first output from `from` on that some walk leads to, or 7 if there is none.
-fn next_entered(t: &[u32; 49], from: usize) -> usize
-    requires { ⌜ from ≤ 7 ⌝ }
-    ensures { λ r. ⌜ NextEntered (now (t .entry)) from r ⌝ }
-{
-    let mut k = from;
-    while k < 7 {
-        if is_entered(t, k) {
-            return k;
-        }
-        k += 1;
-    }
-    7
-}
-
-// Walks that may also pass through output k, for one pair of outputs.
-fn cell(old: &[u32; 49], k: usize, i: usize) -> u32
-    requires { ⌜ (k < 7) × (i < 49) × Small (now old) ⌝ }
-    ensures { λ r. ⌜ r ≡ cellN (now (old .entry)) k i ⌝ }
-{
-    let row = i / 7 * 7 + k;
-    if old[row] == NO_WALK {
-        return old[i];
-    }
-    let col = 7 * k + i % 7;
-    let mid = 8 * k;
-    let tail = looped(old[mid], old[col]);
-    let via = plus(old[row], tail);
-    larger(old[i], via)
-}
-
-// The same for all pairs.
-fn stage(old: &[u32; 49], k: usize) -> [u32; 49]
-    requires { ⌜ (k < 7) × Small (now old) ⌝ }
-    ensures { λ r. ⌜ Next (now (old .entry)) k r ⌝ }
-{
-    let mut new = [0u32; 49];
-    let mut i = 0;
-    while i < 49 {
-        new[i] = cell(old, k, i);
-        i += 1;
+    let around = t[8 * k + k];
+    let mut new = [0u16; 8];
+    let mut q: usize = 0;
+    while q < 8 {
+        new[q] = looped(around, t[8 * k + q]);
+        q += 1;
     }
     new
 }
 
-// Walks of any length, from single reads. No walk passes through an output that none leads to.
-fn closed(g: &[u32; 49]) -> [u32; 49]
-    requires { ⌜ Small (now g) ⌝ }
-    ensures { λ r. ⌜ Closed (now (g .entry)) r ⌝ }
+// The walks of row i, and those that go to an output and then on from there.
+fn extend(t: &mut [u16], i: usize, to: u16, tails: &[u16; 8])
+    requires { ⌜ (i < 8) × (to ≤ 4096) × Small (now t) × ((q : ℕ) → q < 8 → getD (now tails) q 0 ≤ 4096) ⌝ }
+    ensures { λ r. ⌜ Small (now (t .exit)) × Part (8 * i) 8 (joinedN (now (t .entry)) i to (now (tails .entry))) (now (t .entry)) (now (t .exit)) ⌝ }
 {
-    let mut t = *g;
-    let mut k = next_entered(&t, 0);
-    while k < 7 {
-        t = stage(&t, k);
-        k = next_entered(&t, k + 1);
+    if to == NO_WALK {
+        return;
+    }
+    let mut q: usize = 0;
+    while q < 8 {
+        let at = 8 * i + q;
+        t[at] = larger(t[at], plus(to, tails[q]));
+        q += 1;
+    }
+}
+
+// Walks that may also pass through output k.
+fn stage(t: &mut [u16], k: usize, n: usize)
+    requires { ⌜ (k < n) × (n ≤ 7) × Small (now t) ⌝ }
+    ensures { λ r. ⌜ Small (now (t .exit)) × Next n (now (t .entry)) k (now (t .exit)) ⌝ }
+{
+    let on = tails(t, k);
+    let mut i: usize = 0;
+    while i < n {
+        let to = t[8 * i + k];
+        extend(t, i, to, &on);
+        i += 1;
+    }
+}
+
+// The largest weight of a read, of those there are.
+fn top(earlier: bool, now: bool, later: bool) -> u16
+    ensures { λ r. ⌜ r ≡ topN earlier now later ⌝ }
+{
+    pick(
+        later,
+        HIGHER,
+        pick(now, LEVEL, pick(earlier, LOWER, NO_WALK)),
+    )
+}
+
+// The heaviest of the reads of a mask; the lightest, with its sign turned, where it is not `up`.
+fn base(up: bool, x: u8) -> u16
+    ensures { λ r. ⌜ r ≡ baseN up (λ o. bit o x) ⌝ }
+{
+    let earlier = x % 2 == 1;
+    let now = x / 2 % 2 == 1;
+    let later = x / 4 % 2 == 1;
+    if up {
+        return top(earlier, now, later);
+    }
+    top(later, now, earlier)
+}
+
+// The same for the reads of one output, in row s.
+fn base_row(t: &mut [u16], s: usize, word: u64, m: u8, n: usize, up: bool)
+    requires { ⌜ (s < 8) × (m ≤ 6) × (n ≤ 7) × Small (now t) ⌝ }
+    ensures { λ r. ⌜ Small (now (t .exit)) × Part (8 * s) n (λ q. baseN up (readsOfWord word m q)) (now (t .entry)) (now (t .exit)) ⌝ }
+{
+    let mut q: usize = 0;
+    while q < n {
+        let stream = sheet::stream_of(m, OutputNo(q as u8));
+        t[8 * s + q] = base(up, mask_at(word, stream));
+        q += 1;
+    }
+}
+
+// The same for all outputs.
+fn based(words: &[u64; 7], m: u8, n: usize, up: bool) -> [u16; 64]
+    requires { ⌜ (m ≤ 6) × (n ≤ 7) ⌝ }
+    ensures { λ r. ⌜ Small r × Based n (λ s q. baseN up (readsOfWords (now (words .entry)) m s q)) r ⌝ }
+{
+    let mut t = [0u16; 64];
+    let mut s: usize = 0;
+    while s < n {
+        base_row(&mut t, s, words[s], m, n, up);
+        s += 1;
     }
     t
 }
 
-// The heaviest of the reads of a mask; the lightest, with its sign turned, where it is not `up`.
-fn base(up: bool, x: u8) -> u32
-    ensures { λ r. ⌜ r ≡ baseN up x ⌝ }
+// Walks of any length.
+fn closed(words: &[u64; 7], m: u8, n: usize, up: bool) -> [u16; 64]
+    requires { ⌜ (m ≤ 6) × (n ≤ 7) ⌝ }
+    ensures { λ r. ⌜ Closed n (λ s q. baseN up (readsOfWords (now (words .entry)) m s q)) r ⌝ }
 {
-    let first = x % 2;
-    let middle = x / 2 % 2;
-    let last = x / 4 % 2;
-    if up {
-        if last == 1 {
-            return HIGHER;
-        }
-        if middle == 1 {
-            return LEVEL;
-        }
-        if first == 1 {
-            return LOWER;
-        }
-        return NO_WALK;
+    let mut t = based(words, m, n, up);
+    let mut k: usize = 0;
+    while k < n {
+        stage(&mut t, k, n);
+        k += 1;
     }
-    if first == 1 {
-        return HIGHER;
-    }
-    if middle == 1 {
-        return LEVEL;
-    }
-    if last == 1 {
-        return LOWER;
-    }
-    NO_WALK
+    t
 }
 
-// The same for all pairs.
-fn based(masks: &[u8; 49], up: bool) -> [u32; 49]
-    ensures { λ r. ⌜ Based (now (masks .entry)) up r ⌝ }
+// Whether some output has a closed walk of weight at least 0.
+fn has_level(t: &[u16; 64], n: usize) -> bool
+    requires { ⌜ n ≤ 7 ⌝ }
+    ensures { λ r. ⌜ (r ≡ false → (s : ℕ) → s < n → getD (now (t .entry)) (8 * s + s) 0 < 1024) ⌝ }
 {
-    let mut new = [0u32; 49];
-    let mut i = 0;
-    while i < 49 {
-        new[i] = base(up, masks[i]);
-        i += 1;
+    let mut s: usize = 0;
+    while s < n {
+        if LEVEL <= t[8 * s + s] {
+            return true;
+        }
+        s += 1;
     }
-    new
+    false
 }
 
-// Whether some value reaches itself: some output has a closed walk of weight at least 0 and one of weight at most 0. The table of masks has at 7 * s + q the offsets at which output s reads output q: 1 earlier, 2 now, 4 later, added up.
-pub fn circular(masks: &[u8; 49]) -> bool
-    ensures yes { λ r. ⌜ (r ≡ true → Circular 7 (readsOf (now (masks .entry)))) ⌝ }
-    ensures no { λ r. ⌜ (r ≡ false → Circular 7 (readsOf (now (masks .entry))) → ⊥) ⌝ }
+// Whether some output reads an output.
+fn has_reads(words: &[u64; 7], m: u8, n: usize) -> bool
+    requires { ⌜ (m ≤ 6) × (n ≤ 7) ⌝ }
+    ensures { λ r. ⌜ (r ≡ false → (s : ℕ) → s < n → (q o : ℕ) → readsOfWords (now (words .entry)) m s q o ≡ false) ⌝ }
 {
-    let rising = closed(&based(masks, true));
-    let falling = closed(&based(masks, false));
-    let mut s = 0;
-    while s < 7 {
-        let at = 8 * s;
+    let inputs = 3 * (m as u64);
+    let mut s: usize = 0;
+    while s < n {
+        if words[s] >> inputs != 0 {
+            return true;
+        }
+        s += 1;
+    }
+    false
+}
+
+// Whether some value reaches itself: some output has a closed walk of weight at least 0 and one of weight at most 0. Word s has bit
+// 3 (m + q) + o if output s reads output q at the offset number o.
+pub fn circular(words: &[u64; 7], m: u8, n: usize) -> bool
+    requires { ⌜ (m ≤ 6) × (n ≤ 7) ⌝ }
+    ensures yes { λ r. ⌜ (r ≡ true → Circular n (readsOfWords (now (words .entry)) m)) ⌝ }
+    ensures no { λ r. ⌜ (r ≡ false → Circular n (readsOfWords (now (words .entry)) m) → ⊥) ⌝ }
+{
+    if !has_reads(words, m, n) {
+        return false;
+    }
+    let rising = closed(words, m, n, true);
+    if !has_level(&rising, n) {
+        return false;
+    }
+    let falling = closed(words, m, n, false);
+    let mut s: usize = 0;
+    while s < n {
+        let at = 8 * s + s;
         if LEVEL <= rising[at] {
             if LEVEL <= falling[at] {
                 return true;

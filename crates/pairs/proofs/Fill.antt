@@ -14,7 +14,7 @@ use Rattle.words.specs.Bits.{bit}
 use Rattle.words.proofs.BitLaws.{bit-none}
 use Rattle.completions.specs.Steps.{Within}
 use Rattle.pairs.specs.Storage.{place, slot, stored, used}
-use Rattle.pairs.specs.Changes.{Zeroed, RowsCleared, Copied}
+use Rattle.pairs.specs.Changes.{Zeroed, RowsCleared}
 
 -- of `size` words from `base` on, the first n are written with f
 pub record Filling (base size : ℕ) (f : ℕ → ℕ) (s t : List ℕ) (n : ℕ) : Type 0 where
@@ -72,6 +72,3 @@ rows-cleared base v s t u h p q = record {
             let g : v ≤ x = omega arith in
             ap (bit (c % 64)) (q .before k (omega arith) ∙ p .beyond k (omega arith))
             ∙ sym (ap (λ (z : Bool). cond z false (bit (c % 64) (getD s k 0))) (le-ltb x v g))
-
-pub copied-all : (s t : List ℕ) (n : ℕ) → 1028 ≤ n → Filling 1028 1028 (λ k. getD s (2056 + k) 0) s t n → Copied s t
-copied-all s t n h p = record { same-length = p .same-length; before = p .before; beyond = λ k g. p .beyond k (omega arith); copied = λ k g. p .done k (omega arith) }

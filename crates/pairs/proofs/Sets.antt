@@ -1,6 +1,6 @@
 -- Laws of the sets in the storage.
 use mathlib.Core.Path.{_≡_, refl, sym, ap, ap₂, _∙_}
-use mathlib.Core.Bool.{Bool, true, false, cond, _&&_, _||_}
+use mathlib.Core.Bool.{Bool, true, false, cond, not, _&&_, _||_}
 use mathlib.Core.List.{List}
 use mathlib.Core.Option.{Option, none, some}
 use Prim.Native.Nat.{ℕ, _+_, _-_, _*_, _/_, _%_, _^_, _≤_, _<_}
@@ -8,15 +8,15 @@ use native.Mathlib.Omega.{arith}
 use native.Mathlib.Decide.{ℕ-discrete, decLt}
 use borrow.Author.Tests.{eq-eqb, ne-eqb, lt-ltb}
 use lib.Dec.{eqb, ltb}
-use lib.Bits.{bitOr}
+use lib.Bits.{bitAnd, bitOr}
 use lib.ListN.{length, getD, set, length-set}
 use lib.Seq.{getD-set-same, getD-set-other}
 use Rattle.words.specs.Bits.{bit, digit}
-use Rattle.words.proofs.BitLaws.{bit-or, bit-shl, bit-none, bits-ext}
+use Rattle.words.proofs.BitLaws.{bit-and, bit-or, bit-not, bit-shl, bit-none, bits-ext}
 use Rattle.completions.specs.Live.{Pairs}
 use Rattle.completions.specs.Steps.{Within}
 use Rattle.pairs.specs.Storage.{place, slot, stored, used}
-use Rattle.pairs.specs.Changes.{eqNext, inWord, Adds, rowBit, RowsCleared, Cleared, Copied}
+use Rattle.pairs.specs.Changes.{eqNext, inWord, Adds, rowBit, Zeroed, RowsCleared, Cleared, RowTaken}
 use Rattle.pairs.proofs.Bools.{and-true, and-false, or-false, or-assoc}
 
 pub place-lt : (x : ℕ) (y : Option ℕ) → x < 256 → Within 256 y → place x y < 1028
@@ -151,9 +151,6 @@ module _ (base : ℕ) (s t : List ℕ) (p : Cleared base s t) where
   pub cleared-before : (b x : ℕ) (y : Option ℕ) → x < 256 → Within 256 y → b + 1028 ≤ base → stored t b x y ≡ stored s b x y
   cleared-before b x y hx hy h = stored-eq s t b b x y hx hy (λ k g. p .before (b + k) (omega arith))
 
-  pub cleared-beyond : (b x : ℕ) (y : Option ℕ) → x < 256 → Within 256 y → base + 1028 ≤ b → stored t b x y ≡ stored s b x y
-  cleared-beyond b x y hx hy h = stored-eq s t b b x y hx hy (λ k g. p .beyond (b + k) (omega arith))
-
 module _ (base v : ℕ) (s t : List ℕ) (p : RowsCleared base v s t) where
   pub rows-before : (b x : ℕ) (y : Option ℕ) → x < 256 → Within 256 y → b + 1028 ≤ base → stored t b x y ≡ stored s b x y
   rows-before b x y hx hy h = stored-eq s t b b x y hx hy (λ k g. p .before (b + k) (omega arith))
@@ -171,13 +168,6 @@ pub unused : (v x : ℕ) (y : Option ℕ) → used v x y ≡ false → ltb x v �
 unfolding used
 unused v x none e = absurd (let z : _≡_ {A = ℕ} 0 1 = cc in omega arith)
 unused v x (some c) e = e
-
-module _ (s t : List ℕ) (p : Copied s t) where
-  pub copied-reached : (x : ℕ) (y : Option ℕ) → x < 256 → Within 256 y → stored t 1028 x y ≡ stored s 2056 x y
-  copied-reached x y hx hy = stored-eq s t 1028 2056 x y hx hy (p .copied)
-
-  pub copied-live : (x : ℕ) (y : Option ℕ) → x < 256 → Within 256 y → stored t 0 x y ≡ stored s 0 x y
-  copied-live x y hx hy = stored-eq s t 0 0 x y hx hy (λ k g. p .before (0 + k) (omega arith))
 
 -- ---- the code's tests of one bit
 
@@ -247,6 +237,66 @@ word-inserted s base a j x ha hj l = record {
             ap (bit (c % 64)) (getD-set-other s k w v 0 (omega arith))
             ∙ sym (ap (λ (u : Bool). bit (c % 64) (getD s w 0) || (eqb p a && (u && bit (c % 64) x))) (ne-eqb (c / 64) j e)
             ∙ ap (λ (u : Bool). bit (c % 64) (getD s w 0) || u) (and-false (eqb p a)) ∙ or-false _)
+
+-- a row is taken out: its words are 0, and its bit among the ends is
+pub row-taken : (base a : ℕ) (s t : List ℕ) → a < 256 → base + 1028 ≤ length s → Zeroed (base + 4 * a) 4 s t
+    → RowTaken base a s (set t (base + (1024 + a / 64)) (bitAnd (getD t (base + (1024 + a / 64)) 0) ((2 ^ 64 - 1) - 1 * 2 ^ (a % 64) % 2 ^ 64)))
+unfolding stored place slot
+row-taken base a s t ha l p = record {
+  same-length = length-set t _ _ ∙ p .same-length;
+  before = λ i h. getD-set-other t _ i _ 0 (omega arith) ∙ p .before i (omega arith);
+  beyond = λ i h. getD-set-other t _ i _ 0 (omega arith) ∙ p .beyond i (omega arith);
+  taken = at;
+}
+  where
+    k : ℕ
+    k = base + (1024 + a / 64)
+
+    m : ℕ
+    m = 1 * 2 ^ (a % 64) % 2 ^ 64
+
+    v : ℕ
+    v = bitAnd (getD t k 0) ((2 ^ 64 - 1) - m)
+
+    at : (x : ℕ) (y : Option ℕ) → x < 256 → Within 256 y → stored (set t k v) base x y ≡ (stored s base x y && not (eqb x a))
+    at x none hx hy = go (ℕ-discrete (x / 64) (a / 64))
+      where
+        e : ℕ
+        e = base + (1024 + x / 64)
+
+        same-bit : x / 64 ≡ a / 64 → Dec (x ≡ a) → eqb (x % 64) (a % 64) ≡ eqb x a
+        same-bit q (yes d) = eq-eqb (x % 64) (a % 64) (omega arith) ∙ sym (eq-eqb x a d)
+        same-bit q (no d) = ne-eqb (x % 64) (a % 64) (λ r. d (omega arith)) ∙ sym (ne-eqb x a d)
+
+        go : Dec (x / 64 ≡ a / 64) → bit (x % 64) (getD (set t k v) e 0) ≡ (bit (x % 64) (getD s e 0) && not (eqb x a))
+        go (yes d) =
+            let q : e ≡ k = omega arith in
+            ap (λ (i : ℕ). bit (x % 64) (getD (set t k v) i 0)) q
+            ∙ ap (bit (x % 64)) (getD-set-same t k v 0 (omega (arith, p .same-length)))
+            ∙ bit-and (x % 64) (getD t k 0) ((2 ^ 64 - 1) - m)
+            ∙ ap₂ _&&_ (ap (bit (x % 64)) (p .beyond k (omega arith)) ∙ ap (λ (i : ℕ). bit (x % 64) (getD s i 0)) (sym q))
+            (bit-not 64 (x % 64) m (omega arith) (omega arith) ∙ ap not (bit-shl (x % 64) (a % 64) (omega arith) ∙ same-bit d (ℕ-discrete x a)))
+        go (no d) =
+            ap (bit (x % 64)) (getD-set-other t k e v 0 (omega arith) ∙ p .beyond e (omega arith))
+            ∙ sym (ap (λ (u : Bool). bit (x % 64) (getD s e 0) && not u) (ne-eqb x a (λ q. d (ap (λ (i : ℕ). i / 64) q))) ∙ and-true (bit (x % 64) (getD s e 0)))
+    at x (some c) hx hy = go (ℕ-discrete x a)
+      where
+        e : ℕ
+        e = base + (4 * x + c / 64)
+
+        other : getD (set t k v) e 0 ≡ getD t e 0
+        other = getD-set-other t k e v 0 (omega arith)
+
+        go : Dec (x ≡ a) → bit (c % 64) (getD (set t k v) e 0) ≡ (bit (c % 64) (getD s e 0) && not (eqb x a))
+        go (yes d) =
+            let q : e ≡ base + 4 * a + c / 64 = omega arith in
+            ap (bit (c % 64)) (other ∙ ap (λ (i : ℕ). getD t i 0) q ∙ p .zero-now (c / 64) (omega arith)) ∙ bit-none (c % 64)
+            ∙ sym (ap (λ (u : Bool). bit (c % 64) (getD s e 0) && not u) (eq-eqb x a d) ∙ and-false (bit (c % 64) (getD s e 0)))
+        go (no d) = ap (bit (c % 64)) (other ∙ outside (decLt x a)) ∙ sym (ap (λ (u : Bool). bit (c % 64) (getD s e 0) && not u) (ne-eqb x a d) ∙ and-true (bit (c % 64) (getD s e 0)))
+          where
+            outside : Dec (x < a) → getD t e 0 ≡ getD s e 0
+            outside (yes g) = p .before e (omega arith)
+            outside (no g) = p .beyond e (omega arith)
 
 -- ---- a set is known by its pairs: two storages of 64-bit words with the same pairs in a set have the same words there
 

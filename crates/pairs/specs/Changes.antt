@@ -1,6 +1,6 @@
 -- What the functions on stored sets do: for the contracts of private functions.
 use mathlib.Core.Path.{_≡_}
-use mathlib.Core.Bool.{Bool, true, false, cond, _&&_, _||_}
+use mathlib.Core.Bool.{Bool, true, false, cond, not, _&&_, _||_}
 use mathlib.Core.List.{List}
 use mathlib.Core.Option.{Option, none, some}
 use Prim.Native.Nat.{ℕ, _+_, _*_, _/_, _%_, _<_, _≤_}
@@ -69,9 +69,9 @@ pub record Cleared (base : ℕ) (s t : List ℕ) : Type 0 where
   pub beyond : (k : ℕ) → base + 1028 ≤ k → getD t k 0 ≡ getD s k 0
   pub zero-now : (k : ℕ) → k < 1028 → getD t (base + k) 0 ≡ 0
 
--- the scratch set is copied onto the reached set
-pub record Copied (s t : List ℕ) : Type 0 where
+-- row a of the set at `base` has no pair, and all else is as it was
+pub record RowTaken (base a : ℕ) (s t : List ℕ) : Type 0 where
   pub same-length : length t ≡ length s
-  pub before : (k : ℕ) → k < 1028 → getD t k 0 ≡ getD s k 0
-  pub beyond : (k : ℕ) → 2056 ≤ k → getD t k 0 ≡ getD s k 0
-  pub copied : (k : ℕ) → k < 1028 → getD t (1028 + k) 0 ≡ getD s (2056 + k) 0
+  pub before : (k : ℕ) → k < base → getD t k 0 ≡ getD s k 0
+  pub beyond : (k : ℕ) → base + 1028 ≤ k → getD t k 0 ≡ getD s k 0
+  pub taken : (x : ℕ) (y : Option ℕ) → x < 256 → Within 256 y → stored t base x y ≡ (stored s base x y && not (eqb x a))

@@ -7,7 +7,7 @@ ghost use lib.ListN.{length};
 ghost use Prim.Native.Nat.{_+_, _*_, _<_, _≤_};
 ghost use Rattle.completions.specs.Live.{countPairs};
 ghost use Rattle.pairs.specs.Storage.{stored};
-ghost use Rattle.pairs.specs.Changes.{eqNext, inWord, Adds, NextWord, NextBit, Zeroed, RowsCleared, Cleared, Copied};
+ghost use Rattle.pairs.specs.Changes.{eqNext, inWord, Adds, NextWord, NextBit, Zeroed, RowsCleared, Cleared, RowTaken};
 
 // Whether (a, b) is in the set at base.
 pub fn has(s: &[u64], base: usize, a: usize, b: usize) -> bool
@@ -115,16 +115,14 @@ pub fn clear_rows(s: &mut [u64], base: usize, v: usize)
     clear_words(s, base + 1024, 4);
 }
 
-// Copies the scratch set onto the reached set.
-pub fn publish(s: &mut [u64])
-    requires { ⌜ 3084 ≤ length (now s) ⌝ }
-    ensures { λ r. ⌜ Copied (now (s .entry)) (now (s .exit)) ⌝ }
+// Takes the pairs of row a out of the set at base.
+pub fn take_row(s: &mut [u64], base: usize, a: usize)
+    requires { ⌜ (a < 256) × (base ≤ 2056) × (3084 ≤ length (now s)) ⌝ }
+    ensures { λ r. ⌜ RowTaken base a (now (s .entry)) (now (s .exit)) ⌝ }
 {
-    let mut k: usize = 0;
-    while k < 1028 {
-        s[1028 + k] = s[2056 + k];
-        k += 1;
-    }
+    clear_words(s, base + 4 * a, 4);
+    let k = base + (1024 + a / 64);
+    s[k] = s[k] & !(1 << (a % 64));
 }
 
 // The number of pairs in the live set: the counts of ones of its words, summed.

@@ -1,23 +1,26 @@
--- What the live set and the scratch set gain together.
+-- What the live set and the next layer gain together.
 use mathlib.Core.Path.{_≡_, refl, sym, ap, ap₂, _∙_}
+use mathlib.Core.Logic.{inl, inr}
 use mathlib.Core.Bool.{Bool, true, false, not, _&&_, _||_}
 use mathlib.Core.List.{List}
 use mathlib.Core.Option.{Option, none, some}
-use Prim.Native.Nat.{ℕ, zero, suc, _+_, _*_, _/_, _%_, _^_, _≤_, _<_}
+use Prim.Native.Nat.{ℕ, _+_, _*_, _^_, _≤_, _<_}
 use native.Mathlib.Omega.{arith}
 use native.Mathlib.Decide.{ℕ-discrete, decLt}
 use borrow.Author.Tests.{eq-eqb, ne-eqb, lt-ltb, le-ltb}
 use lib.Dec.{eqb, ltb}
-use lib.ListN.{length, getD}
+use lib.ListN.{getD}
 use Rattle.sheet.specs.RuleSheet.{RuleSheet, streams}
 use Rattle.completions.specs.Live.{Pairs, allowed, assumed}
-use Rattle.completions.specs.Steps.{Within}
-use Rattle.pairs.specs.Storage.{place, slot, stored}
-use Rattle.pairs.specs.Changes.{eqNext, Adds, rowBit, NextBit}
+use Rattle.lola.specs.Equations.{holds}
+use Rattle.completions.specs.Steps.{Within, anyNext}
+use Rattle.words.proofs.AnyLaws.{none-any}
+use Rattle.pairs.specs.Storage.{stored}
+use Rattle.pairs.specs.Changes.{eqNext, Adds, rowBit, NextBit, RowTaken}
 use Rattle.pairs.proofs.Bools.{and-true, and-false, or-false, or-assoc}
 use Rattle.pairs.proofs.Sets.{stored-eq, adds-before, adds-beyond}
-use Rattle.preparation.specs.Search.{meets, joining, joinersAt, joiners, newcomers, enders, Joins, Row}
-use Rattle.preparation.proofs.Layers.{joining-same}
+use Rattle.preparation.specs.Search.{meets, joining, joinersAt, joiners, newcomers, enders, Joins, Row, Noted, Occupied, Apart, Swept}
+use Rattle.preparation.proofs.Layers.{joining-same, wider}
 
 -- ---- numbers below a bound
 
@@ -51,74 +54,123 @@ not-below x f = ap (λ (u : Bool). u && f) (le-ltb x x (omega arith))
 
 -- ---- joining nothing, one after the other, the same
 
-pub joins-none : (s : List ℕ) (P : Pairs) → ((x : ℕ) (y : Option ℕ) → x < 256 → Within 256 y → P x y ≡ false) → Joins s s P
-joins-none s P f = record {
+pub joins-none : (base : ℕ) (s : List ℕ) (P : Pairs) → ((x : ℕ) (y : Option ℕ) → x < 256 → Within 256 y → P x y ≡ false) → Joins base s s P
+joins-none base s P f = record {
   same-length = refl;
-  layer = λ k h g. refl;
+  between = λ k h g. refl;
   beyond = λ k h. refl;
   live = λ x y hx hy. sym (ap (λ (u : Bool). stored s 0 x y || u) (f x y hx hy) ∙ or-false (stored s 0 x y));
-  next = λ x y hx hy. sym (ap (λ (u : Bool). stored s 2056 x y || u) (f x y hx hy) ∙ or-false (stored s 2056 x y));
+  next = λ x y hx hy. sym (ap (λ (u : Bool). stored s base x y || u) (f x y hx hy) ∙ or-false (stored s base x y));
 }
 
-pub joins-then : (s t u : List ℕ) (P Q R : Pairs) → Joins s t P → Joins t u Q → ((x : ℕ) (y : Option ℕ) → x < 256 → Within 256 y → (P x y || Q x y) ≡ R x y) → Joins s u R
-joins-then s t u P Q R p q f = record {
+pub joins-then : (base : ℕ) (s t u : List ℕ) (P Q R : Pairs) → Joins base s t P → Joins base t u Q → ((x : ℕ) (y : Option ℕ) → x < 256 → Within 256 y → (P x y || Q x y) ≡ R x y) → Joins base s u R
+joins-then base s t u P Q R p q f = record {
   same-length = q .same-length ∙ p .same-length;
-  layer = λ k h g. q .layer k h g ∙ p .layer k h g;
+  between = λ k h g. q .between k h g ∙ p .between k h g;
   beyond = λ k h. q .beyond k h ∙ p .beyond k h;
   live = λ x y hx hy.
       q .live x y hx hy ∙ ap (λ (w : Bool). w || Q x y) (p .live x y hx hy) ∙ or-assoc (stored s 0 x y) (P x y) (Q x y)
       ∙ ap (λ (w : Bool). stored s 0 x y || w) (f x y hx hy);
   next = λ x y hx hy.
-      q .next x y hx hy ∙ ap (λ (w : Bool). w || Q x y) (p .next x y hx hy) ∙ or-assoc (stored s 2056 x y) (P x y) (Q x y)
-      ∙ ap (λ (w : Bool). stored s 2056 x y || w) (f x y hx hy);
+      q .next x y hx hy ∙ ap (λ (w : Bool). w || Q x y) (p .next x y hx hy) ∙ or-assoc (stored s base x y) (P x y) (Q x y)
+      ∙ ap (λ (w : Bool). stored s base x y || w) (f x y hx hy);
 }
 
-pub joins-as : (s t : List ℕ) (P R : Pairs) → Joins s t P → ((x : ℕ) (y : Option ℕ) → x < 256 → Within 256 y → P x y ≡ R x y) → Joins s t R
-joins-as s t P R p f = record {
+pub joins-as : (base : ℕ) (s t : List ℕ) (P R : Pairs) → Joins base s t P → ((x : ℕ) (y : Option ℕ) → x < 256 → Within 256 y → P x y ≡ R x y) → Joins base s t R
+joins-as base s t P R p f = record {
   same-length = p .same-length;
-  layer = p .layer;
+  between = p .between;
   beyond = p .beyond;
   live = λ x y hx hy. p .live x y hx hy ∙ ap (λ (w : Bool). stored s 0 x y || w) (f x y hx hy);
-  next = λ x y hx hy. p .next x y hx hy ∙ ap (λ (w : Bool). stored s 2056 x y || w) (f x y hx hy);
+  next = λ x y hx hy. p .next x y hx hy ∙ ap (λ (w : Bool). stored s base x y || w) (f x y hx hy);
 }
 
 -- both sets gain the same pairs
-pub joins-both : (s t u : List ℕ) (P R : Pairs) → Adds 0 s t P → Adds 2056 t u P → ((x : ℕ) (y : Option ℕ) → x < 256 → Within 256 y → P x y ≡ R x y) → Joins s u R
-joins-both s t u P R p q f = record {
+pub joins-both : (base : ℕ) (s t u : List ℕ) (P R : Pairs) → 1028 ≤ base → Adds 0 s t P → Adds base t u P → ((x : ℕ) (y : Option ℕ) → x < 256 → Within 256 y → P x y ≡ R x y) → Joins base s u R
+joins-both base s t u P R l p q f = record {
   same-length = q .same-length ∙ p .same-length;
-  layer = λ k h g. q .before k g ∙ p .beyond k h;
-  beyond = λ k h. q .beyond k (omega arith) ∙ p .beyond k (omega arith);
+  between = λ k h g. q .before k g ∙ p .beyond k h;
+  beyond = λ k h. q .beyond k h ∙ p .beyond k (omega arith);
   live = λ x y hx hy.
-      adds-before 2056 t u P q 0 x y hx hy (omega arith) ∙ p .adds x y hx hy ∙ ap (λ (w : Bool). stored s 0 x y || w) (f x y hx hy);
+      adds-before base t u P q 0 x y hx hy l ∙ p .adds x y hx hy ∙ ap (λ (w : Bool). stored s 0 x y || w) (f x y hx hy);
   next = λ x y hx hy.
-      q .adds x y hx hy ∙ ap₂ _||_ (adds-beyond 0 s t P p 2056 x y hx hy (omega arith)) (f x y hx hy);
+      q .adds x y hx hy ∙ ap₂ _||_ (adds-beyond 0 s t P p base x y hx hy l) (f x y hx hy);
 }
-
--- the layer is the same
-pub layer-same : (s t : List ℕ) (P : Pairs) → Joins s t P → (x : ℕ) (y : Option ℕ) → x < 256 → Within 256 y → stored t 1028 x y ≡ stored s 1028 x y
-layer-same s t P p x y hx hy = stored-eq s t 1028 1028 x y hx hy (λ k h. p .layer (1028 + k) (omega arith) (omega arith))
 
 -- ---- one pair
 
-pub joined-not : (s : List ℕ) (a b : ℕ) → stored s 0 a (some b) ≡ true → Joins s s (λ x y. eqb x a && (eqNext y (some b) && not (stored s 0 a (some b))))
-joined-not s a b e =
-    joins-none s (λ x y. eqb x a && (eqNext y (some b) && not (stored s 0 a (some b))))
+pub joined-not : (base : ℕ) (s : List ℕ) (a b : ℕ) → stored s 0 a (some b) ≡ true → Joins base s s (λ x y. eqb x a && (eqNext y (some b) && not (stored s 0 a (some b))))
+joined-not base s a b e =
+    joins-none base s (λ x y. eqb x a && (eqNext y (some b) && not (stored s 0 a (some b))))
     (λ x y hx hy. ap (λ (u : Bool). eqb x a && (eqNext y (some b) && not u)) e ∙ ap (λ (u : Bool). eqb x a && u) (and-false (eqNext y (some b))) ∙ and-false (eqb x a))
 
-pub joined-both : (s t u : List ℕ) (a b : ℕ) → stored s 0 a (some b) ≡ false → Adds 0 s t (λ x y. eqb x a && eqNext y (some b)) → Adds 2056 t u (λ x y. eqb x a && eqNext y (some b))
-    → Joins s u (λ x y. eqb x a && (eqNext y (some b) && not (stored s 0 a (some b))))
-joined-both s t u a b e p q =
-    joins-both s t u (λ x y. eqb x a && eqNext y (some b)) (λ x y. eqb x a && (eqNext y (some b) && not (stored s 0 a (some b)))) p q
+pub joined-both : (base : ℕ) (s t u : List ℕ) (a b : ℕ) → 1028 ≤ base → stored s 0 a (some b) ≡ false → Adds 0 s t (λ x y. eqb x a && eqNext y (some b)) → Adds base t u (λ x y. eqb x a && eqNext y (some b))
+    → Joins base s u (λ x y. eqb x a && (eqNext y (some b) && not (stored s 0 a (some b))))
+joined-both base s t u a b l e p q =
+    joins-both base s t u (λ x y. eqb x a && eqNext y (some b)) (λ x y. eqb x a && (eqNext y (some b) && not (stored s 0 a (some b)))) l p q
     (λ x y hx hy. ap (λ (v : Bool). eqb x a && v) (sym (ap (λ (u : Bool). eqNext y (some b) && not u) e ∙ and-true (eqNext y (some b)))))
+
+-- the row of a new pair is noted
+pub occupied-more : (w base : ℕ) (rows rows′ s t u : List ℕ) (a b : ℕ) → a < 64 * w → w ≤ 4 → b < 256 → 1028 ≤ base
+    → Adds 0 s t (λ x y. eqb x a && eqNext y (some b)) → Adds base t u (λ x y. eqb x a && eqNext y (some b)) → Noted a rows rows′
+    → Occupied w rows s base → Occupied w rows′ u base
+unfolding eqNext
+occupied-more w base rows rows′ s t u a b ha hw hb l p q n o = record {
+  none-there = λ x y hx hy f. absent x y hx hy f (ℕ-discrete x a);
+  some-there = λ x h e. present x h e (ℕ-discrete x a);
+}
+  where
+    -- another row is as it was, in the set and among the rows
+    kept : (x : ℕ) (y : Option ℕ) → x < 256 → Within 256 y → (x ≡ a → ⊥) → stored u base x y ≡ stored s base x y
+    kept x y hx hy d =
+        q .adds x y hx hy ∙ ap₂ (λ (v w : Bool). v || (w && eqNext y (some b))) (adds-beyond 0 s t (λ x y. eqb x a && eqNext y (some b)) p base x y hx hy l) (ne-eqb x a d) ∙ or-false (stored s base x y)
+
+    other : (x : ℕ) → x < 256 → (x ≡ a → ⊥) → rowBit rows′ 0 x ≡ rowBit rows 0 x
+    other x hx d = n .gains x hx ∙ ap (λ (v : Bool). rowBit rows 0 x || v) (ne-eqb x a d) ∙ or-false (rowBit rows 0 x)
+
+    or-true : (v : Bool) → (v || true) ≡ true
+    or-true true = refl
+    or-true false = refl
+
+    absent : (x : ℕ) (y : Option ℕ) → x < 256 → Within 256 y → (x < 64 * w → rowBit rows′ 0 x ≡ false) → Dec (x ≡ a) → stored u base x y ≡ false
+    absent x y hx hy f (yes d) =
+        let e : rowBit rows′ 0 x ≡ true = n .gains x hx ∙ ap (λ (v : Bool). rowBit rows 0 x || v) (eq-eqb x a d) ∙ or-true (rowBit rows 0 x) in
+        let g : rowBit rows′ 0 x ≡ false = f (omega arith) in
+        let z : _≡_ {A = ℕ} 0 1 = cc in absurd (omega arith)
+    absent x y hx hy f (no d) = kept x y hx hy d ∙ o .none-there x y hx hy (λ h. sym (other x hx d) ∙ f h)
+
+    present : (x : ℕ) → x < 64 * w → rowBit rows′ 0 x ≡ true → Dec (x ≡ a) → (y : Option ℕ) × Within 256 y × (stored u base x y ≡ true)
+    present x h e (yes d) = (
+      some b,
+      hb,
+      q .adds x (some b) (omega arith) hb ∙ ap₂ (λ (v w : Bool). stored t base x (some b) || (v && w)) (eq-eqb x a d) (eq-eqb b b refl) ∙ or-true (stored t base x (some b)),
+    )
+    present x h e (no d) =
+        let y = o .some-there x h (sym (other x (omega arith) d) ∙ e) in
+        (y .0, y .1, kept x (y .0) (omega arith) (y .1) d ∙ y .2)
+
+-- a row taken out of one set leaves another as it was
+pub taken-beside : (layer next b : ℕ) (s t : List ℕ) → Apart layer next → RowTaken layer b s t → (x : ℕ) (y : Option ℕ) → x < 256 → Within 256 y → stored t next x y ≡ stored s next x y
+taken-beside layer next b s t d r x y hx hy = stored-eq s t next next x y hx hy (λ k h. go k h d)
+  where
+    go : (k : ℕ) → k < 1028 → Apart layer next → getD t (next + k) 0 ≡ getD s (next + k) 0
+    go k h (inl d) = r .beyond (next + k) (omega arith)
+    go k h (inr d) = r .before (next + k) (omega arith)
+
+pub occupied-beside : (w layer next b : ℕ) (rows s t : List ℕ) → w ≤ 4 → Apart layer next → RowTaken layer b s t → Occupied w rows s next → Occupied w rows t next
+occupied-beside w layer next b rows s t hw d r o = record {
+  none-there = λ x y hx hy h. taken-beside layer next b s t d r x y hx hy ∙ o .none-there x y hx hy h;
+  some-there = λ x h e. let y = o .some-there x h e in (y .0, y .1, taken-beside layer next b s t d r x (y .0) (omega arith) (y .1) ∙ y .2);
+}
 
 -- ---- the members of a row, one after the other; a is the next, or the bound n
 
-pub record Column (s t : List ℕ) (w : ℕ) (row : List ℕ) (b a : ℕ) : Type 0 where
+pub record Column (base : ℕ) (s t : List ℕ) (w : ℕ) (row : List ℕ) (b a : ℕ) : Type 0 where
   pub inside : a ≤ 64 * w
-  pub sofar : Joins s t (newcomers a row b (stored s 0))
+  pub sofar : Joins base s t (newcomers a row b (stored s 0))
   pub next : a < 64 * w → rowBit row 0 a ≡ true
 
-module _ (s : List ℕ) (w : ℕ) (row : List ℕ) (b : ℕ) (hb : b < 256) (hw : w ≤ 4) where
+module _ (base : ℕ) (s : List ℕ) (w : ℕ) (row : List ℕ) (b : ℕ) (hb : b < 256) (hw : w ≤ 4) where
   abbrev N : ℕ → ℕ → ℕ → Bool
   N a x y = ltb x a && (rowBit row 0 x && not (stored s 0 x (some y)))
 
@@ -126,11 +178,11 @@ module _ (s : List ℕ) (w : ℕ) (row : List ℕ) (b : ℕ) (hb : b < 256) (hw 
   skip : (a a′ x y : ℕ) → a ≤ a′ → ((x : ℕ) → a ≤ x → x < a′ → rowBit row 0 x ≡ false) → N a x y ≡ N a′ x y
   skip a a′ x y l h = below-wider x a a′ (rowBit row 0 x && not (stored s 0 x (some y))) l (λ g k. ap (λ (u : Bool). u && not (stored s 0 x (some y))) (h x g k))
 
-  pub column-first : (a : ℕ) → NextBit row 0 w 0 a → Column s s w row b a
+  pub column-first : (a : ℕ) → NextBit row 0 w 0 a → Column base s s w row b a
   unfolding newcomers
   column-first a n = record {
     inside = n .inside;
-    sofar = joins-none s (newcomers a row b (stored s 0)) at;
+    sofar = joins-none base s (newcomers a row b (stored s 0)) at;
     next = n .found;
   }
     where
@@ -139,12 +191,12 @@ module _ (s : List ℕ) (w : ℕ) (row : List ℕ) (b : ℕ) (hb : b < 256) (hw 
       at x (some y) hx hy =
           ap (λ (u : Bool). eqb y b && u) (sym (skip 0 a x y (omega arith) (n .skipped)) ∙ below-none x (rowBit row 0 x && not (stored s 0 x (some y)))) ∙ and-false (eqb y b)
 
-  pub column-more : (t u : List ℕ) (a a′ : ℕ) → a < 64 * w → Column s t w row b a → Joins t u (λ x y. eqb x a && (eqNext y (some b) && not (stored t 0 a (some b))))
-      → NextBit row 0 w (a + 1) a′ → Column s u w row b a′
+  pub column-more : (t u : List ℕ) (a a′ : ℕ) → a < 64 * w → Column base s t w row b a → Joins base t u (λ x y. eqb x a && (eqNext y (some b) && not (stored t 0 a (some b))))
+      → NextBit row 0 w (a + 1) a′ → Column base s u w row b a′
   unfolding newcomers eqNext
   column-more t u a a′ ha c j n = record {
     inside = n .inside;
-    sofar = joins-then s t u (newcomers a row b (stored s 0)) (λ x y. eqb x a && (eqNext y (some b) && not (stored t 0 a (some b)))) (newcomers a′ row b (stored s 0)) (c .sofar) j at;
+    sofar = joins-then base s t u (newcomers a row b (stored s 0)) (λ x y. eqb x a && (eqNext y (some b) && not (stored t 0 a (some b)))) (newcomers a′ row b (stored s 0)) (c .sofar) j at;
     next = n .found;
   }
     where
@@ -171,9 +223,9 @@ module _ (s : List ℕ) (w : ℕ) (row : List ℕ) (b : ℕ) (hb : b < 256) (hw 
               ap (λ (v : Bool). (v && N a x y) || (eqb x a && (v && not (stored t 0 a (some b))))) (ne-eqb y b d) ∙ and-false (eqb x a)
               ∙ ap (λ (v : Bool). v && N a′ x y) (sym (ne-eqb y b d))
 
-  pub column-all : (t : List ℕ) (a : ℕ) → 64 * w ≤ a → Column s t w row b a → Joins s t (newcomers (64 * w) row b (stored s 0))
+  pub column-all : (t : List ℕ) (a : ℕ) → 64 * w ≤ a → Column base s t w row b a → Joins base s t (newcomers (64 * w) row b (stored s 0))
   unfolding newcomers
-  column-all t a h c = joins-as s t (newcomers a row b (stored s 0)) (newcomers (64 * w) row b (stored s 0)) (c .sofar) at
+  column-all t a h c = joins-as base s t (newcomers a row b (stored s 0)) (newcomers (64 * w) row b (stored s 0)) (c .sofar) at
     where
       at : (x : ℕ) (y : Option ℕ) → x < 256 → Within 256 y → newcomers a row b (stored s 0) x y ≡ newcomers (64 * w) row b (stored s 0) x y
       at x none hx hy = refl
@@ -181,25 +233,25 @@ module _ (s : List ℕ) (w : ℕ) (row : List ℕ) (b : ℕ) (hb : b < 256) (hw 
 
 -- ---- the same for the ends
 
-pub record Ends (s t : List ℕ) (w : ℕ) (row : List ℕ) (a : ℕ) : Type 0 where
+pub record Ends (base : ℕ) (s t : List ℕ) (w : ℕ) (row : List ℕ) (a : ℕ) : Type 0 where
   pub inside : a ≤ 64 * w
-  pub sofar : Joins s t (enders a row)
+  pub sofar : Joins base s t (enders a row)
   pub next : a < 64 * w → rowBit row 0 a ≡ true
 
-module _ (s : List ℕ) (w : ℕ) (row : List ℕ) where
-  pub ends-first : (a : ℕ) → NextBit row 0 w 0 a → Ends s s w row a
+module _ (base : ℕ) (s : List ℕ) (w : ℕ) (row : List ℕ) where
+  pub ends-first : (a : ℕ) → NextBit row 0 w 0 a → Ends base s s w row a
   unfolding enders
-  ends-first a n = record { inside = n .inside; sofar = joins-none s (enders a row) at; next = n .found }
+  ends-first a n = record { inside = n .inside; sofar = joins-none base s (enders a row) at; next = n .found }
     where
       at : (x : ℕ) (y : Option ℕ) → x < 256 → Within 256 y → enders a row x y ≡ false
       at x none hx hy = sym (below-wider x 0 a (rowBit row 0 x) (omega arith) (λ g k. n .skipped x g k)) ∙ below-none x (rowBit row 0 x)
       at x (some y) hx hy = refl
 
-  pub ends-more : (t u : List ℕ) (a a′ : ℕ) → a < 64 * w → Ends s t w row a → Joins t u (λ x y. eqb x a && eqNext y none) → NextBit row 0 w (a + 1) a′ → Ends s u w row a′
+  pub ends-more : (t u : List ℕ) (a a′ : ℕ) → a < 64 * w → Ends base s t w row a → Joins base t u (λ x y. eqb x a && eqNext y none) → NextBit row 0 w (a + 1) a′ → Ends base s u w row a′
   unfolding enders eqNext
   ends-more t u a a′ ha c j n = record {
     inside = n .inside;
-    sofar = joins-then s t u (enders a row) (λ x y. eqb x a && eqNext y none) (enders a′ row) (c .sofar) j at;
+    sofar = joins-then base s t u (enders a row) (λ x y. eqb x a && eqNext y none) (enders a′ row) (c .sofar) j at;
     next = n .found;
   }
     where
@@ -209,7 +261,7 @@ module _ (s : List ℕ) (w : ℕ) (row : List ℕ) where
           ∙ below-wider x (a + 1) a′ (rowBit row 0 x) (n .onward) (λ g k. n .skipped x g k)
       at x (some y) hx hy = and-false (eqb x a)
 
-  pub ends-all : (t : List ℕ) (a : ℕ) → 64 * w ≤ a → Ends s t w row a → Joins s t (enders (64 * w) row)
+  pub ends-all : (t : List ℕ) (a : ℕ) → 64 * w ≤ a → Ends base s t w row a → Joins base s t (enders (64 * w) row)
   ends-all t a h c = let e : a ≡ 64 * w = omega (arith, c .inside) in rw e at (c .sofar)
 
 -- ---- the pairs before one b, and before each b below a bound
@@ -227,15 +279,15 @@ module _ (x : RuleSheet) (w : ℕ) (low : 2 ^ streams x ≤ 64 * w) where
       comm false v = sym (and-false v)
   turned false r n m e = ap (λ (u : Bool). u && n) e
 
-  pub column-joins : (s t row : List ℕ) (b : ℕ) → Row w row (λ a. allowed x a && meets x (64 * w) (stored s 1028) a b)
-      → Joins s t (newcomers (64 * w) row b (stored s 0)) → Joins s t (joinersAt x (64 * w) b (stored s 0) (stored s 1028))
+  pub column-joins : (base layer : ℕ) (s t row : List ℕ) (b : ℕ) → Row w row (λ a. allowed x a && meets x (64 * w) (stored s layer) a b)
+      → Joins base s t (newcomers (64 * w) row b (stored s 0)) → Joins base s t (joinersAt x (64 * w) b (stored s 0) (stored s layer))
   unfolding newcomers joinersAt joining
-  column-joins s t row b h j = joins-as s t (newcomers (64 * w) row b (stored s 0)) (joinersAt x (64 * w) b (stored s 0) (stored s 1028)) j at
+  column-joins base layer s t row b h j = joins-as base s t (newcomers (64 * w) row b (stored s 0)) (joinersAt x (64 * w) b (stored s 0) (stored s layer)) j at
     where
       K : ℕ → ℕ → Bool
-      K a c = joining x (64 * w) (stored s 0) (stored s 1028) a c
+      K a c = joining x (64 * w) (stored s 0) (stored s layer) a c
 
-      at : (a : ℕ) (y : Option ℕ) → a < 256 → Within 256 y → newcomers (64 * w) row b (stored s 0) a y ≡ joinersAt x (64 * w) b (stored s 0) (stored s 1028) a y
+      at : (a : ℕ) (y : Option ℕ) → a < 256 → Within 256 y → newcomers (64 * w) row b (stored s 0) a y ≡ joinersAt x (64 * w) b (stored s 0) (stored s layer) a y
       at a none ha hy = refl
       at a (some c) ha hy = go (ℕ-discrete c b) (decLt a (64 * w))
         where
@@ -244,43 +296,109 @@ module _ (x : RuleSheet) (w : ℕ) (low : 2 ^ streams x ≤ 64 * w) where
           go (yes d) (yes l) =
               ap (λ (u : Bool). eqb c b && u)
               (ap (λ (u : Bool). u && (rowBit row 0 a && not (stored s 0 a (some c)))) (lt-ltb a (64 * w) l)
-              ∙ turned (allowed x a) (rowBit row 0 a) (not (stored s 0 a (some c))) (meets x (64 * w) (stored s 1028) a c)
-              (h a l ∙ ap (λ (k : ℕ). allowed x a && meets x (64 * w) (stored s 1028) a k) (sym d)))
+              ∙ turned (allowed x a) (rowBit row 0 a) (not (stored s 0 a (some c))) (meets x (64 * w) (stored s layer) a c)
+              (h a l ∙ ap (λ (k : ℕ). allowed x a && meets x (64 * w) (stored s layer) a k) (sym d)))
           go (yes d) (no l) =
               ap (λ (u : Bool). eqb c b && u)
               (ap (λ (u : Bool). u && (rowBit row 0 a && not (stored s 0 a (some c)))) (le-ltb a (64 * w) (omega arith))
-              ∙ sym (ap (λ (u : Bool). u && (not (stored s 0 a (some c)) && meets x (64 * w) (stored s 1028) a c)) (beyond-none a (omega arith))))
+              ∙ sym (ap (λ (u : Bool). u && (not (stored s 0 a (some c)) && meets x (64 * w) (stored s layer) a c)) (beyond-none a (omega arith))))
 
-module _ (x : RuleSheet) (n : ℕ) (hn : n ≤ 256) (s : List ℕ) where
+-- ---- the rows of a layer, one after the other; b is the next, or the bound
+
+-- a row with no pair lets nothing join
+idle : (x : RuleSheet) (n : ℕ) (L F : Pairs) (a b : ℕ) → ((c : Option ℕ) → Within n c → F b c ≡ false) → joining x n L F a b ≡ false
+unfolding joining meets anyNext
+idle x n L F a b f =
+    ap (λ (u : Bool). allowed x a && (not (L a (some b)) && u))
+    (ap₂ (λ (u v : Bool). (u && holds x (some a) b none) || v) (f none tt)
+    (none-any n (λ c. F b (some c) && holds x (some a) b (some c)) (λ i l. ap (λ (u : Bool). u && holds x (some a) b (some i)) (f (some i) l))))
+    ∙ ap (λ (u : Bool). allowed x a && u) (and-false (not (L a (some b)))) ∙ and-false (allowed x a)
+
+lost : (f u v : Bool) → ((f && not u) && not v) ≡ (f && not (u || v))
+lost true true v = refl
+lost true false v = refl
+lost false u v = refl
+
+module _ (x : RuleSheet) (w layer next : ℕ) (hw : w ≤ 4) (occ s : List ℕ) (o : Occupied w occ s layer) where
   abbrev K : ℕ → ℕ → Bool
-  K a c = joining x n (stored s 0) (stored s 1028) a c
+  K a c = joining x (64 * w) (stored s 0) (stored s layer) a c
 
-  pub sweep-none : Joins s s (joiners x n 0 (stored s 0) (stored s 1028))
+  abbrev J : ℕ → Pairs
+  J b = joiners x (64 * w) b (stored s 0) (stored s layer)
+
+  -- the rows that are passed over have no pair
+  passed : (from b : ℕ) → NextBit occ 0 w from b → (c : ℕ) (y : Option ℕ) → from ≤ c → c < b → Within 256 y → stored s layer c y ≡ false
+  passed from b n c y l h hy = o .none-there c y (omega (arith, n .inside)) hy (λ g. n .skipped c l h)
+
+  joiners-skip : (from b : ℕ) → NextBit occ 0 w from b → (a : ℕ) (y : Option ℕ) → J from a y ≡ J b a y
   unfolding joiners
-  sweep-none = joins-none s (joiners x n 0 (stored s 0) (stored s 1028)) at
-    where
-      at : (a : ℕ) (y : Option ℕ) → a < 256 → Within 256 y → joiners x n 0 (stored s 0) (stored s 1028) a y ≡ false
-      at a none ha hy = refl
-      at a (some c) ha hy = below-none c (K a c)
+  joiners-skip from b n a none = refl
+  joiners-skip from b n a (some c) =
+      below-wider c from b (K a c) (n .onward)
+      (λ l h. idle x (64 * w) (stored s 0) (stored s layer) a c (λ y g. passed from b n c y l h (wider (64 * w) 256 y (omega arith) g)))
 
-  pub sweep-more : (t u : List ℕ) (b : ℕ) → b < 256 → Joins s t (joiners x n b (stored s 0) (stored s 1028)) → Joins t u (joinersAt x n b (stored t 0) (stored t 1028))
-      → Joins s u (joiners x n (b + 1) (stored s 0) (stored s 1028))
-  unfolding joiners joinersAt
-  sweep-more t u b hb p q = joins-then s t u (joiners x n b (stored s 0) (stored s 1028)) (joinersAt x n b (stored t 0) (stored t 1028)) (joiners x n (b + 1) (stored s 0) (stored s 1028)) p q at
+  left-skip : (from b : ℕ) → NextBit occ 0 w from b → (a : ℕ) (y : Option ℕ) → Within 256 y → (stored s layer a y && not (ltb a from)) ≡ (stored s layer a y && not (ltb a b))
+  left-skip from b n a y hy = go (decLt a from) (decLt a b)
     where
-      same : (a : ℕ) → a < 256 → joining x n (stored t 0) (stored t 1028) a b ≡ K a b
-      same a ha =
-          joining-same x n (stored t 0) (stored s 0) (stored t 1028) (stored s 1028) a b
-          (p .live a (some b) ha hb ∙ ap (λ (u : Bool). stored s 0 a (some b) || u) (not-below b (K a b)) ∙ or-false (stored s 0 a (some b)))
-          (λ c h. layer-same s t (joiners x n b (stored s 0) (stored s 1028)) p b c hb (inside c h))
-        where
-          inside : (c : Option ℕ) → Within n c → Within 256 c
-          inside none h = tt
-          inside (some c) h = omega arith
+      go : Dec (a < from) → Dec (a < b) → (stored s layer a y && not (ltb a from)) ≡ (stored s layer a y && not (ltb a b))
+      go (yes d) e = ap (λ (u : Bool). stored s layer a y && not u) (lt-ltb a from d ∙ sym (lt-ltb a b (omega (arith, n .onward))))
+      go (no d) (yes e) = ap (λ (u : Bool). u && not (ltb a from)) (passed from b n a y (omega arith) e hy) ∙ sym (ap (λ (u : Bool). u && not (ltb a b)) (passed from b n a y (omega arith) e hy))
+      go (no d) (no e) = ap (λ (u : Bool). stored s layer a y && not u) (le-ltb a from (omega arith) ∙ sym (le-ltb a b (omega arith)))
 
-      at : (a : ℕ) (y : Option ℕ) → a < 256 → Within 256 y
-          → (joiners x n b (stored s 0) (stored s 1028) a y || joinersAt x n b (stored t 0) (stored t 1028) a y) ≡ joiners x n (b + 1) (stored s 0) (stored s 1028) a y
-      at a none ha hy = refl
-      at a (some c) ha hy =
-          below-more c b (K a c) (joining x n (stored t 0) (stored t 1028) a c)
-          (λ d. ap (joining x n (stored t 0) (stored t 1028) a) d ∙ same a ha ∙ ap (K a) (sym d))
+  pub swept-first : (b : ℕ) → NextBit occ 0 w 0 b → Swept x (64 * w) b layer next s s
+  unfolding joiners
+  swept-first b n = record {
+    same-length = refl;
+    beyond = λ k h. refl;
+    live = λ a y ha hy. sym (ap (λ (u : Bool). stored s 0 a y || u) (sym (joiners-skip 0 b n a y) ∙ none-yet a y) ∙ or-false (stored s 0 a y));
+    gained = λ a y ha hy. sym (ap (λ (u : Bool). stored s next a y || u) (sym (joiners-skip 0 b n a y) ∙ none-yet a y) ∙ or-false (stored s next a y));
+    left = λ a y ha hy. sym (sym (left-skip 0 b n a y hy) ∙ ap (λ (u : Bool). stored s layer a y && not u) (le-ltb a 0 (omega arith)) ∙ and-true (stored s layer a y));
+  }
+    where
+      none-yet : (a : ℕ) (y : Option ℕ) → J 0 a y ≡ false
+      none-yet a none = refl
+      none-yet a (some c) = below-none c (K a c)
+
+  module _ (low : 1028 ≤ layer) (high : layer ≤ 2056) (next-high : next ≤ 2056) (apart : Apart layer next) (t u z : List ℕ) (b b′ : ℕ) (hb : b < 64 * w)
+      (p : Swept x (64 * w) b layer next s t) (q : Joins next t u (joinersAt x (64 * w) b (stored t 0) (stored t layer))) (r : RowTaken layer b u z) (n : NextBit occ 0 w (b + 1) b′) where
+    layer-kept : (a : ℕ) (y : Option ℕ) → a < 256 → Within 256 y → stored u layer a y ≡ stored t layer a y
+    layer-kept a y ha hy = stored-eq t u layer layer a y ha hy (λ k h. go k h apart)
+      where
+        go : (k : ℕ) → k < 1028 → Apart layer next → getD u (layer + k) 0 ≡ getD t (layer + k) 0
+        go k h (inl d) = q .between (layer + k) (omega arith) (omega arith)
+        go k h (inr d) = q .beyond (layer + k) (omega arith)
+
+    -- the row is still as it was, and so are the pairs with b
+    same : (a : ℕ) → a < 256 → joining x (64 * w) (stored t 0) (stored t layer) a b ≡ K a b
+    unfolding joiners
+    same a ha =
+        joining-same x (64 * w) (stored t 0) (stored s 0) (stored t layer) (stored s layer) a b
+        (p .live a (some b) ha (omega arith) ∙ ap (λ (u : Bool). stored s 0 a (some b) || u) (not-below b (K a b)) ∙ or-false (stored s 0 a (some b)))
+        (λ c h. p .left b c (omega arith) (wider (64 * w) 256 c (omega arith) h) ∙ ap (λ (u : Bool). stored s layer b c && not u) (le-ltb b b (omega arith)) ∙ and-true (stored s layer b c))
+
+    more : (a : ℕ) (y : Option ℕ) → a < 256 → (J b a y || joinersAt x (64 * w) b (stored t 0) (stored t layer) a y) ≡ J b′ a y
+    unfolding joiners joinersAt
+    more a none ha = refl
+    more a (some c) ha =
+        below-more c b (K a c) (joining x (64 * w) (stored t 0) (stored t layer) a c)
+        (λ d. ap (joining x (64 * w) (stored t 0) (stored t layer) a) d ∙ same a ha ∙ ap (K a) (sym d))
+        ∙ joiners-skip (b + 1) b′ n a (some c)
+
+    below-next : (a : ℕ) → (ltb a b || eqb a b) ≡ ltb a (b + 1)
+    below-next a = ap₂ _||_ (sym (and-true (ltb a b))) (sym (and-true (eqb a b))) ∙ below-more a b true true (λ d. refl) ∙ and-true (ltb a (b + 1))
+
+    pub swept-more : Swept x (64 * w) b′ layer next s z
+    swept-more = record {
+      same-length = r .same-length ∙ q .same-length ∙ p .same-length;
+      beyond = λ k h. r .beyond k (omega arith) ∙ q .beyond k (omega arith) ∙ p .beyond k h;
+      live = λ a y ha hy.
+          stored-eq u z 0 0 a y ha hy (λ k h. r .before (0 + k) (omega arith)) ∙ q .live a y ha hy
+          ∙ ap (λ (v : Bool). v || joinersAt x (64 * w) b (stored t 0) (stored t layer) a y) (p .live a y ha hy)
+          ∙ or-assoc (stored s 0 a y) (J b a y) (joinersAt x (64 * w) b (stored t 0) (stored t layer) a y) ∙ ap (λ (v : Bool). stored s 0 a y || v) (more a y ha);
+      gained = λ a y ha hy.
+          taken-beside layer next b u z apart r a y ha hy ∙ q .next a y ha hy ∙ ap (λ (v : Bool). v || joinersAt x (64 * w) b (stored t 0) (stored t layer) a y) (p .gained a y ha hy)
+          ∙ or-assoc (stored s next a y) (J b a y) (joinersAt x (64 * w) b (stored t 0) (stored t layer) a y) ∙ ap (λ (v : Bool). stored s next a y || v) (more a y ha);
+      left = λ a y ha hy.
+          r .taken a y ha hy ∙ ap (λ (v : Bool). v && not (eqb a b)) (layer-kept a y ha hy ∙ p .left a y ha hy) ∙ lost (stored s layer a y) (ltb a b) (eqb a b)
+          ∙ ap (λ (v : Bool). stored s layer a y && not v) (below-next a) ∙ left-skip (b + 1) b′ n a y hy;
+    }

@@ -101,7 +101,7 @@ module _ (x : RuleSheet) where
 
   module _ (small : 2 ^ streams x ≤ 256) (n : ℕ) (low : 2 ^ streams x ≤ n) (high : n ≤ 256) where
     abbrev J : ℕ → ℕ → ℕ → Bool
-    J d a b = ltb b (2 ^ streams x) && joining x n (W d) (fresh x d) a b
+    J d a b = ltb b n && joining x n (W d) (fresh x d) a b
 
     found : (d a b : ℕ) → T (W (suc d) a (some b)) → T (not (W d a (some b))) → T (J d a b)
     unfolding joining meets liveWithin backSet
@@ -113,7 +113,7 @@ module _ (x : RuleSheet) where
         let e : T (holds x (some a) b (y .0)) = and-left (holds x (some a) b (y .0)) (liveWithin x 256 d b (y .0)) (y .2) in
         let w : T (liveWithin x 256 d b (y .0)) = and-right (holds x (some a) b (y .0)) (liveWithin x 256 d b (y .0)) (y .2) in
         let r : (b < 2 ^ streams x) × Within (2 ^ streams x) (y .0) = live-within x (2 ^ streams x) (omega arith) b (y .0) (within-found x 256 d b (y .0) w .0) in
-        and-both (ltb b (2 ^ streams x)) (joining x n (W d) (fresh x d) a b) (of-true (ltb b (2 ^ streams x)) (lt-ltb b (2 ^ streams x) (r .0)))
+        and-both (ltb b n) (joining x n (W d) (fresh x d) a b) (of-true (ltb b n) (lt-ltb b n (omega (arith, r .0))))
         (and-both (allowed x a) (not (W d a (some b)) && anyNext n g) ok
         (and-both (not (W d a (some b))) (anyNext n g) m
         (next-from n g (y .0) (wider (2 ^ streams x) n (y .0) low (r .1)) (and-both (fresh x d b (y .0)) (holds x (some a) b (y .0)) (newer d a b (y .0) ok (y .1) e w m) e))))
@@ -122,7 +122,7 @@ module _ (x : RuleSheet) where
     unfolding joining meets
     joined d a b t =
         let g : Option ℕ → Bool = λ c. fresh x d b c && holds x (some a) b c in
-        let j : T (joining x n (W d) (fresh x d) a b) = and-right (ltb b (2 ^ streams x)) (joining x n (W d) (fresh x d) a b) t in
+        let j : T (joining x n (W d) (fresh x d) a b) = and-right (ltb b n) (joining x n (W d) (fresh x d) a b) t in
         let r : T (not (W d a (some b)) && anyNext n g) = and-right (allowed x a) (not (W d a (some b)) && anyNext n g) j in
         let y : (c : Option ℕ) × Within n c × T (g c) = next-found n g (and-right (not (W d a (some b))) (anyNext n g) r) in
         back d a b (y .0) (and-left (allowed x a) (not (W d a (some b)) && anyNext n g) j) (wider n 256 (y .0) high (y .1))
@@ -130,7 +130,7 @@ module _ (x : RuleSheet) where
         (fresh-within d b (y .0) (and-left (fresh x d b (y .0)) (holds x (some a) b (y .0)) (y .2)))
 
     -- the pairs live within one valuation more, and those among them that are new
-    pub within-next : (d a : ℕ) (y : Option ℕ) → a < 256 → Within 256 y → W (suc d) a y ≡ (W d a y || joiners x n (2 ^ streams x) (W d) (fresh x d) a y)
+    pub within-next : (d a : ℕ) (y : Option ℕ) → a < 256 → Within 256 y → W (suc d) a y ≡ (W d a y || joiners x n n (W d) (fresh x d) a y)
     unfolding joiners
     within-next d a none ha hy = ends-are (suc d) a ∙ sym (or-false (W d a none) ∙ ends-are d a)
     within-next d a (some b) ha hy = go (W d a (some b)) refl
@@ -141,15 +141,15 @@ module _ (x : RuleSheet) where
             iff (W (suc d) a (some b)) (J d a b) (λ t. found d a b t (of-true (not (W d a (some b))) (ap not e))) (joined d a b)
             ∙ sym (ap (λ (u : Bool). u || J d a b) e)
 
-    pub fresh-next : (d a : ℕ) (y : Option ℕ) → a < 256 → Within 256 y → fresh x (suc d) a y ≡ joiners x n (2 ^ streams x) (W d) (fresh x d) a y
+    pub fresh-next : (d a : ℕ) (y : Option ℕ) → a < 256 → Within 256 y → fresh x (suc d) a y ≡ joiners x n n (W d) (fresh x d) a y
     unfolding joiners fresh layer joining
     fresh-next d a none ha hy = ap₂ (λ (u v : Bool). u && not v) (ends-are (suc d) a) (ends-are d a) ∙ never (allowed x a)
     fresh-next d a (some b) ha hy = go (W d a (some b)) refl
       where
         gone : W d a (some b) ≡ true → J d a b ≡ false
         gone e =
-            ap (λ (u : Bool). ltb b (2 ^ streams x) && (allowed x a && (not u && meets x n (fresh x d) a b))) e
-            ∙ ap (λ (u : Bool). ltb b (2 ^ streams x) && u) (and-false (allowed x a)) ∙ and-false (ltb b (2 ^ streams x))
+            ap (λ (u : Bool). ltb b n && (allowed x a && (not u && meets x n (fresh x d) a b))) e
+            ∙ ap (λ (u : Bool). ltb b n && u) (and-false (allowed x a)) ∙ and-false (ltb b n)
 
         go : (u : Bool) → W d a (some b) ≡ u → (W (suc d) a (some b) && not (W d a (some b))) ≡ J d a b
         go true e = ap (λ (u : Bool). W (suc d) a (some b) && not u) e ∙ and-false (W (suc d) a (some b)) ∙ sym (gone e)

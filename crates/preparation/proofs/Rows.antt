@@ -1,20 +1,18 @@
--- Rows of words: their lanes, written one word after the other; and whether a set has a pair.
+-- Rows of words: their lanes, written one word after the other.
 use mathlib.Core.Path.{_≡_, refl, sym, ap, ap₂, _∙_}
 use mathlib.Core.Bool.{Bool, true, false, not, _&&_, _||_}
 use mathlib.Core.List.{List, []}
-use mathlib.Core.Option.{Option, none, some}
-use Prim.Native.Nat.{ℕ, zero, suc, _+_, _-_, _*_, _/_, _%_, _^_, _≤_, _<_}
+use Prim.Native.Nat.{ℕ, _+_, _-_, _*_, _/_, _%_, _^_, _≤_, _<_}
 use native.Mathlib.Omega.{arith}
 use native.Mathlib.Decide.{ℕ-discrete, decLt}
-use borrow.Author.Tests.{eq-eqb, lt-ltb, le-ltb}
-use lib.Bits.{bitAnd}
-use lib.Count.{trailingZeros}
-use lib.Dec.{ltb}
+use borrow.Author.Tests.{eq-eqb, ne-eqb, lt-ltb, le-ltb}
+use lib.Bits.{bitAnd, bitOr}
+use lib.Dec.{eqb, ltb}
 use lib.ListN.{length, getD, set, length-set}
 use lib.Pow.{pow-pos, pow-mono, pow-lt}
 use lib.Seq.{getD-set-same, getD-set-other}
 use Rattle.words.specs.Bits.{bit}
-use Rattle.words.proofs.BitLaws.{bit-all, bit-and, bit-not, bit-none, bit-high, one-shl, bit-shl, Lowest, lowest}
+use Rattle.words.proofs.BitLaws.{bit-all, bit-and, bit-not, bit-none, bit-or, bit-high, one-shl, bit-shl}
 use Rattle.sheet.specs.RuleSheet.{requiredOf}
 use Rattle.sheet.specs.Reading.{Below}
 use Rattle.sheet.specs.declared.OutputNo.{OutputNo}
@@ -23,12 +21,9 @@ use Rattle.sheet.specs.declared.Assumed.the-variants.{Nothing, Output}
 use Rattle.sheet.proofs.Sheets.{length-trees}
 use Rattle.lanes.specs.Coded.{sheetOf}
 use Rattle.completions.specs.Live.{allowed, allTrue}
-use Rattle.completions.specs.Steps.{Within}
-use Rattle.pairs.specs.Storage.{place, slot, stored}
 use Rattle.pairs.specs.Changes.{rowBit}
-use Rattle.pairs.proofs.Bools.{and-true}
-use Rattle.pairs.proofs.Sets.{place-lt, lane, lane-end}
-use Rattle.preparation.specs.Search.{Told, United}
+use Rattle.pairs.proofs.Bools.{and-true, or-false}
+use Rattle.preparation.specs.Search.{Row, Noted, United}
 
 -- ---- the lanes below a bound
 
@@ -140,38 +135,29 @@ row-lane row j i h =
     let q : j ≡ 0 + (64 * j + i) / 64 = omega arith in
     ap₂ (λ (u v : ℕ). bit u (getD row v 0)) p q
 
--- ---- whether a set has a pair
+-- ---- a row with one valuation more
 
-pub none-told : (s : List ℕ) (base : ℕ) → ((k : ℕ) → k < 1028 → getD s (base + k) 0 ≡ 0) → Told s base false
-unfolding stored
-none-told s base f = record {
-  none-there = λ e x y hx hy. ap (bit (slot x y)) (f (place x y) (place-lt x y hx hy)) ∙ bit-none (slot x y);
-  some-there = λ e. let z : _≡_ {A = ℕ} 0 1 = cc in absurd (omega arith);
-}
-
-pub some-told : (s : List ℕ) (base k : ℕ) → k < 1028 → getD s (base + k) 0 < 2 ^ 64 → (getD s (base + k) 0 ≡ 0 → ⊥) → Told s base true
-some-told s base k h fit n = record {
-  none-there = λ e. let z : _≡_ {A = ℕ} 0 1 = cc in absurd (omega arith);
-  some-there = λ e. go (trailingZeros 64 (getD s (base + k) 0)) (lowest 64 (getD s (base + k) 0) fit n) (decLt k 1024);
-}
+pub noted : (row : List ℕ) (a : ℕ) → a < 256 → length row ≡ 4 → Noted a row (set row (a / 64) (bitOr (getD row (a / 64) 0) (1 * 2 ^ (a % 64) % 2 ^ 64)))
+unfolding rowBit
+noted row a ha l = record { same-length = length-set row (a / 64) v; gains = λ x hx. go x hx (ℕ-discrete (x / 64) (a / 64)) (ℕ-discrete x a) }
   where
-    go : (t : ℕ) → Lowest 64 (getD s (base + k) 0) t → Dec (k < 1024) → (x : ℕ) × (y : Option ℕ) × (x < 256) × Within 256 y × (stored s base x y ≡ true)
-    go t r (yes d) =
-        let e : 4 * (k / 4) + k % 4 ≡ k = omega arith in (
-          k / 4,
-          some (64 * (k % 4) + t),
-          omega arith,
-          omega (arith, r .under-k),
-          sym (lane s base (k / 4) (k % 4) t (r .under-k)) ∙ ap (λ (i : ℕ). bit t (getD s (base + i) 0)) e ∙ r .is-set,
-        )
-    go t r (no d) =
-        let e : 1024 + (k - 1024) ≡ k = omega arith in (
-          64 * (k - 1024) + t,
-          none,
-          omega (arith, r .under-k),
-          tt,
-          sym (lane-end s base (k - 1024) t (r .under-k)) ∙ ap (λ (i : ℕ). bit t (getD s (base + i) 0)) e ∙ r .is-set,
-        )
+    v : ℕ
+    v = bitOr (getD row (a / 64) 0) (1 * 2 ^ (a % 64) % 2 ^ 64)
+
+    go : (x : ℕ) → x < 256 → Dec (x / 64 ≡ a / 64) → Dec (x ≡ a) → bit (x % 64) (getD (set row (a / 64) v) (0 + x / 64) 0) ≡ (bit (x % 64) (getD row (0 + x / 64) 0) || eqb x a)
+    go x hx (yes d) e =
+        let q : 0 + x / 64 ≡ a / 64 = omega arith in
+        ap (λ (i : ℕ). bit (x % 64) (getD (set row (a / 64) v) i 0)) q
+        ∙ ap (bit (x % 64)) (getD-set-same row (a / 64) v 0 (omega arith))
+        ∙ bit-or (x % 64) (getD row (a / 64) 0) (1 * 2 ^ (a % 64) % 2 ^ 64)
+        ∙ ap₂ _||_ (ap (λ (i : ℕ). bit (x % 64) (getD row i 0)) (sym q)) (bit-shl (x % 64) (a % 64) (omega arith) ∙ same e)
+      where
+        same : Dec (x ≡ a) → eqb (x % 64) (a % 64) ≡ eqb x a
+        same (yes e) = eq-eqb (x % 64) (a % 64) (omega arith) ∙ sym (eq-eqb x a e)
+        same (no e) = ne-eqb (x % 64) (a % 64) (λ r. e (omega arith)) ∙ sym (ne-eqb x a e)
+    go x hx (no d) e =
+        ap (bit (x % 64)) (getD-set-other row (a / 64) (0 + x / 64) v 0 (omega arith))
+        ∙ sym (ap (λ (u : Bool). bit (x % 64) (getD row (0 + x / 64) 0) || u) (ne-eqb x a (λ r. d (omega arith))) ∙ or-false (bit (x % 64) (getD row (0 + x / 64) 0)))
 
 -- ---- a row that covers another
 
@@ -213,3 +199,18 @@ module _ (old ok : List ℕ) (h : ℕ → Bool) where
 
   pub gains-all : (new : List ℕ) (j w : ℕ) → w ≤ j → Writing old new (λ a u. u || (rowBit ok 0 a && h a)) j → United w old new (λ a. rowBit ok 0 a && h a)
   gains-all new j w l p = record { same-length = p .same-length; gains = λ a g. written old (λ a u. u || (rowBit ok 0 a && h a)) new j w a l p g }
+
+-- a row of one word, and of any number of words, lane by lane
+pub word-row : (row : List ℕ) (x w : ℕ) (f : ℕ → Bool) → length row ≡ 4 → w < 2 → ((i : ℕ) → i < 64 → bit i x ≡ f i) → Row w (set row 0 x) f
+unfolding rowBit
+word-row row x w f l u h a g =
+    let d : 0 + a / 64 ≡ 0 = omega arith in
+    let r : a % 64 ≡ a = omega arith in
+    ap₂ (λ (i k : ℕ). bit i (getD (set row 0 x) k 0)) r d ∙ ap (bit a) (getD-set-same row 0 x 0 (omega arith)) ∙ h a (omega arith)
+
+pub lanes-row : (row : List ℕ) (w : ℕ) (f : ℕ → Bool) → w ≤ 4 → ((j i : ℕ) → j < 4 → i < 64 → bit i (getD row j 0) ≡ f (64 * j + i)) → Row w row f
+unfolding rowBit
+lanes-row row w f u h a g =
+    let d : 0 + a / 64 ≡ a / 64 = omega arith in
+    let r : 64 * (a / 64) + a % 64 ≡ a = omega arith in
+    ap (λ (k : ℕ). bit (a % 64) (getD row k 0)) d ∙ h (a / 64) (a % 64) (omega arith) (omega arith) ∙ ap f r

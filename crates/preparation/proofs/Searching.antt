@@ -1,42 +1,69 @@
 -- The search for live pairs, layer by layer, on the storage.
 use mathlib.Core.Path.{_≡_, refl, sym, ap, ap₂, _∙_}
-use mathlib.Core.Logic.{_↔_}
+use mathlib.Core.Logic.{inl, inr}
 use mathlib.Core.Bool.{Bool, true, false, not, _&&_, _||_}
-use mathlib.Core.List.{List}
+use mathlib.Core.List.{List, []}
 use mathlib.Core.Option.{Option, none, some}
 use Prim.Native.Nat.{ℕ, zero, suc, _+_, _-_, _*_, _^_, _≤_, _<_}
 use native.Mathlib.Omega.{arith}
 use native.Mathlib.Decide.{decLt}
 use borrow.Author.Tests.{lt-ltb, le-ltb}
 use lib.Dec.{T, ltb}
-use lib.ListN.{length, getD}
+use lib.ListN.{length, getD, replicate}
 use Rattle.sheet.specs.RuleSheet.{RuleSheet, streams}
 use Rattle.completions.specs.Live.{Pairs, Live, allowed, countPairs}
 use Rattle.completions.specs.Steps.{Within, Represents}
-use Rattle.completions.proofs.Tests.{true-of, and-left, and-right}
-use Rattle.completions.proofs.Count.{pairs-lt, pairs-le, pairs-same}
+use Rattle.completions.proofs.Tests.{and-left, and-right}
+use Rattle.completions.proofs.Count.{pairs-lt, pairs-le}
 use Rattle.completions.proofs.Backward.{endSet, liveWithin, layer}
-use Rattle.pairs.specs.Storage.{stored}
-use Rattle.pairs.specs.Changes.{rowBit, Cleared, Copied}
-use Rattle.pairs.proofs.Sets.{cleared-none, cleared-before, copied-live, copied-reached}
+use Rattle.pairs.specs.Storage.{slot, stored}
+use Rattle.pairs.specs.Changes.{rowBit, NextBit, Cleared}
+use Rattle.words.proofs.BitLaws.{bit-none}
+use Rattle.pairs.proofs.Bools.{and-false}
+use Rattle.pairs.proofs.Sets.{stored-eq, cleared-none, cleared-before, set-ext}
 use Rattle.preparation.specs.Prepared.{Prepared, Reach}
-use Rattle.preparation.specs.Search.{joining, joiners, enders, Joins, Row, Told, Started, Advanced}
-use Rattle.preparation.proofs.Layers.{of-true, fresh, joining-same, fresh-within, within-next, fresh-next, all-found, reach-is}
+use Rattle.preparation.specs.Search.{joiners, enders, Joins, Row, Occupied, Apart, Started, Swept}
+use Rattle.preparation.proofs.Layers.{of-true, fresh, joining-same, within-next, fresh-next, all-found, reach-is}
 use Rattle.preparation.proofs.Joining.{beyond-none}
+use Rattle.preparation.proofs.Uniting.{empty-row}
 
 contrary : {A : Type 0} {u : Bool} → u ≡ true → u ≡ false → A
 contrary e f = let z : _≡_ {A = ℕ} 0 1 = cc in absurd (omega arith)
 
 -- ---- the parts of the code
 
-pub started : (w : ℕ) (row s t u v : List ℕ) → Cleared 0 s t → Cleared 2056 t u → Joins u v (enders (64 * w) row) → Started w row s v
-started w row s t u v c d j = record {
-  same-length = j .same-length ∙ d .same-length ∙ c .same-length;
-  beyond = λ k h. j .beyond k h ∙ d .beyond k (omega arith) ∙ c .beyond k (omega arith);
+pub started : (w : ℕ) (row s t u v z : List ℕ) → Cleared 0 s t → Cleared 1028 t u → Cleared 2056 u v → Joins 1028 v z (enders (64 * w) row) → Started w row s z
+started w row s t u v z c d e j = record {
+  same-length = j .same-length ∙ e .same-length ∙ d .same-length ∙ c .same-length;
+  beyond = λ k h. j .beyond k (omega arith) ∙ e .beyond k (omega arith) ∙ d .beyond k (omega arith) ∙ c .beyond k (omega arith);
   live = λ x y hx hy.
-      j .live x y hx hy ∙ ap (λ (z : Bool). z || enders (64 * w) row x y) (cleared-before 2056 t u d 0 x y hx hy (omega arith) ∙ cleared-none 0 s t c x y hx hy);
-  next = λ x y hx hy. j .next x y hx hy ∙ ap (λ (z : Bool). z || enders (64 * w) row x y) (cleared-none 2056 t u d x y hx hy);
+      j .live x y hx hy
+      ∙ ap (λ (b : Bool). b || enders (64 * w) row x y)
+      (cleared-before 2056 u v e 0 x y hx hy (omega arith) ∙ cleared-before 1028 t u d 0 x y hx hy (omega arith) ∙ cleared-none 0 s t c x y hx hy);
+  layer = λ x y hx hy.
+      j .next x y hx hy ∙ ap (λ (b : Bool). b || enders (64 * w) row x y) (cleared-before 2056 u v e 1028 x y hx hy (omega arith) ∙ cleared-none 1028 t u d x y hx hy);
+  next = λ x y hx hy. stored-eq v z 2056 2056 x y hx hy (λ k h. j .beyond (2056 + k) (omega arith)) ∙ cleared-none 2056 u v e x y hx hy;
 }
+
+-- the rows of the first layer are those of its ends
+pub rows-started : (w : ℕ) (row s t : List ℕ) → w ≤ 4 → Started w row s t → Occupied w row t 1028
+unfolding enders
+rows-started w row s t hw p = record {
+  none-there = λ x y hx hy f. p .layer x y hx hy ∙ none-in x y f;
+  some-there = λ x h e. (none, tt, p .layer x none (omega arith) tt ∙ ap₂ _&&_ (lt-ltb x (64 * w) h) e);
+}
+  where
+    none-in : (x : ℕ) (y : Option ℕ) → (x < 64 * w → rowBit row 0 x ≡ false) → enders (64 * w) row x y ≡ false
+    none-in x (some c) f = refl
+    none-in x none f = go (decLt x (64 * w))
+      where
+        go : Dec (x < 64 * w) → (ltb x (64 * w) && rowBit row 0 x) ≡ false
+        go (yes h) = ap (λ (u : Bool). ltb x (64 * w) && u) (f h) ∙ and-false (ltb x (64 * w))
+        go (no h) = ap (λ (u : Bool). u && rowBit row 0 x) (le-ltb x (64 * w) (omega arith))
+
+-- an empty set has no rows
+pub rows-none : (w base : ℕ) (s : List ℕ) → ((x : ℕ) (y : Option ℕ) → x < 256 → Within 256 y → stored s base x y ≡ false) → Occupied w (replicate 4 0) s base
+rows-none w base s f = record { none-there = λ x y hx hy h. f x y hx hy; some-there = λ x h e. contrary e (empty-row 4 x) }
 
 inside : (n : ℕ) → n ≤ 256 → (c : Option ℕ) → Within n c → Within 256 c
 inside n l none h = tt
@@ -52,32 +79,16 @@ module _ (x : RuleSheet) (n v : ℕ) (hn : n ≤ 256) where
   joiners-same L L′ F F′ e f a (some b) ha hy =
       ap (λ (u : Bool). ltb b v && u) (joining-same x n L L′ F F′ a b (e a (some b) ha hy) (λ c h. f b c hy (inside n hn c h)))
 
-  pub advanced : (s t u z : List ℕ) → Copied s t → Cleared 2056 t u → Joins u z (joiners x n v (stored u 0) (stored u 1028)) → Advanced x n v s z
-  advanced s t u z c d j = record {
-    same-length = j .same-length ∙ d .same-length ∙ c .same-length;
-    beyond = λ k h. j .beyond k h ∙ d .beyond k (omega arith) ∙ c .beyond k (omega arith);
-    live = λ a y ha hy. j .live a y ha hy ∙ ap₂ _||_ (live-kept a y ha hy) (same a y ha hy);
-    next = λ a y ha hy. j .next a y ha hy ∙ ap₂ _||_ (cleared-none 2056 t u d a y ha hy) (same a y ha hy);
-  }
-    where
-      live-kept : Same (stored u 0) (stored s 0)
-      live-kept a y ha hy = cleared-before 2056 t u d 0 a y ha hy (omega arith) ∙ copied-live s t c a y ha hy
-
-      same : Same (joiners x n v (stored u 0) (stored u 1028)) (joiners x n v (stored s 0) (stored s 2056))
-      same =
-          joiners-same (stored u 0) (stored s 0) (stored u 1028) (stored s 2056) live-kept
-          (λ a y ha hy. cleared-before 2056 t u d 1028 a y ha hy (omega arith) ∙ copied-reached s t c a y ha hy)
-
 -- ---- the search after d layers
 
-pub record Searching (x : RuleSheet) (s₀ s : List ℕ) (d : ℕ) (more : Bool) : Type 0 where
+pub record Searching (x : RuleSheet) (layer next : ℕ) (s₀ s : List ℕ) (d : ℕ) : Type 0 where
   pub same-length : length s ≡ length s₀
   pub beyond : (k : ℕ) → 3084 ≤ k → getD s k 0 ≡ getD s₀ k 0
   pub live : (a : ℕ) (y : Option ℕ) → a < 256 → Within 256 y → stored s 0 a y ≡ liveWithin x 256 d a y
-  pub next : (a : ℕ) (y : Option ℕ) → a < 256 → Within 256 y → stored s 2056 a y ≡ fresh x d a y
-  pub told : Told s 2056 more
+  pub newest : (a : ℕ) (y : Option ℕ) → a < 256 → Within 256 y → stored s layer a y ≡ fresh x d a y
+  pub free : (a : ℕ) (y : Option ℕ) → a < 256 → Within 256 y → stored s next a y ≡ false
   pub grown : d ≤ countPairs 256 (stored s 0)
-  pub grows : more ≡ true → d < countPairs 256 (stored s 0)
+  pub grows : (a : ℕ) (y : Option ℕ) → a < 256 → Within 256 y → stored s layer a y ≡ true → d < countPairs 256 (stored s 0)
   pub last : (e : ℕ) → d ≡ suc e → (a : ℕ) × (b : Option ℕ) × T (fresh x e a b)
 
 module _ (x : RuleSheet) (w : ℕ) (low : 2 ^ streams x ≤ 64 * w) where
@@ -90,75 +101,99 @@ module _ (x : RuleSheet) (w : ℕ) (low : 2 ^ streams x ≤ 64 * w) where
       go (yes l) = ap₂ _&&_ (lt-ltb a (64 * w) l) (r a l)
       go (no l) = ap (λ (u : Bool). u && rowBit row 0 a) (le-ltb a (64 * w) (omega arith)) ∙ sym (beyond-none x w low a (omega arith))
 
-  pub search-start : (row s t : List ℕ) (more : Bool) → Row w row (allowed x) → Started w row s t → Told t 2056 more → Searching x t t 0 more
+  pub search-start : (row s t : List ℕ) → Row w row (allowed x) → Started w row s t → Searching x 1028 2056 t t 0
   unfolding fresh liveWithin
-  search-start row s t more r p q = record {
+  search-start row s t r p = record {
     same-length = refl;
     beyond = λ k h. refl;
     live = λ a y ha hy. p .live a y ha hy ∙ ends-set row r a y;
-    next = λ a y ha hy. p .next a y ha hy ∙ ends-set row r a y;
-    told = q;
+    newest = λ a y ha hy. p .layer a y ha hy ∙ ends-set row r a y;
+    free = p .next;
     grown = omega arith;
-    grows = λ e.
-        let y = q .some-there e in
+    grows = λ a y ha hy e.
         let none-yet : Pairs = λ a b. false in
         omega (
           arith,
-          pairs-lt 256 none-yet (stored t 0) (λ a b ha hb t. absurd t) (y .0) (y .1) (y .2) (y .3) tt
-              (of-true (stored t 0 (y .0) (y .1)) (p .live (y .0) (y .1) (y .2) (y .3) ∙ sym (p .next (y .0) (y .1) (y .2) (y .3)) ∙ y .4)),
+          pairs-lt 256 none-yet (stored t 0) (λ a b ha hb t. absurd t) a y ha hy tt
+              (of-true (stored t 0 a y) (p .live a y ha hy ∙ sym (p .layer a y ha hy) ∙ e)),
         );
     last = λ e h. absurd (omega arith);
   }
 
-  module _ (small : 2 ^ streams x ≤ 256) (high : 64 * w ≤ 256) (s₀ s t : List ℕ) (d : ℕ) (more more′ : Bool) (p : Searching x s₀ s d more) (go-on : more ≡ true)
-      (q : Advanced x (64 * w) (2 ^ streams x) s t) (r : Told t 2056 more′) where
+  module _ (small : 2 ^ streams x ≤ 256) (high : 64 * w ≤ 256) (layer next : ℕ) (s₀ s t rows : List ℕ) (d r : ℕ) (p : Searching x layer next s₀ s d)
+      (o : Occupied w rows s layer) (n : NextBit rows 0 w 0 r) (go-on : r < 64 * w) (q : Swept x (64 * w) (64 * w) layer next s t) where
+    -- a pair of the layer
+    pair : (y : Option ℕ) × Within 256 y × (stored s layer r y ≡ true)
+    pair = o .some-there r go-on (n .found go-on)
+
     same : (a : ℕ) (y : Option ℕ) → a < 256 → Within 256 y
-        → joiners x (64 * w) (2 ^ streams x) (stored s 0) (stored s 2056) a y ≡ joiners x (64 * w) (2 ^ streams x) (liveWithin x 256 d) (fresh x d) a y
-    same = joiners-same x (64 * w) (2 ^ streams x) high (stored s 0) (liveWithin x 256 d) (stored s 2056) (fresh x d) (p .live) (p .next)
+        → joiners x (64 * w) (64 * w) (stored s 0) (stored s layer) a y ≡ joiners x (64 * w) (64 * w) (liveWithin x 256 d) (fresh x d) a y
+    same = joiners-same x (64 * w) (64 * w) high (stored s 0) (liveWithin x 256 d) (stored s layer) (fresh x d) (p .live) (p .newest)
 
     live-now : (a : ℕ) (y : Option ℕ) → a < 256 → Within 256 y → stored t 0 a y ≡ liveWithin x 256 (suc d) a y
     live-now a y ha hy = q .live a y ha hy ∙ ap₂ _||_ (p .live a y ha hy) (same a y ha hy) ∙ sym (within-next x small (64 * w) low high d a y ha hy)
 
-    next-now : (a : ℕ) (y : Option ℕ) → a < 256 → Within 256 y → stored t 2056 a y ≡ fresh x (suc d) a y
-    next-now a y ha hy = q .next a y ha hy ∙ same a y ha hy ∙ sym (fresh-next x small (64 * w) low high d a y ha hy)
+    newest-now : (a : ℕ) (y : Option ℕ) → a < 256 → Within 256 y → stored t next a y ≡ fresh x (suc d) a y
+    newest-now a y ha hy = q .gained a y ha hy ∙ ap₂ _||_ (p .free a y ha hy) (same a y ha hy) ∙ sym (fresh-next x small (64 * w) low high d a y ha hy)
+
+    -- every row of the layer is taken out
+    free-now : (a : ℕ) (y : Option ℕ) → a < 256 → Within 256 y → stored t layer a y ≡ false
+    free-now a y ha hy = q .left a y ha hy ∙ go (decLt a (64 * w))
+      where
+        go : Dec (a < 64 * w) → (stored s layer a y && not (ltb a (64 * w))) ≡ false
+        go (yes h) = ap (λ (u : Bool). stored s layer a y && not u) (lt-ltb a (64 * w) h) ∙ and-false (stored s layer a y)
+        go (no h) = ap (λ (u : Bool). u && not (ltb a (64 * w))) (o .none-there a y ha hy (λ g. absurd (h g)))
 
     or-kept : (u v : Bool) → T u → T (u || v)
     or-kept true v h = tt
     or-kept false v h = absurd h
 
     kept : (a : ℕ) (y : Option ℕ) → a < 256 → Within 256 y → T (stored s 0 a y) → T (stored t 0 a y)
-    kept a y ha hy h = rw (q .live a y ha hy) (or-kept (stored s 0 a y) (joiners x (64 * w) (2 ^ streams x) (stored s 0) (stored s 2056) a y) h)
+    kept a y ha hy h = rw (q .live a y ha hy) (or-kept (stored s 0 a y) (joiners x (64 * w) (64 * w) (stored s 0) (stored s layer) a y) h)
 
-    new-pair : more′ ≡ true → countPairs 256 (stored s 0) < countPairs 256 (stored t 0)
+    new-pair : (a : ℕ) (y : Option ℕ) → a < 256 → Within 256 y → stored t next a y ≡ true → countPairs 256 (stored s 0) < countPairs 256 (stored t 0)
     unfolding fresh layer
-    new-pair e =
-        let y = r .some-there e in
-        let f : T (liveWithin x 256 (suc d) (y .0) (y .1) && not (liveWithin x 256 d (y .0) (y .1))) = of-true _ (sym (next-now (y .0) (y .1) (y .2) (y .3)) ∙ y .4) in
-        pairs-lt 256 (stored s 0) (stored t 0) kept (y .0) (y .1) (y .2) (y .3)
-        (rw (p .live (y .0) (y .1) (y .2) (y .3)) (and-right (liveWithin x 256 (suc d) (y .0) (y .1)) (not (liveWithin x 256 d (y .0) (y .1))) f))
-        (rw (live-now (y .0) (y .1) (y .2) (y .3)) (and-left (liveWithin x 256 (suc d) (y .0) (y .1)) (not (liveWithin x 256 d (y .0) (y .1))) f))
+    new-pair a y ha hy e =
+        let f : T (liveWithin x 256 (suc d) a y && not (liveWithin x 256 d a y)) = of-true _ (sym (newest-now a y ha hy) ∙ e) in
+        pairs-lt 256 (stored s 0) (stored t 0) kept a y ha hy
+        (rw (p .live a y ha hy) (and-right (liveWithin x 256 (suc d) a y) (not (liveWithin x 256 d a y)) f))
+        (rw (live-now a y ha hy) (and-left (liveWithin x 256 (suc d) a y) (not (liveWithin x 256 d a y)) f))
 
-    pub search-more : Searching x s₀ t (suc d) more′
-    search-more = record {
-      same-length = q .same-length ∙ p .same-length;
-      beyond = λ k h. q .beyond k h ∙ p .beyond k h;
-      live = live-now;
-      next = next-now;
-      told = r;
-      grown = omega (arith, p .grows go-on, pairs-le 256 (stored s 0) (stored t 0) kept);
-      grows = λ e. omega (arith, p .grows go-on, new-pair e);
-      last = λ e h.
-          let y = p .told .some-there go-on in
-          let g : d ≡ e = omega arith in
-          (y .0, y .1, rw (← g) (of-true (fresh x d (y .0) (y .1)) (sym (p .next (y .0) (y .1) (y .2) (y .3)) ∙ y .4)));
-    }
+    pub search-more : Searching x next layer s₀ t (suc d)
+    search-more =
+        let l : d < countPairs 256 (stored s 0) = p .grows r (pair .0) (omega arith) (pair .1) (pair .2) in
+        record {
+          same-length = q .same-length ∙ p .same-length;
+          beyond = λ k h. q .beyond k h ∙ p .beyond k h;
+          live = live-now;
+          newest = newest-now;
+          free = free-now;
+          grown = omega (arith, l, pairs-le 256 (stored s 0) (stored t 0) kept);
+          grows = λ a y ha hy e. omega (arith, l, new-pair a y ha hy e);
+          last = λ e h.
+              let g : d ≡ e = omega arith in
+              (r, pair .0, rw (← g) (of-true (fresh x d r (pair .0)) (sym (p .newest r (pair .0) (omega arith) (pair .1)) ∙ pair .2)));
+        }
+
+-- the layer and the next layer change places
+pub apart-turned : (a b : ℕ) → Apart a b → Apart b a
+apart-turned a b (inl h) = inr h
+apart-turned a b (inr h) = inl h
 
 -- ---- the end of the search
 
-module _ (x : RuleSheet) (small : 2 ^ streams x ≤ 256) (s₀ s : List ℕ) (d : ℕ) (more : Bool) (p : Searching x s₀ s d more) (done : more ≡ false)
-    (a₀ : ℕ) (ha₀ : a₀ < 256) (ok : allowed x a₀ ≡ true) where
+-- the words of a set with no pair are 0
+words-none : (s : List ℕ) (base : ℕ) → ((k : ℕ) → getD s k 0 < 2 ^ 64) → ((a : ℕ) (y : Option ℕ) → a < 256 → Within 256 y → stored s base a y ≡ false) → (k : ℕ) → k < 1028 → getD s (base + k) 0 ≡ 0
+unfolding stored
+words-none s base fit f k h = set-ext s [] base 0 (λ k h. fit (base + k)) (λ k h. omega arith) (λ a y ha hy. f a y ha hy ∙ sym (bit-none (slot a y))) k h
+
+module _ (x : RuleSheet) (small : 2 ^ streams x ≤ 256) (w layer next : ℕ) (s₀ s rows : List ℕ) (d k : ℕ) (p : Searching x layer next s₀ s d)
+    (o : Occupied w rows s layer) (n : NextBit rows 0 w 0 k) (done : 64 * w ≤ k) (a₀ : ℕ) (ha₀ : a₀ < 256) (ok : allowed x a₀ ≡ true) where
+  gone : (a : ℕ) (b : Option ℕ) → a < 256 → Within 256 b → stored s layer a b ≡ false
+  gone a b ha hb = o .none-there a b ha hb (λ h. n .skipped a (omega arith) (omega arith))
+
   empty : (a : ℕ) (b : Option ℕ) → a < 256 → Within 256 b → fresh x d a b ≡ false
-  empty a b ha hb = sym (p .next a b ha hb) ∙ p .told .none-there done a b ha hb
+  empty a b ha hb = sym (p .newest a b ha hb) ∙ gone a b ha hb
 
   pub some-layer : 1 ≤ d
   unfolding fresh endSet
@@ -184,31 +219,30 @@ module _ (x : RuleSheet) (small : 2 ^ streams x ≤ 256) (s₀ s : List ℕ) (d 
       represents : Represents 256 (stored s 0) (Live x)
       represents a b ha hb = rw (is a b ha hb) (all-found x small e none-left a b ha hb)
 
-  module _ (s₁ row t u : List ℕ) (w r : ℕ) (st : Started w row s₁ s₀) (c : Cleared 1028 s t) (k : Cleared 2056 t u) (n : r ≡ countPairs 256 (stored u 0)) (bd : r ≤ 65792) where
-    live-kept : (a : ℕ) (y : Option ℕ) → a < 256 → Within 256 y → stored u 0 a y ≡ stored s 0 a y
-    live-kept a y ha hy = cleared-before 2056 t u k 0 a y ha hy (omega arith) ∙ cleared-before 1028 s t c 0 a y ha hy (omega arith)
+  module _ (s₁ row : List ℕ) (r : ℕ) (places : Apart layer next) (low : (1028 ≤ layer) × (layer ≤ 2056) × (1028 ≤ next) × (next ≤ 2056)) (fit : (k : ℕ) → getD s k 0 < 2 ^ 64)
+      (st : Started w row s₁ s₀) (c : r ≡ countPairs 256 (stored s 0)) (bd : r ≤ 65792) where
+    -- the two sets fill the words from 1,028 on
+    zero-now : (i base : ℕ) → base ≤ i → i < base + 1028 → ((a : ℕ) (y : Option ℕ) → a < 256 → Within 256 y → stored s base a y ≡ false) → getD s i 0 ≡ 0
+    zero-now i base h l f = let e : i ≡ base + (i - base) = omega arith in ap (λ (j : ℕ). getD s j 0) e ∙ words-none s base fit f (i - base) (omega arith)
 
-    wiped : (i : ℕ) → 1028 ≤ i → i < 3084 → Dec (i < 2056) → getD u i 0 ≡ 0
-    wiped i h l (yes b) = let e : i ≡ 1028 + (i - 1028) = omega arith in k .before i b ∙ ap (λ (j : ℕ). getD t j 0) e ∙ c .zero-now (i - 1028) (omega arith)
-    wiped i h l (no b) = let e : i ≡ 2056 + (i - 2056) = omega arith in ap (λ (j : ℕ). getD u j 0) e ∙ k .zero-now (i - 2056) (omega arith)
+    wiped : (i : ℕ) → 1028 ≤ i → i < 3084 → Apart layer next → Dec (i < 2056) → getD s i 0 ≡ 0
+    wiped i h l (inl g) (yes b) = zero-now i layer (omega arith) (omega arith) gone
+    wiped i h l (inl g) (no b) = zero-now i next (omega arith) (omega arith) (p .free)
+    wiped i h l (inr g) (yes b) = zero-now i next (omega arith) (omega arith) (p .free)
+    wiped i h l (inr g) (no b) = zero-now i layer (omega arith) (omega arith) gone
 
-    pub search-end : Prepared x s₁ u r × Reach x (d - 1) × (d - 1 < r)
+    pub search-end : Prepared x s₁ s r × Reach x (d - 1) × (d - 1 < r)
     search-end =
         let e : d ≡ suc (d - 1) = omega (arith, some-layer) in
         let f : Represents 256 (stored s 0) (Live x) × Reach x (d - 1) = found (d - 1) e in (
           record {
-            same-length = k .same-length ∙ c .same-length ∙ p .same-length ∙ st .same-length;
-            beyond = λ i h. k .beyond i (omega arith) ∙ c .beyond i (omega arith) ∙ p .beyond i h ∙ st .beyond i h;
-            live = λ a b ha hb. rw (live-kept a b ha hb) (f .0 a b ha hb);
-            cleared = λ i h l. wiped i h l (decLt i 2056);
-            counted = n;
+            same-length = p .same-length ∙ st .same-length;
+            beyond = λ i h. p .beyond i h ∙ st .beyond i h;
+            live = f .0;
+            cleared = λ i h l. wiped i h l places (decLt i 2056);
+            counted = c;
             bound = bd;
           },
           f .1,
-          omega (
-            arith,
-            some-layer,
-            p .grown,
-            pairs-same 256 (stored s 0) (stored u 0) (λ a b ha hb t. rw (live-kept a b ha hb) t) (λ a b ha hb t. rw (live-kept a b ha hb) at t),
-          ),
+          omega (arith, some-layer, p .grown),
         )

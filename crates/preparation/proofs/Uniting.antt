@@ -1,28 +1,24 @@
 -- The valuations before a round, gathered over the pairs of a layer.
 use mathlib.Core.Path.{_≡_, refl, sym, ap, ap₂, _∙_}
-use mathlib.Core.Bool.{Bool, true, false, not, _&&_, _||_}
+use mathlib.Core.Bool.{Bool, true, false, _&&_, _||_}
 use mathlib.Core.List.{List}
-use mathlib.Core.Option.{Option, none, some}
-use Prim.Native.Nat.{ℕ, zero, suc, _+_, _-_, _*_, _/_, _%_, _^_, _≤_, _<_}
+use mathlib.Core.Option.{none, some}
+use Prim.Native.Nat.{ℕ, zero, suc, _+_, _-_, _*_, _/_, _%_, _≤_, _<_}
 use native.Mathlib.Omega.{arith}
-use lib.ListN.{length, getD, replicate}
-use lib.Dec.{eqb}
-use native.Mathlib.Decide.{ℕ-discrete}
-use borrow.Author.Tests.{ne-eqb}
+use lib.ListN.{getD, replicate}
 use Rattle.words.specs.Bits.{bit}
 use Rattle.words.proofs.BitLaws.{bit-none}
 use Rattle.words.specs.Below.{anyBelow}
 use Rattle.words.proofs.AnyLaws.{any-one, any-add, none-any}
 use Rattle.sheet.specs.RuleSheet.{RuleSheet}
 use Rattle.lola.specs.Equations.{holds}
-use Rattle.completions.specs.Live.{Pairs, allowed}
-use Rattle.completions.specs.Steps.{Within, anyNext}
+use Rattle.completions.specs.Live.{allowed}
+use Rattle.completions.specs.Steps.{anyNext}
 use Rattle.pairs.specs.Storage.{stored}
 use Rattle.pairs.specs.Changes.{rowBit, NextBit}
-use Rattle.pairs.proofs.Bools.{and-true, and-false, or-false, or-assoc, or-comm}
+use Rattle.pairs.proofs.Bools.{and-false, or-false, or-assoc, or-comm}
 use Rattle.pairs.proofs.Sets.{row-bit}
-use Rattle.preparation.specs.Search.{meets, joining, joinersAt, Joins, Row, United}
-use Rattle.preparation.proofs.Joining.{joins-none}
+use Rattle.preparation.specs.Search.{meets, Row, United}
 
 -- ---- unions
 
@@ -62,28 +58,28 @@ and-or : (o u v : Bool) → ((o && u) || (o && v)) ≡ (o && (v || u))
 and-or true u v = or-comm u v
 and-or false u v = refl
 
-module _ (x : RuleSheet) (w : ℕ) (ok s : List ℕ) (b : ℕ) where
+module _ (x : RuleSheet) (w : ℕ) (ok s : List ℕ) (layer b : ℕ) where
   abbrev F : ℕ → ℕ → Bool
-  F a c = stored s 1028 b (some c) && holds x (some a) b (some c)
+  F a c = stored s layer b (some c) && holds x (some a) b (some c)
 
   pub record Uniting (old new : List ℕ) (c : ℕ) : Type 0 where
-    pub sofar : United w old new (λ a. rowBit ok 0 a && anyBelow c (λ c. stored s 1028 b (some c) && holds x (some a) b (some c)))
-    pub next : c < 64 * w → stored s 1028 b (some c) ≡ true
+    pub sofar : United w old new (λ a. rowBit ok 0 a && anyBelow c (λ c. stored s layer b (some c) && holds x (some a) b (some c)))
+    pub next : c < 64 * w → stored s layer b (some c) ≡ true
 
-  gone : (from c : ℕ) → NextBit s (1028 + 4 * b) w from c → (a : ℕ) → (y : ℕ) → from ≤ y → y < c → F a y ≡ false
-  gone from c n a y l h = ap (λ (u : Bool). u && holds x (some a) b (some y)) (sym (row-bit s 1028 b y) ∙ n .skipped y l h)
+  gone : (from c : ℕ) → NextBit s (layer + 4 * b) w from c → (a : ℕ) → (y : ℕ) → from ≤ y → y < c → F a y ≡ false
+  gone from c n a y l h = ap (λ (u : Bool). u && holds x (some a) b (some y)) (sym (row-bit s layer b y) ∙ n .skipped y l h)
 
-  pub uniting-first : (old : List ℕ) (c : ℕ) → NextBit s (1028 + 4 * b) w 0 c → Uniting old old c
+  pub uniting-first : (old : List ℕ) (c : ℕ) → NextBit s (layer + 4 * b) w 0 c → Uniting old old c
   unfolding anyBelow
   uniting-first old c n = record {
     sofar =
         united-none w old (λ a. rowBit ok 0 a && anyBelow c (F a))
         (λ a l. ap (λ (u : Bool). rowBit ok 0 a && u) (sym (any-skip 0 c (F a) (omega arith) (gone 0 c n a))) ∙ and-false (rowBit ok 0 a));
-    next = λ h. sym (row-bit s 1028 b c) ∙ n .found h;
+    next = λ h. sym (row-bit s layer b c) ∙ n .found h;
   }
 
   pub uniting-more : (old new new′ : List ℕ) (c c′ : ℕ) → c < 64 * w → Uniting old new c → United w new new′ (λ a. rowBit ok 0 a && holds x (some a) b (some c))
-      → NextBit s (1028 + 4 * b) w (c + 1) c′ → Uniting old new′ c′
+      → NextBit s (layer + 4 * b) w (c + 1) c′ → Uniting old new′ c′
   uniting-more old new new′ c c′ hc p q n = record {
     sofar =
         united-then w old new new′ (λ a. rowBit ok 0 a && anyBelow c (F a)) (λ a. rowBit ok 0 a && holds x (some a) b (some c)) (λ a. rowBit ok 0 a && anyBelow c′ (F a)) (p .sofar) q
@@ -91,11 +87,11 @@ module _ (x : RuleSheet) (w : ℕ) (ok s : List ℕ) (b : ℕ) where
         ∙ ap (λ (u : Bool). rowBit ok 0 a && u)
         (ap (λ (u : Bool). (u && holds x (some a) b (some c)) || anyBelow c (F a)) (sym (p .next hc)) ∙ sym (any-one c (F a))
         ∙ any-skip (c + 1) c′ (F a) (n .onward) (gone (c + 1) c′ n a)));
-    next = λ h. sym (row-bit s 1028 b c′) ∙ n .found h;
+    next = λ h. sym (row-bit s layer b c′) ∙ n .found h;
   }
 
   pub uniting-all : (old new : List ℕ) (c : ℕ) → c ≡ 64 * w → Uniting old new c
-      → United w old new (λ a. rowBit ok 0 a && anyBelow (64 * w) (λ c. stored s 1028 b (some c) && holds x (some a) b (some c)))
+      → United w old new (λ a. rowBit ok 0 a && anyBelow (64 * w) (λ c. stored s layer b (some c) && holds x (some a) b (some c)))
   uniting-all old new c e p =
       united-as w old new (λ a. rowBit ok 0 a && anyBelow c (F a)) (λ a. rowBit ok 0 a && anyBelow (64 * w) (F a)) (p .sofar)
       (λ a l. ap (λ (k : ℕ). rowBit ok 0 a && anyBelow k (F a)) e)
@@ -105,50 +101,25 @@ module _ (x : RuleSheet) (w : ℕ) (ok s : List ℕ) (b : ℕ) where
   abbrev G : ℕ → Bool
   G a = anyBelow (64 * w) (F a)
 
-  pub united-no-end : (old new : List ℕ) → stored s 1028 b none ≡ false → United w old new (λ a. rowBit ok 0 a && anyBelow (64 * w) (λ c. stored s 1028 b (some c) && holds x (some a) b (some c)))
-      → United w old new (λ a. rowBit ok 0 a && meets x (64 * w) (stored s 1028) a b)
+  pub united-no-end : (old new : List ℕ) → stored s layer b none ≡ false → United w old new (λ a. rowBit ok 0 a && anyBelow (64 * w) (λ c. stored s layer b (some c) && holds x (some a) b (some c)))
+      → United w old new (λ a. rowBit ok 0 a && meets x (64 * w) (stored s layer) a b)
   unfolding meets anyNext
   united-no-end old new e p =
-      united-as w old new (λ a. rowBit ok 0 a && G a) (λ a. rowBit ok 0 a && ((stored s 1028 b none && holds x (some a) b none) || G a)) p
+      united-as w old new (λ a. rowBit ok 0 a && G a) (λ a. rowBit ok 0 a && ((stored s layer b none && holds x (some a) b none) || G a)) p
       (λ a l. ap (λ (u : Bool). rowBit ok 0 a && ((u && holds x (some a) b none) || G a)) (sym e))
 
-  pub united-end : (old new new′ : List ℕ) → stored s 1028 b none ≡ true → United w old new (λ a. rowBit ok 0 a && anyBelow (64 * w) (λ c. stored s 1028 b (some c) && holds x (some a) b (some c)))
-      → United w new new′ (λ a. rowBit ok 0 a && holds x (some a) b none) → United w old new′ (λ a. rowBit ok 0 a && meets x (64 * w) (stored s 1028) a b)
+  pub united-end : (old new new′ : List ℕ) → stored s layer b none ≡ true → United w old new (λ a. rowBit ok 0 a && anyBelow (64 * w) (λ c. stored s layer b (some c) && holds x (some a) b (some c)))
+      → United w new new′ (λ a. rowBit ok 0 a && holds x (some a) b none) → United w old new′ (λ a. rowBit ok 0 a && meets x (64 * w) (stored s layer) a b)
   unfolding meets anyNext
   united-end old new new′ e p q =
       united-then w old new new′ (λ a. rowBit ok 0 a && G a) (λ a. rowBit ok 0 a && holds x (some a) b none)
-      (λ a. rowBit ok 0 a && ((stored s 1028 b none && holds x (some a) b none) || G a)) p q
+      (λ a. rowBit ok 0 a && ((stored s layer b none && holds x (some a) b none) || G a)) p q
       (λ a l. and-or (rowBit ok 0 a) (G a) (holds x (some a) b none) ∙ ap (λ (u : Bool). rowBit ok 0 a && ((u && holds x (some a) b none) || G a)) (sym e))
 
 -- a row that was empty
 pub row-from : (x : RuleSheet) (w : ℕ) (ok old new : List ℕ) (M : ℕ → Bool) → ((a : ℕ) → a < 64 * w → rowBit old 0 a ≡ false) → Row w ok (allowed x)
     → United w old new (λ a. rowBit ok 0 a && M a) → Row w new (λ a. allowed x a && M a)
 row-from x w ok old new M z r p a l = p .gains a l ∙ ap₂ (λ (u v : Bool). u || (v && M a)) (z a l) (r a l)
-
--- ---- where the layer's row is empty nothing joins
-
-pub nothing-joins : (x : RuleSheet) (n : ℕ) (s : List ℕ) (b : ℕ) → ((c : Option ℕ) → Within n c → stored s 1028 b c ≡ false) → Joins s s (joinersAt x n b (stored s 0) (stored s 1028))
-unfolding joinersAt joining meets anyNext
-nothing-joins x n s b h = joins-none s (joinersAt x n b (stored s 0) (stored s 1028)) at
-  where
-    at : (a : ℕ) (y : Option ℕ) → a < 256 → Within 256 y → joinersAt x n b (stored s 0) (stored s 1028) a y ≡ false
-    at a none ha hy = refl
-    at a (some c) ha hy = go (ℕ-discrete c b)
-      where
-        M : ℕ → Bool
-        M k = (stored s 1028 k none && holds x (some a) k none) || anyBelow n (λ c. stored s 1028 k (some c) && holds x (some a) k (some c))
-
-        none-met : M b ≡ false
-        none-met =
-            ap₂ (λ (u v : Bool). (u && holds x (some a) b none) || v) (h none tt)
-            (none-any n (λ c. stored s 1028 b (some c) && holds x (some a) b (some c)) (λ i l. ap (λ (u : Bool). u && holds x (some a) b (some i)) (h (some i) l)))
-
-        go : Dec (c ≡ b) → (eqb c b && (allowed x a && (not (stored s 0 a (some c)) && M c))) ≡ false
-        go (no d) = ap (λ (u : Bool). u && (allowed x a && (not (stored s 0 a (some c)) && M c))) (ne-eqb c b d)
-        go (yes d) =
-            ap (λ (u : Bool). eqb c b && (allowed x a && (not (stored s 0 a (some c)) && u))) (ap M d ∙ none-met)
-            ∙ ap (λ (u : Bool). eqb c b && (allowed x a && u)) (and-false (not (stored s 0 a (some c))))
-            ∙ ap (λ (u : Bool). eqb c b && u) (and-false (allowed x a)) ∙ and-false (eqb c b)
 
 -- a table of zeros
 pub zeros : (n k : ℕ) → _≡_ {A = ℕ} (getD (replicate n 0) k 0) 0
@@ -159,9 +130,3 @@ zeros (suc n) (suc k) = zeros n k
 pub empty-row : (n a : ℕ) → rowBit (replicate n 0) 0 a ≡ false
 unfolding rowBit
 empty-row n a = ap (bit (a % 64)) (zeros n (0 + a / 64)) ∙ bit-none (a % 64)
-
--- a row of the layer in which the code finds nothing
-pub row-none : (s : List ℕ) (w b r : ℕ) (u : Bool) → NextBit s (1028 + 4 * b) w 0 r → 64 * w ≤ r → u ≡ stored s 1028 b none → u ≡ false
-    → (c : Option ℕ) → Within (64 * w) c → stored s 1028 b c ≡ false
-row-none s w b r u n h e f none k = sym e ∙ f
-row-none s w b r u n h e f (some c) k = sym (row-bit s 1028 b c) ∙ n .skipped c (omega arith) (omega arith)

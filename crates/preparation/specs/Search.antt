@@ -1,9 +1,10 @@
 -- One layer of the search for live pairs: for the contracts of private functions.
 use mathlib.Core.Path.{_≡_}
+use mathlib.Core.Logic.{_⊎_}
 use mathlib.Core.Bool.{Bool, true, false, not, _&&_, _||_}
 use mathlib.Core.List.{List}
 use mathlib.Core.Option.{Option, none, some}
-use Prim.Native.Nat.{ℕ, _*_, _≤_, _<_}
+use Prim.Native.Nat.{ℕ, _+_, _*_, _≤_, _<_}
 use lib.Dec.{eqb, ltb}
 use lib.ListN.{length, getD}
 use Rattle.sheet.specs.RuleSheet.{RuleSheet}
@@ -41,13 +42,13 @@ unfoldable pub enders : ℕ → List ℕ → Pairs
 enders n row a none = ltb a n && rowBit row 0 a
 enders n row a (some c) = false
 
--- the live set and the scratch set have both gained the pairs P, and no other word is changed
-pub record Joins (s t : List ℕ) (P : Pairs) : Type 0 where
+-- the live set and the set at `base` have both gained the pairs P, and no other word is changed
+pub record Joins (base : ℕ) (s t : List ℕ) (P : Pairs) : Type 0 where
   pub same-length : length t ≡ length s
-  pub layer : (k : ℕ) → 1028 ≤ k → k < 2056 → getD t k 0 ≡ getD s k 0
-  pub beyond : (k : ℕ) → 3084 ≤ k → getD t k 0 ≡ getD s k 0
+  pub between : (k : ℕ) → 1028 ≤ k → k < base → getD t k 0 ≡ getD s k 0
+  pub beyond : (k : ℕ) → base + 1028 ≤ k → getD t k 0 ≡ getD s k 0
   pub live : (x : ℕ) (y : Option ℕ) → x < 256 → Within 256 y → stored t 0 x y ≡ (stored s 0 x y || P x y)
-  pub next : (x : ℕ) (y : Option ℕ) → x < 256 → Within 256 y → stored t 2056 x y ≡ (stored s 2056 x y || P x y)
+  pub next : (x : ℕ) (y : Option ℕ) → x < 256 → Within 256 y → stored t base x y ≡ (stored s base x y || P x y)
 
 -- w words hold f
 abbrev pub Row : ℕ → List ℕ → (ℕ → Bool) → Type 0
@@ -58,21 +59,32 @@ pub record United (w : ℕ) (s t : List ℕ) (f : ℕ → Bool) : Type 0 where
   pub same-length : length t ≡ length s
   pub gains : (a : ℕ) → a < 64 * w → rowBit t 0 a ≡ (rowBit s 0 a || f a)
 
--- whether the set at `base` has a pair
-pub record Told (s : List ℕ) (base : ℕ) (r : Bool) : Type 0 where
-  pub none-there : r ≡ false → (x : ℕ) (y : Option ℕ) → x < 256 → Within 256 y → stored s base x y ≡ false
-  pub some-there : r ≡ true → (x : ℕ) × (y : Option ℕ) × (x < 256) × Within 256 y × (stored s base x y ≡ true)
+-- a row of words has gained a
+pub record Noted (a : ℕ) (s t : List ℕ) : Type 0 where
+  pub same-length : length t ≡ length s
+  pub gains : (x : ℕ) → x < 256 → rowBit t 0 x ≡ (rowBit s 0 x || eqb x a)
 
--- the storage where the search begins: the ends of the row's valuations are live, and they are the next layer
+-- the rows of the set at `base` that have a pair are below 64 w, and they are the bits of the w words
+pub record Occupied (w : ℕ) (rows s : List ℕ) (base : ℕ) : Type 0 where
+  pub none-there : (x : ℕ) (y : Option ℕ) → x < 256 → Within 256 y → (x < 64 * w → rowBit rows 0 x ≡ false) → stored s base x y ≡ false
+  pub some-there : (x : ℕ) → x < 64 * w → rowBit rows 0 x ≡ true → (y : Option ℕ) × Within 256 y × (stored s base x y ≡ true)
+
+-- two sets have no word in common
+abbrev pub Apart : ℕ → ℕ → Type 0
+Apart base base′ = (base + 1028 ≤ base′) ⊎ (base′ + 1028 ≤ base)
+
+-- the storage where the search begins: the ends of the row's valuations are live, and they are the layer at 1,028
 pub record Started (w : ℕ) (row s t : List ℕ) : Type 0 where
   pub same-length : length t ≡ length s
   pub beyond : (k : ℕ) → 3084 ≤ k → getD t k 0 ≡ getD s k 0
   pub live : (x : ℕ) (y : Option ℕ) → x < 256 → Within 256 y → stored t 0 x y ≡ enders (64 * w) row x y
-  pub next : (x : ℕ) (y : Option ℕ) → x < 256 → Within 256 y → stored t 2056 x y ≡ enders (64 * w) row x y
+  pub layer : (x : ℕ) (y : Option ℕ) → x < 256 → Within 256 y → stored t 1028 x y ≡ enders (64 * w) row x y
+  pub next : (x : ℕ) (y : Option ℕ) → x < 256 → Within 256 y → stored t 2056 x y ≡ false
 
--- one layer more
-pub record Advanced (x : RuleSheet) (n v : ℕ) (s t : List ℕ) : Type 0 where
+-- the layer's rows below v are taken out, and what may stand before their pairs is live and in the next layer
+pub record Swept (x : RuleSheet) (n v layer next : ℕ) (s t : List ℕ) : Type 0 where
   pub same-length : length t ≡ length s
   pub beyond : (k : ℕ) → 3084 ≤ k → getD t k 0 ≡ getD s k 0
-  pub live : (a : ℕ) (y : Option ℕ) → a < 256 → Within 256 y → stored t 0 a y ≡ (stored s 0 a y || joiners x n v (stored s 0) (stored s 2056) a y)
-  pub next : (a : ℕ) (y : Option ℕ) → a < 256 → Within 256 y → stored t 2056 a y ≡ joiners x n v (stored s 0) (stored s 2056) a y
+  pub live : (a : ℕ) (y : Option ℕ) → a < 256 → Within 256 y → stored t 0 a y ≡ (stored s 0 a y || joiners x n v (stored s 0) (stored s layer) a y)
+  pub gained : (a : ℕ) (y : Option ℕ) → a < 256 → Within 256 y → stored t next a y ≡ (stored s next a y || joiners x n v (stored s 0) (stored s layer) a y)
+  pub left : (a : ℕ) (y : Option ℕ) → a < 256 → Within 256 y → stored t layer a y ≡ (stored s layer a y && not (ltb a v))

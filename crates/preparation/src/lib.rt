@@ -13,11 +13,10 @@ ghost use Rattle.sheet.specs.Reading.{Below};
 ghost use Rattle.completions.specs.Live.{Pairs, allowed};
 ghost use Rattle.pairs.specs.Storage.{stored};
 ghost use Rattle.pairs.specs.Changes.{eqNext, rowBit};
-ghost use Rattle.completions.specs.Steps.{Within};
 ghost use Rattle.lola.specs.Equations.{holds};
-ghost use Rattle.lanes.specs.Table.{Ahead, unless};
+ghost use Rattle.lanes.specs.Around.{Ahead, unless};
 ghost use Rattle.lanes.specs.Coded.{Coded, sheetOf};
-ghost use Rattle.preparation.specs.Search.{meets, joinersAt, joiners, newcomers, enders, Joins, Row, United, Told, Started, Advanced};
+ghost use Rattle.preparation.specs.Search.{meets, joinersAt, newcomers, enders, Joins, Row, United, Noted, Occupied, Apart, Started, Swept};
 ghost use Rattle.preparation.specs.Prepared.{Prepared, Reach};
 use sheet::Assumed;
 
@@ -77,33 +76,44 @@ fn covers(row: &[u64], ok: &[u64], w: usize) -> bool
     true
 }
 
-// old with the lanes i of ok in which the equations hold at b after 64 j + i.
-fn gained_word(
-    t: &mut [u64],
+// The lanes i of the w words j in which the equations hold at b after 64 j + i, by what is read.
+fn predecessors(
+    x: &mut [u64],
     st: &mut [u64],
     code: &[u8],
     len: &[usize],
     m: usize,
     n: usize,
+    w: usize,
+    env: u64,
     b: usize,
-    j: usize,
-    ok: u64,
-    old: u64,
-) -> u64
+)
     requires { ⌜ Coded m n (now code) (now len) ⌝ }
-    requires { ⌜ (length (now st) ≡ 64) × (length (now t) ≡ 48) × (j < 4) ⌝ }
-    ensures { λ r. ⌜ ((c : Option ℕ) → Ahead (now (t .entry)) b c → Ahead (now (t .exit)) b c × ((ks : List ℕ) (i : ℕ) → i < 64 → bit i r ≡ (bit i old || (bit i ok && holds (sheetOf m n (now (code .entry)) (now (len .entry)) ks) (some (64 * j + i)) b c)))) ⌝ }
+    requires { ⌜ (w ≤ 4) × (length (now x) ≡ 4) × (256 ≤ length (now st)) ⌝ }
+    ensures { λ r. ⌜ ((c : Option ℕ) → Ahead env b c → (ks : List ℕ) → Row w (now (x .exit)) (λ a. holds (sheetOf m n (now (code .entry)) (now (len .entry)) ks) (some a) b c)) ⌝ }
 {
-    if ok & !old == 0 {
-        return old;
+    if w < 2 {
+        x[0] = lanes::predecessors_word(st, code, len, m, n, env, b);
+        return;
     }
-    old | ok & lanes::predecessors_word(t, st, code, len, m, n, b, j)
+    lanes::predecessors_row(x, st, code, len, m, n, env, b);
+}
+
+// The row gains the valuations that are both in ok and in x.
+fn gain(row: &mut [u64], ok: &[u64], x: &[u64], w: usize)
+    requires { ⌜ (w ≤ 4) × (length (now row) ≡ 4) × (length (now ok) ≡ 4) × (length (now x) ≡ 4) ⌝ }
+    ensures { λ r. ⌜ United w (now (row .entry)) (now (row .exit)) (λ a. rowBit (now (ok .entry)) 0 a && rowBit (now (x .entry)) 0 a) ⌝ }
+{
+    let mut j: usize = 0;
+    while j < w {
+        row[j] = row[j] | ok[j] & x[j];
+        j += 1;
+    }
 }
 
 // The row gains the a of ok that may stand before b and c or, where last, before b and the end.
 fn unite(
     row: &mut [u64],
-    t: &mut [u64],
     st: &mut [u64],
     ok: &[u64],
     code: &[u8],
@@ -116,25 +126,21 @@ fn unite(
     c: usize,
 )
     requires { ⌜ Coded m n (now code) (now len) ⌝ }
-    requires { ⌜ (w ≤ 4) × (length (now row) ≡ 4) × (length (now ok) ≡ 4) × (length (now st) ≡ 64) × (length (now t) ≡ 48) ⌝ }
+    requires { ⌜ (w ≤ 4) × (length (now row) ≡ 4) × (length (now ok) ≡ 4) × (256 ≤ length (now st)) × (b < 256) × (c < 256) ⌝ }
     ensures { λ r. ⌜ ((ks : List ℕ) → United w (now (row .entry)) (now (row .exit)) (λ a. rowBit (now (ok .entry)) 0 a && holds (sheetOf m n (now (code .entry)) (now (len .entry)) ks) (some a) b (unless last c))) ⌝ }
 {
     if covers(row, ok, w) {
         return;
     }
-    lanes::look_ahead(t, last, b, c);
-    let mut j: usize = 0;
-    while j < w {
-        let old = row[j];
-        row[j] = gained_word(t, st, code, len, m, n, b, j, ok[j], old);
-        j += 1;
-    }
+    let env = lanes::ahead(b, last, c);
+    let mut x = [0u64; 4];
+    predecessors(&mut x, st, code, len, m, n, w, env, b);
+    gain(row, ok, &x, w);
 }
 
 // The same for each valuation of the layer's row b.
 fn unite_valuations(
     row: &mut [u64],
-    t: &mut [u64],
     st: &mut [u64],
     ok: &[u64],
     s: &[u64],
@@ -143,16 +149,17 @@ fn unite_valuations(
     m: usize,
     n: usize,
     w: usize,
+    layer: usize,
     b: usize,
 )
     requires { ⌜ Coded m n (now code) (now len) ⌝ }
-    requires { ⌜ (w ≤ 4) × (length (now row) ≡ 4) × (length (now ok) ≡ 4) × (length (now st) ≡ 64) × (length (now t) ≡ 48) × (b < 256) × (3084 ≤ length (now s)) ⌝ }
-    ensures { λ r. ⌜ ((ks : List ℕ) → United w (now (row .entry)) (now (row .exit)) (λ a. rowBit (now (ok .entry)) 0 a && anyBelow (64 * w) (λ c. stored (now (s .entry)) 1028 b (some c) && holds (sheetOf m n (now (code .entry)) (now (len .entry)) ks) (some a) b (some c)))) ⌝ }
+    requires { ⌜ (w ≤ 4) × (length (now row) ≡ 4) × (length (now ok) ≡ 4) × (256 ≤ length (now st)) × (b < 256) × (layer ≤ 2056) × (3084 ≤ length (now s)) ⌝ }
+    ensures { λ r. ⌜ ((ks : List ℕ) → United w (now (row .entry)) (now (row .exit)) (λ a. rowBit (now (ok .entry)) 0 a && anyBelow (64 * w) (λ c. stored (now (s .entry)) layer b (some c) && holds (sheetOf m n (now (code .entry)) (now (len .entry)) ks) (some a) b (some c)))) ⌝ }
 {
-    let first = 1028 + 4 * b;
+    let first = layer + 4 * b;
     let mut c = pairs::next_bit(s, first, w, 0);
     while c < 64 * w {
-        unite(row, t, st, ok, code, len, m, n, w, b, false, c);
+        unite(row, st, ok, code, len, m, n, w, b, false, c);
         c = pairs::next_bit(s, first, w, c + 1);
     }
 }
@@ -160,7 +167,6 @@ fn unite_valuations(
 // The row gains the a of ok that the layer lets stand before b.
 fn unite_row(
     row: &mut [u64],
-    t: &mut [u64],
     st: &mut [u64],
     ok: &[u64],
     s: &[u64],
@@ -169,67 +175,69 @@ fn unite_row(
     m: usize,
     n: usize,
     w: usize,
+    layer: usize,
     b: usize,
 )
     requires { ⌜ Coded m n (now code) (now len) ⌝ }
-    requires { ⌜ (w ≤ 4) × (length (now row) ≡ 4) × (length (now ok) ≡ 4) × (length (now st) ≡ 64) × (length (now t) ≡ 48) × (b < 256) × (3084 ≤ length (now s)) ⌝ }
-    ensures { λ r. ⌜ ((ks : List ℕ) → United w (now (row .entry)) (now (row .exit)) (λ a. rowBit (now (ok .entry)) 0 a && meets (sheetOf m n (now (code .entry)) (now (len .entry)) ks) (64 * w) (stored (now (s .entry)) 1028) a b)) ⌝ }
+    requires { ⌜ (w ≤ 4) × (length (now row) ≡ 4) × (length (now ok) ≡ 4) × (256 ≤ length (now st)) × (b < 256) × (layer ≤ 2056) × (3084 ≤ length (now s)) ⌝ }
+    ensures { λ r. ⌜ ((ks : List ℕ) → United w (now (row .entry)) (now (row .exit)) (λ a. rowBit (now (ok .entry)) 0 a && meets (sheetOf m n (now (code .entry)) (now (len .entry)) ks) (64 * w) (stored (now (s .entry)) layer) a b)) ⌝ }
 {
-    unite_valuations(row, t, st, ok, s, code, len, m, n, w, b);
-    if !pairs::has_end(s, 1028, b) {
+    unite_valuations(row, st, ok, s, code, len, m, n, w, layer, b);
+    if !pairs::has_end(s, layer, b) {
         return;
     }
-    unite(row, t, st, ok, code, len, m, n, w, b, true, 0);
+    unite(row, st, ok, code, len, m, n, w, b, true, 0);
 }
 
-// Whether the layer's row b has a pair.
-fn occupied(s: &[u64], w: usize, b: usize) -> bool
-    requires { ⌜ (w ≤ 4) × (b < 256) × (3084 ≤ length (now s)) ⌝ }
-    ensures { λ r. ⌜ (r ≡ false → (c : Option ℕ) → Within (64 * w) c → stored (now (s .entry)) 1028 b c ≡ false) ⌝ }
+// Puts a into the row.
+fn note(row: &mut [u64], a: usize)
+    requires { ⌜ (a < 256) × (length (now row) ≡ 4) ⌝ }
+    ensures { λ r. ⌜ Noted a (now (row .entry)) (now (row .exit)) ⌝ }
 {
-    if pairs::next_bit(s, 1028 + 4 * b, w, 0) < 64 * w {
-        return true;
-    }
-    pairs::has_end(s, 1028, b)
+    let j = a / 64;
+    row[j] = row[j] | 1 << (a % 64);
 }
 
-// (a, b) joins the live set and the next layer, unless it is live.
-fn join(s: &mut [u64], a: usize, b: usize)
-    requires { ⌜ (a < 256) × (b < 256) × (3084 ≤ length (now s)) ⌝ }
-    ensures { λ r. ⌜ Joins (now (s .entry)) (now (s .exit)) (λ x y. eqb x a && (eqNext y (some b) && not (stored (now (s .entry)) 0 a (some b)))) ⌝ }
+// (a, b) joins the live set and the next layer, unless it is live. `rows` are the next layer's rows.
+fn join(s: &mut [u64], rows: &mut [u64], next: usize, a: usize, b: usize)
+    requires { ⌜ (a < 256) × (b < 256) × (1028 ≤ next) × (next ≤ 2056) × (length (now rows) ≡ 4) × (3084 ≤ length (now s)) ⌝ }
+    ensures { λ r. ⌜ Joins next (now (s .entry)) (now (s .exit)) (λ x y. eqb x a && (eqNext y (some b) && not (stored (now (s .entry)) 0 a (some b)))) ⌝ }
+    ensures { λ r. ⌜ ((w : ℕ) → w ≤ 4 → a < 64 * w → Occupied w (now (rows .entry)) (now (s .entry)) next → Occupied w (now (rows .exit)) (now (s .exit)) next) ⌝ }
 {
     if pairs::has(s, 0, a, b) {
         return;
     }
     pairs::insert(s, 0, a, b);
-    pairs::insert(s, 2056, a, b);
+    pairs::insert(s, next, a, b);
+    note(rows, a);
 }
 
 // Each a of the row joins with b.
-fn join_row(s: &mut [u64], row: &[u64], w: usize, b: usize)
-    requires { ⌜ (w ≤ 4) × (b < 256) × (length (now row) ≡ 4) × (3084 ≤ length (now s)) ⌝ }
-    ensures { λ r. ⌜ Joins (now (s .entry)) (now (s .exit)) (newcomers (64 * w) (now (row .entry)) b (stored (now (s .entry)) 0)) ⌝ }
+fn join_row(s: &mut [u64], rows: &mut [u64], row: &[u64], w: usize, next: usize, b: usize)
+    requires { ⌜ (w ≤ 4) × (b < 256) × (1028 ≤ next) × (next ≤ 2056) × (length (now row) ≡ 4) × (length (now rows) ≡ 4) × (3084 ≤ length (now s)) ⌝ }
+    ensures { λ r. ⌜ Joins next (now (s .entry)) (now (s .exit)) (newcomers (64 * w) (now (row .entry)) b (stored (now (s .entry)) 0)) ⌝ }
+    ensures { λ r. ⌜ (Occupied w (now (rows .entry)) (now (s .entry)) next → Occupied w (now (rows .exit)) (now (s .exit)) next) ⌝ }
 {
     let mut a = pairs::next_bit(row, 0, w, 0);
     while a < 64 * w {
-        join(s, a, b);
+        join(s, rows, next, a, b);
         a = pairs::next_bit(row, 0, w, a + 1);
     }
 }
 
-// (a, end) joins the live set and the next layer.
+// (a, end) joins the live set and the first layer.
 fn join_end(s: &mut [u64], a: usize)
     requires { ⌜ (a < 256) × (3084 ≤ length (now s)) ⌝ }
-    ensures { λ r. ⌜ Joins (now (s .entry)) (now (s .exit)) (λ x y. eqb x a && eqNext y none) ⌝ }
+    ensures { λ r. ⌜ Joins 1028 (now (s .entry)) (now (s .exit)) (λ x y. eqb x a && eqNext y none) ⌝ }
 {
     pairs::insert_end(s, 0, a);
-    pairs::insert_end(s, 2056, a);
+    pairs::insert_end(s, 1028, a);
 }
 
 // Each a of the row joins with the end.
 fn join_ends(s: &mut [u64], row: &[u64], w: usize)
     requires { ⌜ (w ≤ 4) × (length (now row) ≡ 4) × (3084 ≤ length (now s)) ⌝ }
-    ensures { λ r. ⌜ Joins (now (s .entry)) (now (s .exit)) (enders (64 * w) (now (row .entry))) ⌝ }
+    ensures { λ r. ⌜ Joins 1028 (now (s .entry)) (now (s .exit)) (enders (64 * w) (now (row .entry))) ⌝ }
 {
     let mut a = pairs::next_bit(row, 0, w, 0);
     while a < 64 * w {
@@ -238,94 +246,68 @@ fn join_ends(s: &mut [u64], row: &[u64], w: usize)
     }
 }
 
-// Whether the next layer has a pair.
-fn has_next(s: &[u64]) -> bool
-    requires { ⌜ 3084 ≤ length (now s) ⌝ }
-    ensures { λ r. ⌜ Told (now (s .entry)) 2056 r ⌝ }
-{
-    let mut k: usize = 0;
-    while k < 1028 {
-        if s[2056 + k] != 0 {
-            return true;
-        }
-        k += 1;
-    }
-    false
-}
-
 // All new pairs before b.
 fn join_before(
     s: &mut [u64],
+    rows: &mut [u64],
+    st: &mut [u64],
     ok: &[u64],
     code: &[u8],
     len: &[usize],
     m: usize,
     n: usize,
     w: usize,
+    layer: usize,
+    next: usize,
     b: usize,
 )
     requires { ⌜ Coded m n (now code) (now len) ⌝ }
-    requires { ⌜ (w ≤ 4) × (2 ^ (m + n) ≤ 64 * w) × (length (now ok) ≡ 4) × (b < 256) × (3084 ≤ length (now s)) ⌝ }
-    ensures { λ r. ⌜ ((ks : List ℕ) → Row w (now (ok .entry)) (allowed (sheetOf m n (now (code .entry)) (now (len .entry)) ks)) → Joins (now (s .entry)) (now (s .exit)) (joinersAt (sheetOf m n (now (code .entry)) (now (len .entry)) ks) (64 * w) b (stored (now (s .entry)) 0) (stored (now (s .entry)) 1028))) ⌝ }
+    requires { ⌜ (w ≤ 4) × (2 ^ (m + n) ≤ 64 * w) × (length (now ok) ≡ 4) × (length (now rows) ≡ 4) × (256 ≤ length (now st)) × (b < 256) × (layer ≤ 2056) × (1028 ≤ next) × (next ≤ 2056) × (3084 ≤ length (now s)) ⌝ }
+    ensures { λ r. ⌜ ((ks : List ℕ) → Row w (now (ok .entry)) (allowed (sheetOf m n (now (code .entry)) (now (len .entry)) ks)) → Joins next (now (s .entry)) (now (s .exit)) (joinersAt (sheetOf m n (now (code .entry)) (now (len .entry)) ks) (64 * w) b (stored (now (s .entry)) 0) (stored (now (s .entry)) layer))) ⌝ }
+    ensures { λ r. ⌜ (Occupied w (now (rows .entry)) (now (s .entry)) next → Occupied w (now (rows .exit)) (now (s .exit)) next) ⌝ }
 {
-    if !occupied(s, w, b) {
-        return;
-    }
     let mut row = [0u64; 4];
-    let mut t = [0u64; 48];
-    let mut st = [0u64; 64];
-    unite_row(&mut row, &mut t, &mut st, ok, s, code, len, m, n, w, b);
-    join_row(s, &row, w, b);
+    unite_row(&mut row, st, ok, s, code, len, m, n, w, layer, b);
+    join_row(s, rows, &row, w, next, b);
 }
 
-// All new pairs before the pairs of the layer.
+// All new pairs before the pairs of the layer, whose rows are taken out.
 fn sweep(
     s: &mut [u64],
+    rows: &mut [u64],
+    st: &mut [u64],
+    occupied: &[u64],
     ok: &[u64],
     code: &[u8],
     len: &[usize],
     m: usize,
     n: usize,
-    v: usize,
     w: usize,
+    layer: usize,
+    next: usize,
 )
     requires { ⌜ Coded m n (now code) (now len) ⌝ }
-    requires { ⌜ (w ≤ 4) × (v ≡ 2 ^ (m + n)) × (v ≤ 64 * w) × (v ≤ 256) × (length (now ok) ≡ 4) × (3084 ≤ length (now s)) ⌝ }
-    ensures { λ r. ⌜ ((ks : List ℕ) → Row w (now (ok .entry)) (allowed (sheetOf m n (now (code .entry)) (now (len .entry)) ks)) → Joins (now (s .entry)) (now (s .exit)) (joiners (sheetOf m n (now (code .entry)) (now (len .entry)) ks) (64 * w) v (stored (now (s .entry)) 0) (stored (now (s .entry)) 1028))) ⌝ }
+    requires { ⌜ (w ≤ 4) × (2 ^ (m + n) ≤ 64 * w) × (length (now occupied) ≡ 4) × (length (now ok) ≡ 4) × (length (now rows) ≡ 4) × (256 ≤ length (now st)) × (3084 ≤ length (now s)) ⌝ }
+    requires { ⌜ (1028 ≤ layer) × (layer ≤ 2056) × (1028 ≤ next) × (next ≤ 2056) × Apart layer next ⌝ }
+    requires { ⌜ Occupied w (now occupied) (now s) layer ⌝ }
+    ensures { λ r. ⌜ ((ks : List ℕ) → Row w (now (ok .entry)) (allowed (sheetOf m n (now (code .entry)) (now (len .entry)) ks)) → Swept (sheetOf m n (now (code .entry)) (now (len .entry)) ks) (64 * w) (64 * w) layer next (now (s .entry)) (now (s .exit))) ⌝ }
+    ensures { λ r. ⌜ (Occupied w (now (rows .entry)) (now (s .entry)) next → Occupied w (now (rows .exit)) (now (s .exit)) next) ⌝ }
 {
-    let mut b: usize = 0;
-    while b < v {
-        join_before(s, ok, code, len, m, n, w, b);
-        b += 1;
+    let mut b = pairs::next_bit(occupied, 0, w, 0);
+    while b < 64 * w {
+        join_before(s, rows, st, ok, code, len, m, n, w, layer, next, b);
+        pairs::take_row(s, layer, b);
+        b = pairs::next_bit(occupied, 0, w, b + 1);
     }
 }
 
-// The next layer becomes this layer, and what stands before it the next.
-fn advance(
-    s: &mut [u64],
-    ok: &[u64],
-    code: &[u8],
-    len: &[usize],
-    m: usize,
-    n: usize,
-    v: usize,
-    w: usize,
-)
-    requires { ⌜ Coded m n (now code) (now len) ⌝ }
-    requires { ⌜ (w ≤ 4) × (v ≡ 2 ^ (m + n)) × (v ≤ 64 * w) × (v ≤ 256) × (length (now ok) ≡ 4) × (3084 ≤ length (now s)) ⌝ }
-    ensures { λ r. ⌜ ((ks : List ℕ) → Row w (now (ok .entry)) (allowed (sheetOf m n (now (code .entry)) (now (len .entry)) ks)) → Advanced (sheetOf m n (now (code .entry)) (now (len .entry)) ks) (64 * w) v (now (s .entry)) (now (s .exit))) ⌝ }
-{
-    pairs::publish(s);
-    pairs::clear(s, 2056);
-    sweep(s, ok, code, len, m, n, v, w);
-}
-
-// The ends of the row's valuations, and nothing else.
+// The ends of the row's valuations are live and the first layer; there is no other pair.
 fn start(s: &mut [u64], row: &[u64], w: usize)
     requires { ⌜ (w ≤ 4) × (length (now row) ≡ 4) × (3084 ≤ length (now s)) ⌝ }
     ensures { λ r. ⌜ Started w (now (row .entry)) (now (s .entry)) (now (s .exit)) ⌝ }
 {
     pairs::clear(s, 0);
+    pairs::clear(s, 1028);
     pairs::clear(s, 2056);
     join_ends(s, row, w);
 }
@@ -353,18 +335,36 @@ pub fn prepare(
 {
     let v: usize = 1 << (m + n);
     let w = (v + 63) / 64;
+    let mut st = [0u64; 256];
     let mut ok = [0u64; 4];
     fill_allowed(&mut ok, m, n, assumed, v, w);
     start(s, &ok, w);
+    let mut occupied = ok;
+    let mut layer: usize = 1028;
+    let mut next: usize = 2056;
     let mut layers: usize = 0;
-    let mut more = has_next(s);
-    while more {
-        advance(s, &ok, code, len, m, n, v, w);
+    while pairs::next_bit(&occupied, 0, w, 0) < 64 * w {
+        let mut rows = [0u64; 4];
+        sweep(
+            s,
+            &mut rows,
+            &mut st,
+            &occupied,
+            &ok,
+            code,
+            len,
+            m,
+            n,
+            w,
+            layer,
+            next,
+        );
+        occupied = rows;
+        let swept = layer;
+        layer = next;
+        next = swept;
         layers += 1;
-        more = has_next(s);
     }
-    pairs::clear(s, 1028);
-    pairs::clear(s, 2056);
     let live = pairs::count(s);
     Found {
         live: live,

@@ -1,7 +1,7 @@
 -- The meaning of an expression byte, range by range. Assumes nothing.
-use Prim.Native.Nat.{ℕ, _≤_, _<_}
+use Prim.Native.Nat.{ℕ, _+_, _%_, _≤_, _<_}
 use native.Mathlib.Omega.{arith}
-use mathlib.Core.Path.{_≡_, refl, subst⁻¹, _∙_}
+use mathlib.Core.Path.{_≡_, refl, sym, ap, subst⁻¹, _∙_}
 use mathlib.Core.Bool.{Bool, true, false, cond, and-false, _&&_}
 use lib.Dec.{eqb, leb}
 use borrow.Author.Tests.{le-leb, lt-leb, ne-eqb}
@@ -9,6 +9,7 @@ use Rattle.sheet.specs.Bytes.{opOf, readOf, readsOf, within}
 use Rattle.sheet.specs.declared.Op.{Op}
 use Rattle.sheet.specs.declared.Op.the-variants.{Const, Not, And, Or, Read, Rejected}
 use Rattle.refusal.specs.declared.Refusal.the-variants.{Byte}
+use Rattle.sheet.specs.declared.Offset.{Offset}
 use Rattle.sheet.specs.declared.Offset.the-variants.{Earlier, Now, Later}
 
 -- a test that fails since the byte is above the number
@@ -131,3 +132,7 @@ only-byte b =
     (pick-only (within 0x60 0x67 b) _ _ tt
     (pick-only (within 0x68 0x6F b) _ _ tt
     refl)))))))))
+
+-- the number of the stream is what eights leave over
+pub by-eights : (base b : ℕ) (o : Offset) (d : Bool) → base % 8 ≡ 0 → base ≤ b → b ≤ base + 7 → opOf b ≡ readOf base b o d → Read (record { 0 = b % 8 }) o d ≡ opOf b
+by-eights base b o d e l h f = sym (f ∙ ap (λ (q : ℕ). Read (record { 0 = q }) o d) (omega arith))

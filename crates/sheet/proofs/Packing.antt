@@ -1,16 +1,15 @@
--- Stretches of the sheet copied to their places in the code.
-use Prim.Native.Nat.{ℕ, _+_, _*_, _-_, _≤_, _<_}
+-- Expressions copied from the sheet to their places in the code.
+use Prim.Native.Nat.{ℕ, _+_, _*_, _≤_, _<_}
 use native.Mathlib.Omega.{arith}
+use native.Mathlib.Nat.{zero-add}
 use native.Mathlib.Decide.{decLt}
-use mathlib.Core.Path.{_≡_, refl, sym, ap, _∙_, subst}
-use mathlib.Core.List.{List, []}
-use lib.ListN.{length, take, drop, getD, set, length-set, length-take, length-drop}
-use lib.Seq.{ext-getD, getD-take, getD-drop, getD-set-same, getD-set-other, length-take-le}
-use Rattle.sheet.specs.Expression.{Expr, tree, parse}
-use Rattle.sheet.specs.Reading.{treeOf, codeAt, treesOf, ruleSheet, Usable, Parses, Ranges, Below}
-use Rattle.sheet.specs.Answer.{stretchAt, Stretch, Stretches, Put, Packed}
+use mathlib.Core.Path.{_≡_, refl, sym, _∙_, subst}
+use mathlib.Core.List.{List}
+use lib.ListN.{length, take, drop, getD, set, length-set, length-drop}
+use lib.Seq.{ext-getD, getD-take, getD-drop, getD-set-same, getD-set-other, length-take-le, take-all}
+use Rattle.sheet.specs.Reading.{codeAt, Usable, Ranges, Below}
+use Rattle.sheet.specs.Answer.{Put, Held}
 use Rattle.sheet.specs.declared.Assumed.{Assumed}
-use Rattle.sheet.specs.declared.Sheet.{Sheet}
 
 -- the first i bytes of e are copied
 pub record PutSoFar (from : ℕ) (e old new : List ℕ) (i : ℕ) : Type 0 where
@@ -47,44 +46,29 @@ same-part a b i j n h l f =
     (λ k g.
     getD-take n (drop i a) k 0 (omega arith) ∙ getD-drop i a k 0 ∙ f k (omega arith) ∙ sym (getD-drop j b k 0) ∙ sym (getD-take n (drop j b) k 0 (omega arith)))
 
--- one output more is packed
-pub packed-more : (bs start len old new : List ℕ) (k : ℕ) → length old ≡ 448 → k < 7
-    → ((j : ℕ) → j ≤ k → (getD len j 0 ≤ 64) × (getD start j 0 + getD len j 0 ≤ length bs))
-    → Packed bs start len old k → Put (64 * k) (stretchAt bs start len k) old new → Packed bs start len new (k + 1)
-packed-more bs start len old new k l h f g x j i = go (decLt j k)
-  where
-    n : length (stretchAt bs start len k) ≡ getD len k 0
-    n = length-take-le (getD len k 0) (drop (getD start k 0) bs) (omega (arith, length-drop (getD start k 0) bs, f k (omega arith)))
+-- one expression more is copied, after k that stay as they are
+module _ (len old : List ℕ) (k l : ℕ) (e new : List ℕ) (size : length e ≡ l) (short : l ≤ 64) (sizes : length len ≡ 7) (room : length old ≡ 448) (few : k < 7)
+    (small : (j : ℕ) → j < k → getD len j 0 ≤ 64) (put : Put (64 * k) e old new) where
+  pub copied : codeAt new (set len k l) k ≡ e
+  copied =
+      rw (getD-set-same len k l 0 (omega arith))
+      (same-part new e (64 * k) 0 l (omega (arith, put .size)) (omega arith) (λ a b. rw (zero-add a) (put .part a (omega arith)))
+      ∙ take-all l e (omega arith))
 
-    go : Dec (j < k) → codeAt new len j ≡ stretchAt bs start len j
-    go (yes q) =
-        same-part new old (64 * j) (64 * j) (getD len j 0) (omega (arith, x .size, f j (omega arith))) (omega (arith, f j (omega arith)))
-        (λ a b. x .below (64 * j + a) (omega (arith, f j (omega arith))))
-        ∙ g j q
-    go (no q) =
-        let s : j ≡ k = omega arith in
-        subst (λ (z : ℕ). codeAt new len z ≡ stretchAt bs start len z) (sym s)
-        (same-part new bs (64 * k) (getD start k 0) (getD len k 0) (omega (arith, x .size, f k (omega arith))) (omega (arith, f k (omega arith)))
-        (λ a b. x .part a (omega (arith, n)) ∙ getD-take (getD len k 0) (drop (getD start k 0) bs) a 0 b ∙ getD-drop (getD start k 0) bs a 0))
+  pub not-touched : (j : ℕ) → j < k → codeAt new (set len k l) j ≡ codeAt old len j
+  not-touched j h =
+      rw (getD-set-other len k j l 0 (omega arith))
+      (same-part new old (64 * j) (64 * j) (getD len j 0) (omega (arith, put .size, small j h)) (omega (arith, small j h))
+      (λ a b. put .below (64 * j + a) (omega (arith, small j h))))
 
--- a packed stretch parses as it did in the sheet
-packed-parses : (s from n : ℕ) (bs e : List ℕ) → Stretch bs s from n → e ≡ take n (drop from bs) → Parses s e
-packed-parses s from n bs e x q =
-    let l : length e ≡ n = ap length q ∙ length-take-le n (drop from bs) (omega (arith, length-drop from bs, x .inside)) in
-    record {
-      some = omega (arith, x .some);
-      short = omega (arith, x .short);
-      parses = rw q (x .parses);
-    }
-
-pub usable : (bs : List ℕ) (m n : ℕ) (a : Assumed) (start len code : List ℕ) → Ranges m n → Below a n → Stretches bs (m + n) n start len
-    → length code ≡ 448 → Packed bs start len code n → Usable (record { inputs = m; outputs = n; assumed = a; len = len; code = code })
-usable bs m n a start len code r b x l p =
+pub usable : (m n : ℕ) (a : Assumed) (len code : List ℕ) → Ranges m n → Below a n → Held (m + n) n len code
+    → Usable (record { inputs = m; outputs = n; assumed = a; len = len; code = code })
+usable m n a len code r b x =
     record {
       ranges = r;
       below = b;
-      room = l;
+      room = x .room;
       sizes = x .sizes;
-      small = λ k h. x .each k h .short;
-      parts = λ k h. packed-parses (m + n) (getD start k 0) (getD len k 0) bs (codeAt code len k) (x .each k h) (p k h);
+      small = x .small;
+      parts = x .parts;
     }

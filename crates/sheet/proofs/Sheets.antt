@@ -1,5 +1,5 @@
 -- The outputs of a sheet, one after the other. Assumes nothing.
-use Prim.Native.Nat.{ℕ, zero, suc, _+_, _-_, _≤_, _<_}
+use Prim.Native.Nat.{ℕ, zero, suc, _+_, _*_, _-_, _≤_, _<_}
 use native.Mathlib.Omega.{arith}
 use native.Mathlib.Numerals.{add-one}
 use mathlib.Core.Path.{_≡_, refl, sym, ap, ap₂, _∙_, subst}
@@ -7,22 +7,22 @@ use mathlib.Core.Bool.{Bool, true, false, cond, _&&_}
 use mathlib.Core.List.{List, [], _∷_, _++_, append-assoc, append-nil}
 use lib.ListN.{length, take, drop, getD, set, length-drop, length-set, drop-of-length-le, List·getD-append, length-append}
 use native.Mathlib.Decide.{ℕ-discrete}
-use lib.Seq.{getD-at, drop-cons, drop-drop, getD-set-same, getD-set-other}
+use lib.Seq.{getD-at, drop-cons, drop-drop, getD-set-same, getD-set-other, length-take-le}
 use lib.Dec.{leb}
 use borrow.Author.Tests.{leb-true}
 use borrow.Author.Count.{below-more}
 use Rattle.sheet.specs.Expression.{Expr, Parsed, tree, broken, parse}
-use Rattle.sheet.specs.RuleSheet.{Outputs, trees, breaks, lengthOk, after, andThen, readOutputs}
-use Rattle.sheet.specs.Answer.{outputAt, outputOf, stretchAt, firstOf, Stretch}
-use Rattle.sheet.specs.Reading.{treeOf, codeAt, treesOf}
+use Rattle.sheet.specs.RuleSheet.{Outputs, trees, breaks, lengthOk, after, andThen, readOutputs, requiredOf, withOutputs}
+use Rattle.sheet.specs.Answer.{outputAt, outputOf, outputsBy, Put, Held}
+use Rattle.sheet.specs.Reading.{treeOf, codeAt, treesOf, Parses, readingBy, whenAccepted}
+use Rattle.sheet.proofs.Packing.{copied, not-touched}
 use Rattle.refusal.specs.declared.Refusal.{Refusal}
 use Rattle.refusal.specs.declared.Refusal.the-variants.{Length, Leftover}
-use Rattle.sheet.specs.declared.OutputRead.{OutputRead}
+use Rattle.refusal.specs.declared.Outcome.{Outcome}
+use Rattle.refusal.specs.declared.Outcome.the-variants.{Accepted}
+use Rattle.refusal.specs.declared.Outcome.the-variants as outcome
+use Rattle.sheet.specs.declared.Assumed.{Assumed}
 use Rattle.sheet.specs.declared.OutputRead.the-variants.{Bytes, Refused}
-
--- the tree of the stretch of n bytes from a place on
-abbrev pub treeAt : List ℕ → ℕ → ℕ → ℕ → Expr
-treeAt bs s from n = treeOf (parse s [] (take n (drop from bs)))
 
 pub and-split : (a b : Bool) → (a && b) ≡ true → (a ≡ true) × (b ≡ true)
 and-split true b e = (refl, e)
@@ -77,100 +77,124 @@ after-after : (ts us : List Expr) (o : Outputs) → after ts (after us o) ≡ af
 after-after ts us (trees vs) = ap trees (sym (append-assoc ts us vs))
 after-after ts us (breaks r) = refl
 
-module _ (bs : List ℕ) (s : ℕ) (start len : List ℕ) (k x y : ℕ) where
-  same-first : (j : ℕ) → j ≤ k → firstOf bs s (set start k x) (set len k y) j ≡ firstOf bs s start len j
-  unfolding firstOf
-  same-first zero h = refl
-  same-first (suc j) h =
-      simp (same-first j (omega arith), getD-set-other start k j x 0 (omega arith), getD-set-other len k j y 0 (omega arith))
+-- the trees of the first k outputs depend on their bytes alone
+trees-same : (s : ℕ) (code len code′ len′ : List ℕ) (k : ℕ) → ((j : ℕ) → j < k → codeAt code′ len′ j ≡ codeAt code len j) → treesOf s code′ len′ k ≡ treesOf s code len k
+unfolding treesOf
+trees-same s code len code′ len′ zero h = refl
+trees-same s code len code′ len′ (suc k) h =
+    ap₂ (λ (ts : List Expr) (e : List ℕ). ts ++ (treeOf (parse s [] e) ∷ [])) (trees-same s code len code′ len′ k (λ j i. h j (omega arith))) (h k (omega arith))
 
-  pub one-more : k < length start → k < length len → firstOf bs s (set start k x) (set len k y) (k + 1) ≡ firstOf bs s start len k ++ (treeAt bs s x y ∷ [])
-  unfolding firstOf
-  one-more h i =
-      rw (add-one k) (simp (same-first k (omega arith), getD-set-same start k x 0 h, getD-set-same len k y 0 i))
+one-more : (s : ℕ) (code len code′ len′ e : List ℕ) (k : ℕ) → ((j : ℕ) → j < k → codeAt code′ len′ j ≡ codeAt code len j) → codeAt code′ len′ k ≡ e
+    → treesOf s code′ len′ (k + 1) ≡ treesOf s code len k ++ (treeOf (parse s [] e) ∷ [])
+unfolding treesOf
+one-more s code len code′ len′ e k h g =
+    rw (add-one k) (ap₂ (λ (ts : List Expr) (x : List ℕ). ts ++ (treeOf (parse s [] x) ∷ [])) (trees-same s code len code′ len′ k h) g)
 
 -- what the loop keeps: k outputs were read, and the next one is at `at`
-pub record Kept (bs : List ℕ) (s n : ℕ) (start len : List ℕ) (at k : ℕ) : Type 0 where
+pub record Kept (bs : List ℕ) (s n : ℕ) (len code : List ℕ) (at k : ℕ) : Type 0 where
   pub count : k ≤ n
   pub place : at ≤ length bs
-  pub starts : length start ≡ 7
-  pub lens : length len ≡ 7
-  pub rest : readOutputs s n (drop 8 bs) ≡ after (firstOf bs s start len k) (readOutputs s (n - k) (drop at bs))
-  pub stretches : (j : ℕ) → j < k → Stretch bs s (getD start j 0) (getD len j 0)
+  pub held : Held s k len code
+  pub rest : readOutputs s n (drop 8 bs) ≡ after (treesOf s code len k) (readOutputs s (n - k) (drop at bs))
 
-module _ (bs : List ℕ) (s n : ℕ) (start len : List ℕ) (at k : ℕ) (kept : Kept bs s n start len at k) where
-  pub next : k < n → n ≤ 7 → (l : ℕ) → outputAt s (drop at bs) ≡ Bytes l → Kept bs s n (set start k (at + 1)) (set len k l) (at + 1 + l) (k + 1)
-  next lt seven l h =
+module _ (bs : List ℕ) (s n : ℕ) (len code : List ℕ) (at k : ℕ) (kept : Kept bs s n len code at k) where
+  -- the expression of the next output lies in the sheet
+  pub record Lies (l : ℕ) : Type 0 where
+    pub short : l ≤ 64
+    pub inside : at + 1 + l ≤ length bs
+    pub size : length (take l (drop (at + 1) bs)) ≡ l
+
+  pub lies : (l : ℕ) → outputAt s (drop at bs) ≡ Bytes l → Lies l
+  lies l h =
+      let r : Step s 0 (drop at bs) l = read-step s 0 (drop at bs) l h in
+      let i : at + 1 + l ≤ length bs = omega (arith, ap length (r .split), length-drop at bs, r .inside) in
+      record { short = r .short; inside = i; size = length-take-le l (drop (at + 1) bs) (omega (arith, length-drop (at + 1) bs)) }
+
+  pub next : k < n → n ≤ 7 → (l : ℕ) → outputAt s (drop at bs) ≡ Bytes l → (new : List ℕ) → Put (64 * k) (take l (drop (at + 1) bs)) code new
+      → Kept bs s n (set len k l) new (at + 1 + l) (k + 1)
+  next lt seven l h new put =
       let r : Step s (n - (k + 1)) (drop at bs) l = read-step s (n - (k + 1)) (drop at bs) l h in
+      let i = lies l h in
+      let x = take l (drop (at + 1) bs) in
       let tail : r .rest ≡ drop (at + 1) bs = sym (ap (drop 1) (r .split)) ∙ drop-drop 1 at bs in
-      let e : parse s [] (take l (drop (at + 1) bs)) ≡ tree (r .expr) = rw tail at (r .parsed) in
-      let t : treeAt bs s (at + 1) l ≡ r .expr = ap treeOf e in
-      let f = firstOf bs s start len k in
+      let e : parse s [] x ≡ tree (r .expr) = rw tail at (r .parsed) in
+      let t : treeOf (parse s [] x) ≡ r .expr = ap treeOf e in
+      let f = treesOf s code len k in
+      let z = kept .held in
+      let here : codeAt new (set len k l) k ≡ x = copied len code k l x new (i .size) (i .short) (z .sizes) (z .room) (omega arith) (z .small) put in
+      let same : (j : ℕ) → j < k → codeAt new (set len k l) j ≡ codeAt code len j = not-touched len code k l x new (i .size) (i .short) (z .sizes) (z .room) (omega arith) (z .small) put in
       record {
         count = omega arith;
-        place = omega (arith, ap length (r .split), length-drop at bs, r .inside);
-        starts = simp length-set (kept .starts);
-        lens = simp length-set (kept .lens);
+        place = i .inside;
+        held =
+            record {
+              sizes = length-set len k l ∙ z .sizes;
+              room = put .size ∙ z .room;
+              small =
+                  below-more (λ (j : ℕ). getD (set len k l) j 0 ≤ 64) k
+                  (λ j b. rw (getD-set-other len k j l 0 (omega arith)) (z .small j b))
+                  (rw (getD-set-same len k l 0 (omega (arith, z .sizes))) (i .short));
+              parts =
+                  below-more (λ (j : ℕ). Parses s (codeAt new (set len k l) j)) k
+                  (λ j b. rw (same j b) (z .parts j b))
+                  (rw here (record { some = omega (arith, i .size, r .some); short = omega (arith, i .size, r .short); parses = e ∙ ap tree (sym t) }));
+            };
         rest =
             kept .rest
-            ∙ ap (λ (z : ℕ). after f (readOutputs s z (drop at bs))) (omega arith)
+            ∙ ap (λ (m : ℕ). after f (readOutputs s m (drop at bs))) (omega arith)
             ∙ ap (after f) (r .reads)
             ∙ after-after f (r .expr ∷ []) (readOutputs s (n - (k + 1)) (drop l (r .rest)))
-            ∙ ap (λ (z : Expr). after (f ++ (z ∷ [])) (readOutputs s (n - (k + 1)) (drop l (r .rest)))) (sym t)
-            ∙ ap (λ (z : List Expr). after z (readOutputs s (n - (k + 1)) (drop l (r .rest)))) (sym (one-more bs s start len k (at + 1) l (omega arith) (omega arith)))
-            ∙ ap (λ (z : List ℕ). after (firstOf bs s (set start k (at + 1)) (set len k l) (k + 1)) (readOutputs s (n - (k + 1)) z)) (ap (drop l) tail ∙ drop-drop l (at + 1) bs);
-        stretches =
-            below-more (λ (j : ℕ). Stretch bs s (getD (set start k (at + 1)) j 0) (getD (set len k l) j 0)) k
-            (λ j i. rw (getD-set-other start k j (at + 1) 0 (omega arith), getD-set-other len k j l 0 (omega arith)) (kept .stretches j i))
-            (rw (getD-set-same start k (at + 1) 0 (omega arith), getD-set-same len k l 0 (omega arith))
-            (record {
-              some = r .some;
-              short = r .short;
-              inside = omega (arith, ap length (r .split), length-drop at bs, r .inside);
-              parses = e ∙ ap tree (sym t);
-            }));
+            ∙ ap (λ (u : Expr). after (f ++ (u ∷ [])) (readOutputs s (n - (k + 1)) (drop l (r .rest)))) (sym t)
+            ∙ ap (λ (u : List Expr). after u (readOutputs s (n - (k + 1)) (drop l (r .rest)))) (sym (one-more s code len new (set len k l) x k same here))
+            ∙ ap (λ (u : List ℕ). after (treesOf s new (set len k l) (k + 1)) (readOutputs s (n - (k + 1)) u)) (ap (drop l) tail ∙ drop-drop l (at + 1) bs);
       }
 
   pub stopped : k < n → (r : Refusal) → outputAt s (drop at bs) ≡ Refused r → readOutputs s n (drop 8 bs) ≡ breaks r
   stopped lt r h =
       kept .rest
-      ∙ ap (λ (z : ℕ). after (firstOf bs s start len k) (readOutputs s z (drop at bs))) (omega arith)
-      ∙ ap (after (firstOf bs s start len k)) (read-stop s (n - (k + 1)) (drop at bs) r h)
+      ∙ ap (λ (z : ℕ). after (treesOf s code len k) (readOutputs s z (drop at bs))) (omega arith)
+      ∙ ap (after (treesOf s code len k)) (read-stop s (n - (k + 1)) (drop at bs) r h)
 
-  all-read : n ≤ k → readOutputs s n (drop 8 bs) ≡ after (firstOf bs s start len k) (readOutputs s 0 (drop at bs))
-  all-read h = kept .rest ∙ ap (λ (z : ℕ). after (firstOf bs s start len k) (readOutputs s z (drop at bs))) (omega arith)
+  all-read : n ≤ k → readOutputs s n (drop 8 bs) ≡ after (treesOf s code len k) (readOutputs s 0 (drop at bs))
+  all-read h = kept .rest ∙ ap (λ (z : ℕ). after (treesOf s code len k) (readOutputs s z (drop at bs))) (omega arith)
 
   pub left-over : n ≤ k → at < length bs → readOutputs s n (drop 8 bs) ≡ breaks Leftover
   unfolding readOutputs
   left-over h i = all-read h ∙ rw (drop-cons bs at 0 i)
 
-  pub nothing-left : n ≤ k → length bs ≤ at → readOutputs s n (drop 8 bs) ≡ trees (firstOf bs s start len n)
+  pub nothing-left : n ≤ k → length bs ≤ at → readOutputs s n (drop 8 bs) ≡ trees (treesOf s code len n)
   unfolding readOutputs
   nothing-left h i =
-      all-read h ∙ rw (drop-of-length-le bs i) (ap trees (append-nil _ ∙ ap (firstOf bs s start len) (omega arith)))
+      all-read h ∙ rw (drop-of-length-le bs i) (ap trees (append-nil _ ∙ ap (treesOf s code len) (omega arith)))
+
+  pub all-held : n ≤ k → Held s n len code
+  all-held h =
+      let z = kept .held in
+      record { sizes = z .sizes; room = z .room; small = λ j b. z .small j (omega arith); parts = λ j b. z .parts j (omega arith) }
 
 after-none : (o : Outputs) → after [] o ≡ o
 after-none (trees ts) = refl
 after-none (breaks r) = refl
 
-pub begins : (bs : List ℕ) (s n : ℕ) (start len : List ℕ) → 8 ≤ length bs → length start ≡ 7 → length len ≡ 7 → Kept bs s n start len 8 0
-unfolding firstOf
-begins bs s n start len h i j =
+pub begins : (bs : List ℕ) (s n : ℕ) (len code : List ℕ) → 8 ≤ length bs → length len ≡ 7 → length code ≡ 448 → Kept bs s n len code 8 0
+unfolding treesOf
+begins bs s n len code h i j =
     record {
       count = omega arith;
       place = h;
-      starts = i;
-      lens = j;
+      held = record { sizes = i; room = j; small = λ k b. absurd (omega arith); parts = λ k b. absurd (omega arith) };
       rest = ap (λ (z : ℕ). readOutputs s z (drop 8 bs)) (omega arith) ∙ sym (after-none (readOutputs s (n - 0) (drop 8 bs)));
-      stretches = λ j k. absurd (omega arith);
     }
 
--- the trees that are packed are those that were laid out
-pub packed-trees : (bs : List ℕ) (s : ℕ) (start len code : List ℕ) (n : ℕ) → ((k : ℕ) → k < n → codeAt code len k ≡ stretchAt bs start len k) → treesOf s code len n ≡ firstOf bs s start len n
-unfolding treesOf firstOf
-packed-trees bs s start len code zero h = refl
-packed-trees bs s start len code (suc n) h =
-    ap₂ (λ (ts : List Expr) (e : List ℕ). ts ++ (treeOf (parse s [] e) ∷ [])) (packed-trees bs s start len code n (λ k i. h k (omega arith))) (h n (omega arith))
+-- an outcome with the outputs that it is of, and what comes with it
+pub reading-by : (m n : ℕ) (a : Assumed) (o : Outcome) (ts : List Expr) (q : Outputs) → outputsBy o ts ≡ q
+    → readingBy o (record { inputs = m; expressions = ts; required = requiredOf a }) ≡ withOutputs m n a q
+reading-by m n a Accepted ts q e = ap (withOutputs m n a) e
+reading-by m n a (outcome.Refused r) ts q e = ap (withOutputs m n a) e
+
+pub when-accepted : (o : Outcome) {X Y : Type 0} → (X → Y) → whenAccepted o X → whenAccepted o Y
+when-accepted Accepted f x = f x
+when-accepted (outcome.Refused r) f x = tt
 
 pub length-trees : (s : ℕ) (code len : List ℕ) (n : ℕ) → length (treesOf s code len n) ≡ n
 unfolding treesOf

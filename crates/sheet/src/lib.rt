@@ -8,8 +8,8 @@ ghost use Rattle.sheet.specs.Expression.{parse, outcomeOf};
 ghost use Rattle.sheet.specs.Depth.{depthAfter};
 ghost use Rattle.sheet.specs.Header.{markOk, versionOf, countsOk, assumedAt, headerOf};
 ghost use Rattle.sheet.specs.RuleSheet.{readSheet, readOutputs};
-ghost use Rattle.sheet.specs.Answer.{outputAt, laidOut, Stretches, Put, Fits, Packed};
-ghost use Rattle.sheet.specs.Reading.{readingOf, whenAccepted, Usable};
+ghost use Rattle.sheet.specs.Answer.{outputAt, outputsBy, Put, Held};
+ghost use Rattle.sheet.specs.Reading.{treesOf, readingOf, whenAccepted, Usable};
 ghost use lib.ListN.{length, drop};
 use refusal::Outcome;
 use refusal::Refusal;
@@ -55,11 +55,11 @@ pub fn operation(byte: u8) -> Op
         0x02 => Op::Not,
         0x03 => Op::And,
         0x04 => Op::Or,
-        0x40..=0x47 => Op::Read(StreamNo(byte - 0x40), Offset::Now, false),
-        0x50..=0x57 => Op::Read(StreamNo(byte - 0x50), Offset::Earlier, false),
-        0x58..=0x5F => Op::Read(StreamNo(byte - 0x58), Offset::Earlier, true),
-        0x60..=0x67 => Op::Read(StreamNo(byte - 0x60), Offset::Later, false),
-        0x68..=0x6F => Op::Read(StreamNo(byte - 0x68), Offset::Later, true),
+        0x40..=0x47 => Op::Read(StreamNo(byte % 8), Offset::Now, false),
+        0x50..=0x57 => Op::Read(StreamNo(byte % 8), Offset::Earlier, false),
+        0x58..=0x5F => Op::Read(StreamNo(byte % 8), Offset::Earlier, true),
+        0x60..=0x67 => Op::Read(StreamNo(byte % 8), Offset::Later, false),
+        0x68..=0x6F => Op::Read(StreamNo(byte % 8), Offset::Later, true),
         _ => Op::Rejected(Refusal::Byte),
     }
 }
@@ -271,58 +271,6 @@ fn read_output(s: &[u8], at: usize, streams: u8) -> OutputRead
     }
 }
 
-// Where each output's expression lies in the sheet, or the rule that the outputs break first.
-struct Layout {
-    outcome: Outcome,
-    start: [usize; 7],
-    len: [usize; 7],
-}
-
-fn no_layout(r: Refusal) -> Layout
-    ensures { λ x. ⌜ x .outcome ≡ Outcome.Refused r ⌝ }
-{
-    Layout {
-        outcome: Outcome::Refused(r),
-        start: [0; 7],
-        len: [0; 7],
-    }
-}
-
-// Reads the outputs, from byte 8 on, and what is left after them.
-fn read_outputs(s: &[u8], streams: u8, n: u8) -> Layout
-    requires { ⌜ (8 ≤ length (now s)) × (n ≤ 7) ⌝ }
-    ensures reading { λ r. ⌜ laidOut (now (s .entry)) streams n r ≡ readOutputs streams n (drop 8 (now (s .entry))) ⌝ }
-    ensures stretches { λ r. ⌜ whenAccepted (r .outcome) (Stretches (now (s .entry)) streams n (r .start) (r .len)) ⌝ }
-{
-    let outputs = n as usize;
-    let mut start = [0usize; 7];
-    let mut len = [0usize; 7];
-    let mut at: usize = 8;
-    let mut k: usize = 0;
-    while k < outputs {
-        let got = read_output(s, at, streams);
-        match got {
-            OutputRead::Bytes(bytes) => {
-                start[k] = at + 1;
-                len[k] = bytes;
-                at = at + 1 + bytes;
-            }
-            OutputRead::Refused(r) => {
-                return no_layout(r);
-            }
-        }
-        k += 1;
-    }
-    if at < s.len() {
-        return no_layout(Refusal::Leftover);
-    }
-    Layout {
-        outcome: Outcome::Accepted,
-        start: start,
-        len: len,
-    }
-}
-
 // Copies e into the buffer, from a place on.
 fn put(buffer: &mut [u8], from: usize, e: &[u8])
     requires { ⌜ from + length (now e) ≤ length (now buffer) ⌝ }
@@ -335,20 +283,34 @@ fn put(buffer: &mut [u8], from: usize, e: &[u8])
     }
 }
 
-// The expressions of the outputs, 64 bytes for each.
-fn pack(s: &[u8], outputs: usize, start: &[usize], len: &[usize]) -> [u8; 448]
-    requires { ⌜ (outputs ≤ 7) × (length (now start) ≡ 7) × (length (now len) ≡ 7) × Fits (now s) outputs (now start) (now len) ⌝ }
-    ensures { λ r. ⌜ (length r ≡ 448) × Packed (now (s .entry)) (now (start .entry)) (now (len .entry)) r outputs ⌝ }
+// Reads the outputs, from byte 8 on, and what is left after them. Output k's expression goes to the code from 64 k on.
+fn read_outputs(s: &[u8], streams: u8, n: u8, len: &mut [usize], code: &mut [u8]) -> Outcome
+    requires { ⌜ (8 ≤ length (now s)) × (n ≤ 7) × (length (now len) ≡ 7) × (length (now code) ≡ 448) ⌝ }
+    ensures reading { λ r. ⌜ outputsBy r (treesOf streams (now (code .exit)) (now (len .exit)) n) ≡ readOutputs streams n (drop 8 (now (s .entry))) ⌝ }
+    ensures held { λ r. ⌜ whenAccepted r (Held streams n (now (len .exit)) (now (code .exit))) ⌝ }
 {
-    let mut code = [0u8; 448];
+    let outputs = n as usize;
+    let mut at: usize = 8;
     let mut k: usize = 0;
     while k < outputs {
-        let from = start[k];
-        let to = from + len[k];
-        put(&mut code, 64 * k, &s[from..to]);
+        let got = read_output(s, at, streams);
+        match got {
+            OutputRead::Bytes(bytes) => {
+                let from = at + 1;
+                at = from + bytes;
+                len[k] = bytes;
+                put(code, 64 * k, &s[from..at]);
+            }
+            OutputRead::Refused(r) => {
+                return Outcome::Refused(r);
+            }
+        }
         k += 1;
     }
-    code
+    if at < s.len() {
+        return Outcome::Refused(Refusal::Leftover);
+    }
+    Outcome::Accepted
 }
 
 // A sheet that was read: the numbers of inputs and outputs, the assumption, and the expressions: output k's are the first len[k]
@@ -361,7 +323,7 @@ pub struct Sheet {
     pub code: [u8; 448],
 }
 
-// The answer of the reader. Where it is refused, the sheet is empty and says nothing.
+// The answer of the reader. Where it is refused, the sheet says nothing.
 pub struct SheetRead {
     pub outcome: Outcome,
     pub sheet: Sheet,
@@ -391,26 +353,19 @@ pub fn read_sheet(s: &[u8]) -> SheetRead
     let h = read_header(s);
     match h {
         Header::Fields(m, n, a) => {
-            let layout = read_outputs(s, m + n, n);
-            let outcome = layout.outcome;
-            match outcome {
-                Outcome::Accepted => {
-                    let start = layout.start;
-                    let len = layout.len;
-                    let code = pack(s, n as usize, &start, &len);
-                    let sheet = Sheet {
-                        inputs: m,
-                        outputs: n,
-                        assumed: a,
-                        len: len,
-                        code: code,
-                    };
-                    SheetRead {
-                        outcome: Outcome::Accepted,
-                        sheet: sheet,
-                    }
-                }
-                Outcome::Refused(r) => refused_sheet(r),
+            let mut len = [0usize; 7];
+            let mut code = [0u8; 448];
+            let outcome = read_outputs(s, m + n, n, &mut len, &mut code);
+            let sheet = Sheet {
+                inputs: m,
+                outputs: n,
+                assumed: a,
+                len: len,
+                code: code,
+            };
+            SheetRead {
+                outcome: outcome,
+                sheet: sheet,
             }
         }
         Header::Refused(r) => refused_sheet(r),

@@ -1,5 +1,5 @@
 use mathlib.Core.Path.{sym, _∙_}
-use Rattle.preparation.proofs.Joining.{joined-not, joined-both}
+use Rattle.preparation.proofs.Joining.{joined-not, joined-both, occupied-more}
 use borrow.Author.Needs.{needs}
 use Rattle.preparation.proofs.join.Statement.{statement}
 use Rattle.preparation.proofs.join.Tie as tie
@@ -11,7 +11,7 @@ same-length : tie.Need-same-length
 same-length c = search needs
 
 returns : tie.Need-returns
-returns c = joined-not _ _ _ (sym (c .before .has .ensures) ∙ c .if1 .taken)
+returns c = (joined-not _ _ _ _ (sym (c .before .has .ensures) ∙ c .if1 .taken), λ w hw ha o. o)
 
 insert-requires : tie.Need-insert-requires
 insert-requires c κs = search needs
@@ -19,11 +19,21 @@ insert-requires c κs = search needs
 insert-requires-2 : tie.Need-insert-requires-2
 insert-requires-2 c κs = search needs
 
+note-requires : tie.Need-note-requires
+note-requires c κs = search needs
+
 same-length-2 : tie.Need-same-length-2
 same-length-2 c = search needs
 
+same-length-3 : tie.Need-same-length-3
+same-length-3 c = search needs
+
 returns-2 : tie.Need-returns-2
-returns-2 c = joined-both _ _ _ _ _ (sym (c .before .before .before .before .before .before .before .before .before .has .ensures) ∙ c .before .before .before .before .before .before .before .before .if1 .left) (c .before .before .before .before .before .before .insert .ensures) (c .before .before .insert2 .ensures)
+returns-2 c =
+    let p = c .before .before .before .before .before .before .before .before .before .before .before .before .before .before .before .before .before .pre in
+    let e = c .before .before .before .before .before .before .before .before .before .before .insert .ensures in
+    let f = c .before .before .before .before .before .before .insert2 .ensures in
+    (joined-both _ _ _ _ _ _ (p .2) (sym (c .before .before .before .before .before .before .before .before .before .before .before .before .before .has .ensures) ∙ c .before .before .before .before .before .before .before .before .before .before .before .before .if1 .left) e f, λ w hw ha. occupied-more w _ _ _ _ _ _ _ _ ha hw (p .1) (p .2) e f (c .before .before .note .ensures))
 
 pub join-spec : {M : Type 1} → statement M
 join-spec =
@@ -34,5 +44,7 @@ join-spec =
     returns
     insert-requires
     insert-requires-2
+    note-requires
     same-length-2
+    same-length-3
     returns-2)

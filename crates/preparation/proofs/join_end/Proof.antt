@@ -1,3 +1,4 @@
+use native.Mathlib.Omega.{arith}
 use mathlib.Core.Path.{refl}
 use Rattle.preparation.proofs.Joining.{joins-both}
 use borrow.Author.Needs.{needs}
@@ -14,7 +15,7 @@ same-length : tie.Need-same-length
 same-length c = search needs
 
 returns : tie.Need-returns
-returns c = joins-both _ _ _ _ _ (c .before .before .before .before .before .before .insert-end .ensures) (c .before .before .insert-end2 .ensures) (λ x y hx hy. refl)
+returns c = joins-both _ _ _ _ _ _ (omega arith) (c .before .before .before .before .before .before .insert-end .ensures) (c .before .before .insert-end2 .ensures) (λ x y hx hy. refl)
 
 pub join-end-spec : {M : Type 1} → statement M
 join-end-spec = tie.close (tie.spec insert-end-requires insert-end-requires-2 same-length returns)

@@ -8,7 +8,7 @@ use Rattle.preparation.proofs.join_ends.Statement.{statement}
 use Rattle.preparation.proofs.join_ends.Tie as tie
 
 abbrev Inv-loop : tie.InvT-loop
-Inv-loop s₀ row w a₀ s a = (length s ≡ length s₀) × Ends s₀ s w row a
+Inv-loop s₀ row w a₀ s a = (length s ≡ length s₀) × Ends 1028 s₀ s w row a
 
 abbrev μ-loop : tie.MeasureT-loop
 μ-loop s₀ row w a₀ s a = 64 * w - a
@@ -17,7 +17,7 @@ next-bit-requires : tie.Need-next-bit-requires Inv-loop μ-loop
 next-bit-requires c κs = search needs
 
 loop-holds : tie.Need-loop-holds Inv-loop μ-loop
-loop-holds c = (refl, ends-first _ _ _ _ (c .next-bit .ensures))
+loop-holds c = (refl, ends-first _ _ _ _ _ (c .next-bit .ensures))
 
 mul-loop : tie.Need-mul-loop Inv-loop μ-loop
 mul-loop c = search needs
@@ -35,13 +35,13 @@ loop-less : tie.Need-loop-less Inv-loop μ-loop
 loop-less c = omega (arith, c .next-bit2 .ensures .onward)
 
 loop-again : tie.Need-loop-again Inv-loop μ-loop
-loop-again c = (omega arith, ends-more _ _ _ _ _ _ _ (c .before .before .before .before .before .loop-test .taken) (c .before .before .before .before .before .before .loop .inv .1) (c .before .before .before .join-end .ensures) (c .next-bit2 .ensures))
+loop-again c = (omega arith, ends-more _ _ _ _ _ _ _ _ (c .before .before .before .before .before .loop-test .taken) (c .before .before .before .before .before .before .loop .inv .1) (c .before .before .before .join-end .ensures) (c .next-bit2 .ensures))
 
 same-length : tie.Need-same-length Inv-loop μ-loop
 same-length c = search needs
 
 returns : tie.Need-returns Inv-loop μ-loop
-returns c = ends-all _ _ _ _ _ (c .loop-test .left) (c .before .loop .inv .1)
+returns c = ends-all _ _ _ _ _ _ (c .loop-test .left) (c .before .loop .inv .1)
 
 pub join-ends-spec : {M : Type 1} → statement M
 join-ends-spec =

@@ -1,26 +1,28 @@
 use native.Mathlib.Omega.{arith}
-use Prim.Native.Nat.{ℕ, _+_, _*_, _-_, _^_, _≤_}
+use Prim.Native.Nat.{ℕ, _+_, _*_, _-_, _^_, _≤_, _<_}
 use mathlib.Core.Path.{_≡_, refl}
+use mathlib.Core.Logic.{inl}
 use mathlib.Core.List.{List}
-use lib.ListN.{length}
+use lib.ListN.{length, getD}
 use Rattle.sheet.specs.RuleSheet.{requiredOf}
 use Rattle.lanes.specs.Coded.{sheetOf}
 use Rattle.completions.specs.Live.{allowed}
-use Rattle.preparation.specs.Search.{Row}
+use Rattle.preparation.specs.Search.{Row, Occupied, Apart}
 use Rattle.preparation.proofs.Rows.{two-to}
-use Rattle.preparation.proofs.Searching.{Searching}
+use Rattle.preparation.proofs.Searching.{Searching, rows-started, rows-none, apart-turned}
 use Rattle.preparation.proofs.Preparing.{search-bound, search-begin, search-step, layers-some, search-finish}
 use borrow.Author.Needs.{needs}
 use Rattle.preparation.proofs.prepare.Statement.{statement}
 use Rattle.preparation.proofs.prepare.Tie as tie
 
 abbrev Inv-loop : tie.InvT-loop
-Inv-loop s₀ code len m n v w ok layers₀ more₀ s layers more =
-    (v ≡ 2 ^ (m + n)) × (v ≤ 64 * w) × (w ≤ 4) × (length ok ≡ 4) × (3084 ≤ length s) × (length s ≡ length s₀)
-    × ((ks : List ℕ) → Row w ok (allowed (sheetOf m n code len ks)) → Searching (sheetOf m n code len ks) s₀ s layers more)
+Inv-loop s₀ code len m n v w st₀ ok occupied₀ layer₀ next₀ layers₀ s st occupied layer next layers =
+    (v ≡ 2 ^ (m + n)) × (v ≤ 64 * w) × (w ≤ 4) × (length ok ≡ 4) × (length occupied ≡ 4) × (length st ≡ 256) × (3084 ≤ length s) × (length s ≡ length s₀)
+    × ((1028 ≤ layer) × (layer ≤ 2056) × (1028 ≤ next) × (next ≤ 2056)) × Apart layer next × ((k : ℕ) → getD s k 0 < 2 ^ 64) × Occupied w occupied s layer
+    × ((ks : List ℕ) → Row w ok (allowed (sheetOf m n code len ks)) → Searching (sheetOf m n code len ks) layer next s₀ s layers)
 
 abbrev μ-loop : tie.MeasureT-loop
-μ-loop s₀ code len m n v w ok layers₀ more₀ s layers more = 65793 - layers
+μ-loop s₀ code len m n v w st₀ ok occupied₀ layer₀ next₀ layers₀ s st occupied layer next layers = 65793 - layers
 
 add-v : tie.Need-add-v Inv-loop μ-loop
 add-v c = omega (arith, c .before .before .before .pre .0 .ranges .streams)
@@ -36,8 +38,9 @@ slice-aggregate-fill-allowed c = search needs
 
 fill-allowed-requires : tie.Need-fill-allowed-requires Inv-loop μ-loop
 fill-allowed-requires c κs =
-    let p = two-to _ (c .before .before .before .before .pre .0 .ranges .streams) in
-    ((c .before .before .before .before .pre .0 .ranges .streams, p .0, omega (arith, p .0, p .2), omega arith, search needs), c .before .before .before .before .pre .1 .0)
+    let q = c .before .before .before .before .pre in
+    let p = two-to _ (q .0 .ranges .streams) in
+    ((q .0 .ranges .streams, p .0, omega (arith, p .0, p .2), omega arith, search needs), q .1 .0)
 
 slice-aggregate-start : tie.Need-slice-aggregate-start Inv-loop μ-loop
 slice-aggregate-start c = search needs
@@ -45,74 +48,104 @@ slice-aggregate-start c = search needs
 start-requires : tie.Need-start-requires Inv-loop μ-loop
 start-requires c κs = let p = two-to _ (c .before .before .before .before .before .before .before .before .pre .0 .ranges .streams) in (omega (arith, p .0, p .2), search needs, search needs)
 
-has-next-requires : tie.Need-has-next-requires Inv-loop μ-loop
-has-next-requires c κs = search needs
-
 loop-holds : tie.Need-loop-holds Inv-loop μ-loop
 loop-holds c =
-    let p = two-to _ (c .before .before .before .before .before .before .before .before .before .before .before .before .before .pre .0 .ranges .streams) in (
+    let few = c .before .before .before .before .before .before .before .before .before .before .before .pre .0 .ranges .streams in
+    let p = two-to _ few in
+    let st = c .before .before .start .ensures in (
       p .0,
       omega arith,
       omega (arith, p .0, p .2),
       search needs,
+      search needs,
+      search needs,
       omega arith,
       refl,
-      λ ks r. search-begin _ _ _ _ (c .before .before .before .before .before .before .before .before .before .before .before .before .before .pre .0 .ranges .streams) _ _ (p .0) (omega arith) (omega (arith, p .0, p .2)) ks _ _ _ _ r (c .before .before .before .before .start .ensures) (c .has-next .ensures),
+      (omega arith, omega arith, omega arith, omega arith),
+      inl (omega arith),
+      λ k. c .slice-known2 .given k .fits,
+      rows-started _ _ _ _ (omega (arith, p .0, p .2)) st,
+      λ ks r. search-begin _ _ _ _ few _ _ (p .0) (omega arith) (omega (arith, p .0, p .2)) ks _ _ _ r st,
     )
 
-slice-aggregate-advance : tie.Need-slice-aggregate-advance Inv-loop μ-loop
-slice-aggregate-advance c = search needs
+slice-aggregate-next-bit : tie.Need-slice-aggregate-next-bit Inv-loop μ-loop
+slice-aggregate-next-bit c = search needs
 
-advance-requires : tie.Need-advance-requires Inv-loop μ-loop
-advance-requires c κs =
-    let p = two-to _ (c .before .before .before .before .before .before .before .before .before .before .before .before .before .before .before .before .before .pre .0 .ranges .streams) in
-    (c .before .before .before .before .before .before .before .before .before .before .before .before .before .before .before .before .before .pre .0, (c .before .before .before .loop .inv .2, c .before .before .before .loop .inv .0, c .before .before .before .loop .inv .1, omega (arith, p .0, p .2), c .before .before .before .loop .inv .3, c .before .before .before .loop .inv .4))
+next-bit-requires : tie.Need-next-bit-requires Inv-loop μ-loop
+next-bit-requires c κs = let i = c .before .loop .inv in (omega arith, i .2, omega arith, omega arith)
+
+mul-if1 : tie.Need-mul-if1 Inv-loop μ-loop
+mul-if1 c = let i = c .before .before .loop .inv in omega arith
+
+slice-aggregate-sweep : tie.Need-slice-aggregate-sweep Inv-loop μ-loop
+slice-aggregate-sweep c = search needs
+
+slice-aggregate-sweep-2 : tie.Need-slice-aggregate-sweep-2 Inv-loop μ-loop
+slice-aggregate-sweep-2 c = search needs
+
+slice-aggregate-sweep-3 : tie.Need-slice-aggregate-sweep-3 Inv-loop μ-loop
+slice-aggregate-sweep-3 c = search needs
+
+slice-aggregate-sweep-4 : tie.Need-slice-aggregate-sweep-4 Inv-loop μ-loop
+slice-aggregate-sweep-4 c = search needs
+
+sweep-requires : tie.Need-sweep-requires Inv-loop μ-loop
+sweep-requires c κs =
+    let i = c .before .before .before .before .before .before .before .before .loop .inv in
+    (c .before .before .before .before .before .before .before .before .before .before .before .before .before .before .before .before .before .before .before .before .pre .0, ((i .2, omega arith, i .4, i .3, search needs, omega arith, i .6), ((i .8 .0, i .8 .1, i .8 .2, i .8 .3, i .9), i .11)))
 
 add-layers : tie.Need-add-layers Inv-loop μ-loop
 add-layers c =
-    omega (arith, search-bound _ _ _ _ (c .before .before .before .before .before .before .before .before .before .before .before .before .before .before .before .before .before .before .before .before .pre .0 .ranges .streams) _ _ _ _ _ (c .before .before .before .before .before .before .loop .inv .6 (requiredOf (c .before .before .before .before .before .before .before .before .before .before .before .before .before .before .before .before .before .before .before .before .args .assumed)) (c .before .before .before .before .before .before .before .before .before .before .before .before .before .before .before .fill-allowed .ensures _ _)))
-
-has-next-requires-2 : tie.Need-has-next-requires-2 Inv-loop μ-loop
-has-next-requires-2 c κs = search needs
+    let a = c .before .before .before .before .before .before .before .before .before .before .before .before .before .before .before .before .before .before .before .before .before .before .before .before .before .args in
+    omega (arith, search-bound _ _ _ _ (c .before .before .before .before .before .before .before .before .before .before .before .before .before .before .before .before .before .before .before .before .before .before .before .before .before .pre .0 .ranges .streams) _ _ _ _ _ _ (c .before .before .before .before .before .before .before .before .before .before .before .before .before .loop .inv .12 (requiredOf (a .assumed)) (c .before .before .before .before .before .before .before .before .before .before .before .before .before .before .before .before .before .before .before .before .fill-allowed .ensures _ _)))
 
 loop-less : tie.Need-loop-less Inv-loop μ-loop
 loop-less c =
-    omega (arith, search-bound _ _ _ _ (c .before .before .before .before .before .before .before .before .before .before .before .before .before .before .before .before .before .before .before .before .before .before .pre .0 .ranges .streams) _ _ _ _ _ (c .before .before .before .before .before .before .before .before .loop .inv .6 (requiredOf (c .before .before .before .before .before .before .before .before .before .before .before .before .before .before .before .before .before .before .before .before .before .before .args .assumed)) (c .before .before .before .before .before .before .before .before .before .before .before .before .before .before .before .before .before .fill-allowed .ensures _ _)))
+    let a = c .before .before .before .before .before .before .before .before .before .before .before .before .before .before .before .before .before .before .before .before .before .before .before .before .before .args in
+    omega (arith, search-bound _ _ _ _ (c .before .before .before .before .before .before .before .before .before .before .before .before .before .before .before .before .before .before .before .before .before .before .before .before .before .pre .0 .ranges .streams) _ _ _ _ _ _ (c .before .before .before .before .before .before .before .before .before .before .before .before .before .loop .inv .12 (requiredOf (a .assumed)) (c .before .before .before .before .before .before .before .before .before .before .before .before .before .before .before .before .before .before .before .before .fill-allowed .ensures _ _)))
 
 loop-again : tie.Need-loop-again Inv-loop μ-loop
-loop-again c = (
-  c .before .before .before .before .before .before .before .before .loop .inv .0,
-  c .before .before .before .before .before .before .before .before .loop .inv .1,
-  c .before .before .before .before .before .before .before .before .loop .inv .2,
-  c .before .before .before .before .before .before .before .before .loop .inv .3,
-  omega arith,
-  omega arith,
-  λ ks r. search-step _ _ _ _ (c .before .before .before .before .before .before .before .before .before .before .before .before .before .before .before .before .before .before .before .before .before .before .pre .0 .ranges .streams) _ _ (c .before .before .before .before .before .before .before .before .loop .inv .0) (c .before .before .before .before .before .before .before .before .loop .inv .1) (c .before .before .before .before .before .before .before .before .loop .inv .2) ks _ _ _ _ _ _
-      (c .before .before .before .before .before .before .before .before .loop .inv .6 ks r) (c .before .before .before .before .before .before .before .loop-test .taken) (c .before .before .before .before .advance .ensures ks r) (c .has-next2 .ensures),
-)
-
-clear-requires : tie.Need-clear-requires Inv-loop μ-loop
-clear-requires c κs = search needs
-
-clear-requires-2 : tie.Need-clear-requires-2 Inv-loop μ-loop
-clear-requires-2 c κs = search needs
+loop-again c =
+    let a = c .before .before .before .before .before .before .before .before .before .before .before .before .before .before .before .before .before .before .before .before .before .before .before .before .before .args in
+    let i = c .before .before .before .before .before .before .before .before .before .before .before .before .before .loop .inv in
+    let q = i .12 (requiredOf (a .assumed)) (c .before .before .before .before .before .before .before .before .before .before .before .before .before .before .before .before .before .before .before .before .fill-allowed .ensures _ _) in
+    let w = c .before .before .before .before .sweep .ensures in (
+      i .0,
+      i .1,
+      i .2,
+      i .3,
+      omega arith,
+      omega arith,
+      omega arith,
+      omega arith,
+      (i .8 .2, i .8 .3, i .8 .0, i .8 .1),
+      apart-turned _ _ (i .9),
+      λ k. c .before .before .slice-known3 .given k .fits,
+      w .1 (rows-none _ _ _ (q .free)),
+      λ ks r.
+          search-step _ _ _ _ (c .before .before .before .before .before .before .before .before .before .before .before .before .before .before .before .before .before .before .before .before .before .before .before .before .before .pre .0 .ranges .streams) _ _ (i .0) (i .1) (i .2) ks _ _ _ _ _ _ _ _ (i .12 ks r) (i .11) (c .before .before .before .before .before .before .before .before .before .before .before .next-bit .ensures) (c .before .before .before .before .before .before .before .before .before .before .if1 .taken) (w .0 ks r),
+    )
 
 count-requires : tie.Need-count-requires Inv-loop μ-loop
-count-requires c κs = search needs
+count-requires c κs = let i = c .before .before .before .before .loop .inv in i .6
 
-sub-t13 : tie.Need-sub-t13 Inv-loop μ-loop
-sub-t13 c =
-    layers-some _ _ _ _ (c .before .before .before .before .before .before .before .before .before .before .before .before .before .before .before .before .before .before .before .before .before .before .before .before .before .pre .0 .ranges .streams) (c .before .before .before .before .before .before .before .before .before .before .before .before .before .before .before .before .before .before .before .before .before .before .before .before .before .args .assumed) (c .before .before .before .before .before .before .before .before .before .before .before .before .before .before .before .before .before .before .before .before .before .before .before .before .before .pre .1 .0) _ _ _ _
-    (c .before .before .before .before .before .before .before .before .before .before .before .loop .inv .6 (requiredOf (c .before .before .before .before .before .before .before .before .before .before .before .before .before .before .before .before .before .before .before .before .before .before .before .before .before .args .assumed)) (c .before .before .before .before .before .before .before .before .before .before .before .before .before .before .before .before .before .before .before .before .fill-allowed .ensures _ _)) (c .before .before .before .before .before .before .before .before .before .before .loop-test .left)
+sub-t18 : tie.Need-sub-t18 Inv-loop μ-loop
+sub-t18 c =
+    let a = c .before .before .before .before .before .before .before .before .before .before .before .before .before .before .before .before .before .args in
+    let i = c .before .before .before .before .before .loop .inv in
+    layers-some _ _ _ _ (c .before .before .before .before .before .before .before .before .before .before .before .before .before .before .before .before .before .pre .0 .ranges .streams) (a .assumed) (c .before .before .before .before .before .before .before .before .before .before .before .before .before .before .before .before .before .pre .1 .0) _ _ _ _ _ _ _ _ (i .12 (requiredOf (a .assumed)) (c .before .before .before .before .before .before .before .before .before .before .before .before .fill-allowed .ensures _ _)) (i .11) (c .before .before .before .next-bit .ensures) (c .before .before .if1 .left)
 
 same-length : tie.Need-same-length Inv-loop μ-loop
 same-length c = search needs
 
 returns : tie.Need-returns Inv-loop μ-loop
 returns c =
-    let f = search-finish _ _ _ _ (c .before .before .before .before .before .before .before .before .before .before .before .before .before .before .before .before .before .before .before .before .before .before .before .before .before .pre .0 .ranges .streams) (c .before .before .before .before .before .before .before .before .before .before .before .before .before .before .before .before .before .before .before .before .before .before .before .before .before .args .assumed) (c .before .before .before .before .before .before .before .before .before .before .before .before .before .before .before .before .before .before .before .before .before .before .before .before .before .pre .1 .0) _ _ _ _
-    (c .before .before .before .before .before .before .before .before .before .before .before .loop .inv .6 (requiredOf (c .before .before .before .before .before .before .before .before .before .before .before .before .before .before .before .before .before .before .before .before .before .before .before .before .before .args .assumed)) (c .before .before .before .before .before .before .before .before .before .before .before .before .before .before .before .before .before .before .before .before .fill-allowed .ensures _ _)) (c .before .before .before .before .before .before .before .before .before .before .loop-test .left)
-    _ _ _ _ _ _ (c .before .before .before .before .before .before .before .before .before .before .before .before .before .before .before .before .start .ensures) (c .before .before .before .before .before .before .before .before .clear .ensures) (c .before .before .before .before .clear2 .ensures) (c .count .ensures .0) (c .count .ensures .1) in
+    let a = c .before .before .before .before .before .before .before .before .before .before .before .before .before .before .before .before .before .args in
+    let i = c .before .before .before .before .before .loop .inv in
+    let n = c .count .ensures in
+    let f =
+    search-finish _ _ _ _ (c .before .before .before .before .before .before .before .before .before .before .before .before .before .before .before .before .before .pre .0 .ranges .streams) (a .assumed) (c .before .before .before .before .before .before .before .before .before .before .before .before .before .before .before .before .before .pre .1 .0) _ _ _ _ _ _ _ _ (i .12 (requiredOf (a .assumed)) (c .before .before .before .before .before .before .before .before .before .before .before .before .fill-allowed .ensures _ _)) (i .11)
+    (c .before .before .before .next-bit .ensures) (c .before .before .if1 .left) _ _ _ (i .9) (i .8) (i .10) (c .before .before .before .before .before .before .before .before .start .ensures) (n .0) (n .1) in
     (f .0, (f .1, f .2))
 
 pub prepare-spec : {M : Type 1} → statement M
@@ -128,17 +161,19 @@ prepare-spec =
     fill-allowed-requires
     slice-aggregate-start
     start-requires
-    has-next-requires
     loop-holds
-    slice-aggregate-advance
-    advance-requires
+    slice-aggregate-next-bit
+    next-bit-requires
+    mul-if1
+    slice-aggregate-sweep
+    slice-aggregate-sweep-2
+    slice-aggregate-sweep-3
+    slice-aggregate-sweep-4
+    sweep-requires
     add-layers
-    has-next-requires-2
     loop-less
     loop-again
-    clear-requires
-    clear-requires-2
     count-requires
-    sub-t13
+    sub-t18
     same-length
     returns)

@@ -1,7 +1,7 @@
 use native.Mathlib.Omega.{arith}
 use mathlib.Core.Path.{sym, _∙_}
 use borrow.Author.Tests.{not-true, not-false}
-use Rattle.lanes.specs.Table.{unless}
+use Rattle.lanes.specs.Around.{unless}
 use Rattle.preparation.proofs.Uniting.{united-no-end, united-end}
 use borrow.Author.Needs.{needs}
 use Rattle.preparation.proofs.unite_row.Statement.{statement}
@@ -23,23 +23,17 @@ same-length-3 : tie.Need-same-length-3
 same-length-3 c = search needs
 
 returns : tie.Need-returns
-returns c = λ ks. united-no-end _ _ _ _ _ _ _ (sym (c .before .has-end .ensures) ∙ not-true _ (c .if1 .taken)) (c .before .before .before .before .before .before .before .before .unite-valuations .ensures ks)
+returns c = λ ks. united-no-end _ _ _ _ _ _ _ _ (sym (c .before .has-end .ensures) ∙ not-true _ (c .if1 .taken)) (c .before .before .before .before .before .before .unite-valuations .ensures ks)
 
 unite-requires : tie.Need-unite-requires
-unite-requires c κs = (c .before .before .before .before .before .before .before .before .before .before .before .before .before .before .before .before .before .before .before .before .before .before .pre .0, (c .before .before .before .before .before .before .before .before .before .before .before .before .before .before .before .before .before .before .before .before .before .before .pre .1 .0, omega arith, c .before .before .before .before .before .before .before .before .before .before .before .before .before .before .before .before .before .before .before .before .before .before .pre .1 .2, omega arith, omega arith))
+unite-requires c κs = (c .before .before .before .before .before .before .before .before .before .before .before .before .before .before .before .before .before .pre .0, (c .before .before .before .before .before .before .before .before .before .before .before .before .before .before .before .before .before .pre .1 .0, omega arith, c .before .before .before .before .before .before .before .before .before .before .before .before .before .before .before .before .before .pre .1 .2, omega arith, omega arith, omega arith))
 
 same-length-4 : tie.Need-same-length-4
 same-length-4 c = search needs
 
-same-length-5 : tie.Need-same-length-5
-same-length-5 c = search needs
-
-same-length-6 : tie.Need-same-length-6
-same-length-6 c = search needs
-
 returns-2 : tie.Need-returns-2
 unfolding unless
-returns-2 c = λ ks. united-end _ _ _ _ _ _ _ _ (sym (c .before .before .before .before .before .before .before .before .before .before .before .has-end .ensures) ∙ not-false _ (c .before .before .before .before .before .before .before .before .before .before .if1 .left)) (c .before .before .before .before .before .before .before .before .before .before .before .before .before .before .before .before .before .before .unite-valuations .ensures ks) (c .before .before .before .before .before .before .unite .ensures ks)
+returns-2 c = λ ks. united-end _ _ _ _ _ _ _ _ _ (sym (c .before .before .before .before .before .before .before .before .has-end .ensures) ∙ not-false _ (c .before .before .before .before .before .before .before .if1 .left)) (c .before .before .before .before .before .before .before .before .before .before .before .before .before .unite-valuations .ensures ks) (c .before .before .before .before .unite .ensures ks)
 
 pub unite-row-spec : {M : Type 1} → statement M
 unite-row-spec =
@@ -49,10 +43,8 @@ unite-row-spec =
     has-end-requires
     same-length
     same-length-2
-    same-length-3
     returns
     unite-requires
+    same-length-3
     same-length-4
-    same-length-5
-    same-length-6
     returns-2)

@@ -3,7 +3,7 @@ use Prim.Native.Nat.{ℕ, _+_, _*_, _-_, _≤_}
 use mathlib.Core.Path.{_≡_, refl}
 use mathlib.Core.List.{List}
 use lib.ListN.{length}
-use Rattle.lanes.specs.Table.{unless}
+use Rattle.lanes.specs.Around.{unless}
 use Rattle.lanes.specs.Coded.{sheetOf}
 use Rattle.preparation.proofs.Uniting.{Uniting, uniting-first, uniting-more, uniting-all}
 use borrow.Author.Needs.{needs}
@@ -11,12 +11,12 @@ use Rattle.preparation.proofs.unite_valuations.Statement.{statement}
 use Rattle.preparation.proofs.unite_valuations.Tie as tie
 
 abbrev Inv-loop : tie.InvT-loop
-Inv-loop row₀ t₀ st₀ ok s code len m n w b first c₀ row t st c =
-    (first ≡ 1028 + 4 * b) × (c ≤ 64 * w) × (length row ≡ length row₀) × (length t ≡ 48) × (length st ≡ 64)
-    × ((ks : List ℕ) → Uniting (sheetOf m n code len ks) w ok s b row₀ row c)
+Inv-loop row₀ st₀ ok s code len m n w layer b first c₀ row st c =
+    (first ≡ layer + 4 * b) × (c ≤ 64 * w) × (length row ≡ length row₀) × (length st ≡ length st₀)
+    × ((ks : List ℕ) → Uniting (sheetOf m n code len ks) w ok s layer b row₀ row c)
 
 abbrev μ-loop : tie.MeasureT-loop
-μ-loop row₀ t₀ st₀ ok s code len m n w b first c₀ row t st c = 64 * w - c
+μ-loop row₀ st₀ ok s code len m n w layer b first c₀ row st c = 64 * w - c
 
 mul-first : tie.Need-mul-first Inv-loop μ-loop
 mul-first c = search needs
@@ -28,13 +28,13 @@ next-bit-requires : tie.Need-next-bit-requires Inv-loop μ-loop
 next-bit-requires c κs = search needs
 
 loop-holds : tie.Need-loop-holds Inv-loop μ-loop
-loop-holds c = (refl, c .next-bit .ensures .inside, refl, omega arith, omega arith, λ ks. uniting-first _ _ _ _ _ _ _ (c .next-bit .ensures))
+loop-holds c = (refl, c .next-bit .ensures .inside, refl, refl, λ ks. uniting-first _ _ _ _ _ _ _ _ (c .next-bit .ensures))
 
 mul-loop : tie.Need-mul-loop Inv-loop μ-loop
 mul-loop c = search needs
 
 unite-requires : tie.Need-unite-requires Inv-loop μ-loop
-unite-requires c κs = (c .before .before .before .before .before .before .before .before .before .before .before .before .before .pre .0, (c .before .before .before .before .before .before .before .before .before .before .before .before .before .pre .1 .0, omega arith, c .before .before .before .before .before .before .before .before .before .before .before .before .before .pre .1 .2, omega arith, omega arith))
+unite-requires c κs = (c .before .before .before .before .before .before .before .before .before .before .before .pre .0, (c .before .before .before .before .before .before .before .before .before .before .before .pre .1 .0, omega arith, c .before .before .before .before .before .before .before .before .before .before .before .pre .1 .2, omega arith, omega arith, omega arith))
 
 add-next-bit : tie.Need-add-next-bit Inv-loop μ-loop
 add-next-bit c = search needs
@@ -52,8 +52,7 @@ loop-again c = (
   c .next-bit2 .ensures .inside,
   omega arith,
   omega arith,
-  omega arith,
-  λ ks. uniting-more _ _ _ _ _ _ _ _ _ _ (c .before .before .before .before .before .before .before .before .before .before .before .loop-test .taken) (c .before .before .before .before .before .before .before .before .before .before .before .before .loop .inv .5 ks) (c .before .before .before .before .before .before .before .unite .ensures ks) (c .next-bit2 .ensures),
+  λ ks. uniting-more _ _ _ _ _ _ _ _ _ _ _ (c .before .before .before .before .before .before .before .before .loop-test .taken) (c .before .before .before .before .before .before .before .before .before .loop .inv .4 ks) (c .before .before .before .before .before .unite .ensures ks) (c .next-bit2 .ensures),
 )
 
 same-length : tie.Need-same-length Inv-loop μ-loop
@@ -62,11 +61,8 @@ same-length c = search needs
 same-length-2 : tie.Need-same-length-2 Inv-loop μ-loop
 same-length-2 c = search needs
 
-same-length-3 : tie.Need-same-length-3 Inv-loop μ-loop
-same-length-3 c = search needs
-
 returns : tie.Need-returns Inv-loop μ-loop
-returns c = λ ks. uniting-all _ _ _ _ _ _ _ _ (omega arith) (c .before .loop .inv .5 ks)
+returns c = λ ks. uniting-all _ _ _ _ _ _ _ _ _ (omega arith) (c .before .loop .inv .4 ks)
 
 pub unite-valuations-spec : {M : Type 1} → statement M
 unite-valuations-spec =
@@ -86,5 +82,4 @@ unite-valuations-spec =
     loop-again
     same-length
     same-length-2
-    same-length-3
     returns)

@@ -1,122 +1,118 @@
-use Prim.Native.Nat.{ℕ, _+_, _-_, _≤_, _<_}
-use mathlib.Core.Path.{_≡_, refl, sym, _∙_, ap}
-use denote.Ref.{now}
-use lib.ListN.{length, drop, set}
 use native.Mathlib.Omega.{arith}
 use borrow.Author.Needs.{needs}
-use Rattle.sheet.proofs.Sheets.{Kept, begins, next, stopped, left-over, nothing-left}
+use mathlib.Core.Path.{refl, sym, _∙_}
+use Prim.Native.Nat.{_-_}
+use denote.Ref.{now}
+use native.Mathlib.Nat.{add-sub-cancel-left}
+use Rattle.sheet.proofs.Sheets.{Kept, begins, lies, next, stopped, left-over, nothing-left, all-held}
 use Rattle.sheet.proofs.read_outputs.Statement.{statement}
 use Rattle.sheet.proofs.read_outputs.Tie as tie
-use Rattle.sheet.proofs.read_outputs.Reads as reads
-use Rattle.sheet.proofs.read_outputs.Lts as lts
-use Rattle.sheet.proofs.read_output.Reads as read-output-reads
-use Rattle.sheet.proofs.no_layout.Reads as no-layout-reads
 
 abbrev Inv-loop : tie.InvT-loop
-Inv-loop s streams n outputs start₀ len₀ at₀ k₀ start len at k = Kept s streams n start len at k
+Inv-loop s streams n len₀ code₀ outputs at₀ k₀ len code at k = Kept s streams n len code at k
 
 abbrev μ-loop : tie.MeasureT-loop
-μ-loop s streams n outputs start₀ len₀ at₀ k₀ start len at k = n - k
+μ-loop s streams n len₀ code₀ outputs at₀ k₀ len code at k = n - k
 
--- src/lib.rt
-loop-again : tie.Need-loop-again Inv-loop μ-loop
-loop-again c =
-    let p = c .before .before .before .before .before in
-    let a = p .before .before .args in
-    next (now (a .s)) (a .streams) (a .n) (p .loop .start) (p .loop .len) (p .loop .at) (p .loop .k) (p .loop .inv)
-    (omega arith) (omega arith) _ (sym (c .before .before .before .read-output .ensures) ∙ c .before .got .given .1)
-
--- src/lib.rt:331:5
 loop-holds : tie.Need-loop-holds Inv-loop μ-loop
-loop-holds c = let a = c .before .args in begins (now (a .s)) (a .streams) (a .n) _ _ (omega arith) refl refl
+loop-holds c = let a = c .before .before .before in begins (now (a .args .s)) (a .args .streams) (a .args .n) _ _ (a .pre .0) (a .pre .2) (a .pre .3)
 
--- src/lib.rt:332:13
 read-output-requires : tie.Need-read-output-requires Inv-loop μ-loop
 read-output-requires c κs = search needs
 
--- src/lib.rt:334:31
 enum-known-got : tie.Need-enum-known-got Inv-loop μ-loop
 enum-known-got c = search needs
 
--- src/lib.rt:335:28
-add-start : tie.Need-add-start Inv-loop μ-loop
-add-start c = omega arith
+add-from : tie.Need-add-from Inv-loop μ-loop
+add-from c = omega arith
 
--- src/lib.rt:335:17
-mul-start : tie.Need-mul-start Inv-loop μ-loop
-mul-start c = omega arith
+add-at : tie.Need-add-at Inv-loop μ-loop
+add-at c =
+    let p = c .before .before .before .before .before in
+    let a = p .before .before .before .before .args in
+    let i = lies (now (a .s)) (a .streams) (a .n) (p .loop .len) (p .loop .code) (p .loop .at) (p .loop .k) (p .loop .inv) _ (sym (c .before .before .before .read-output .ensures) ∙ c .before .got .given .1) in
+    omega (arith, i .inside)
 
--- src/lib.rt:335:17
-array-write-start : tie.Need-array-write-start Inv-loop μ-loop
-array-write-start c = omega arith
-
--- src/lib.rt:336:17
 mul-len : tie.Need-mul-len Inv-loop μ-loop
 mul-len c = omega arith
 
--- src/lib.rt:336:17
-array-write-len : tie.Need-array-write-len Inv-loop μ-loop
-array-write-len c = omega arith
+slice-write-len : tie.Need-slice-write-len Inv-loop μ-loop
+slice-write-len c = omega (arith, c .before .before .before .before .before .loop .inv .held .sizes)
 
--- src/lib.rt:337:22
-add-at : tie.Need-add-at Inv-loop μ-loop
-add-at c = omega arith
+mul-put : tie.Need-mul-put Inv-loop μ-loop
+mul-put c = omega arith
 
--- src/lib.rt:337:22
-add-at-2 : tie.Need-add-at-2 Inv-loop μ-loop
-add-at-2 c = omega (arith, loop-again c .place)
+sub-put : tie.Need-sub-put Inv-loop μ-loop
+sub-put c = omega arith
 
--- src/lib.rt:339:33
+part-put-start : tie.Need-part-put-start Inv-loop μ-loop
+part-put-start c = omega arith
+
+part-put-end : tie.Need-part-put-end Inv-loop μ-loop
+part-put-end c =
+    let p = c .before .before .before .before .before .before in
+    let a = p .before .before .before .before .args in
+    let i = lies (now (a .s)) (a .streams) (a .n) (p .loop .len) (p .loop .code) (p .loop .at) (p .loop .k) (p .loop .inv) _ (sym (c .before .before .before .before .read-output .ensures) ∙ c .before .before .got .given .1) in
+    omega (arith, i .inside)
+
+put-requires : tie.Need-put-requires Inv-loop μ-loop
+put-requires c κs =
+    let p = c .before .before .before .before .before .before .before in
+    let a = p .before .before .before .before .args in
+    let i = lies (now (a .s)) (a .streams) (a .n) (p .loop .len) (p .loop .code) (p .loop .at) (p .loop .k) (p .loop .inv) _ (sym (c .before .before .before .before .before .read-output .ensures) ∙ c .before .before .before .got .given .1) in
+    simp add-sub-cancel-left (omega (arith, i .size, i .short, p .loop .inv .held .room))
+
 enum-known-got-2 : tie.Need-enum-known-got-2 Inv-loop μ-loop
 enum-known-got-2 c = search needs
 
--- src/lib.rt:340:17
-no-layout-requires : tie.Need-no-layout-requires Inv-loop μ-loop
-no-layout-requires c κs = search needs
+same-length : tie.Need-same-length Inv-loop μ-loop
+same-length c = c .before .before .before .before .before .loop .inv .held .sizes ∙ sym (c .before .before .before .before .before .before .before .before .before .pre .2)
 
--- src/lib.rt:340:17
+same-length-2 : tie.Need-same-length-2 Inv-loop μ-loop
+same-length-2 c = c .before .before .before .before .before .loop .inv .held .room ∙ sym (c .before .before .before .before .before .before .before .before .before .pre .3)
+
 returns : tie.Need-returns Inv-loop μ-loop
 returns c =
-    let p = c .before .before .before .before .before .before in
-    let a = p .before .before .args in
-    let q =
-    stopped (now (a .s)) (a .streams) (a .n) (p .loop .start) (p .loop .len) (p .loop .at) (p .loop .k) (p .loop .inv)
-    (omega arith) _ (sym (c .before .before .before .before .read-output .ensures) ∙ c .before .before .got2 .given .1) in
-    (rw (c .no-layout .ensures, q), rw (c .no-layout .ensures) tt)
+    let p = c .before .before .before .before .before in
+    let a = p .before .before .before .before .args in
+    (rw (stopped (now (a .s)) (a .streams) (a .n) (p .loop .len) (p .loop .code) (p .loop .at) (p .loop .k) (p .loop .inv) (omega arith) _ (sym (c .before .before .before .read-output .ensures) ∙ c .before .got2 .given .1)) refl, tt)
 
--- src/lib.rt:343:9
 add-k : tie.Need-add-k Inv-loop μ-loop
 add-k c = omega arith
 
--- src/lib.rt:331:5
 loop-less : tie.Need-loop-less Inv-loop μ-loop
 loop-less c = omega arith
 
--- src/lib.rt:331:5
+loop-again : tie.Need-loop-again Inv-loop μ-loop
+loop-again c =
+    let p = c .before .before .before .before .before .before .before .before .before .before in
+    let a = p .before .before .before .before .args in
+    next (now (a .s)) (a .streams) (a .n) (p .loop .len) (p .loop .code) (p .loop .at) (p .loop .k) (p .loop .inv)
+    (omega arith) (omega arith) _ (sym (c .before .before .before .before .before .before .before .before .read-output .ensures) ∙ c .before .before .before .before .before .before .got .given .1) (c .before .before .put .last .0) (rw add-sub-cancel-left at (c .before .before .put .ensures))
 
--- src/lib.rt:346:9
-no-layout-requires-2 : tie.Need-no-layout-requires-2 Inv-loop μ-loop
-no-layout-requires-2 c κs = search needs
+same-length-3 : tie.Need-same-length-3 Inv-loop μ-loop
+same-length-3 c = c .before .before .loop .inv .held .sizes ∙ sym (c .before .before .before .before .before .before .pre .2)
 
--- src/lib.rt:346:9
+same-length-4 : tie.Need-same-length-4 Inv-loop μ-loop
+same-length-4 c = c .before .before .loop .inv .held .room ∙ sym (c .before .before .before .before .before .before .pre .3)
+
 returns-2 : tie.Need-returns-2 Inv-loop μ-loop
 returns-2 c =
-    let p = c .before .before .before in
-    let a = p .before .before .args in
-    let q =
-    left-over (now (a .s)) (a .streams) (a .n) (p .loop .start) (p .loop .len) (p .loop .at) (p .loop .k) (p .loop .inv)
-    (omega arith) (omega arith) in
-    (rw (c .no-layout2 .ensures, q), rw (c .no-layout2 .ensures) tt)
+    let p = c .before .before in
+    let a = p .before .before .before .before .args in
+    (rw (left-over (now (a .s)) (a .streams) (a .n) (p .loop .len) (p .loop .code) (p .loop .at) (p .loop .k) (p .loop .inv) (omega arith) (omega arith)) refl, tt)
 
--- src/lib.rt:320:1
+same-length-5 : tie.Need-same-length-5 Inv-loop μ-loop
+same-length-5 c = c .before .before .loop .inv .held .sizes ∙ sym (c .before .before .before .before .before .before .pre .2)
+
+same-length-6 : tie.Need-same-length-6 Inv-loop μ-loop
+same-length-6 c = c .before .before .loop .inv .held .room ∙ sym (c .before .before .before .before .before .before .pre .3)
+
 returns-3 : tie.Need-returns-3 Inv-loop μ-loop
 returns-3 c =
     let p = c .before .before in
-    let a = p .before .before .args in
-    let q =
-    nothing-left (now (a .s)) (a .streams) (a .n) (p .loop .start) (p .loop .len) (p .loop .at) (p .loop .k) (p .loop .inv)
-    (omega arith) (omega arith) in
-    (rw q, record { starts = p .loop .inv .starts; sizes = p .loop .inv .lens; each = λ k h. p .loop .inv .stretches k (omega arith) })
+    let a = p .before .before .before .before .args in
+    (rw (nothing-left (now (a .s)) (a .streams) (a .n) (p .loop .len) (p .loop .code) (p .loop .at) (p .loop .k) (p .loop .inv) (omega arith) (omega arith)) refl, all-held (now (a .s)) (a .streams) (a .n) (p .loop .len) (p .loop .code) (p .loop .at) (p .loop .k) (p .loop .inv) (omega arith))
 
 pub read-outputs-spec : {M : Type 1} → statement M
 read-outputs-spec =
@@ -127,19 +123,25 @@ read-outputs-spec =
     loop-holds
     read-output-requires
     enum-known-got
-    add-start
-    mul-start
-    array-write-start
-    mul-len
-    array-write-len
+    add-from
     add-at
-    add-at-2
+    mul-len
+    slice-write-len
+    mul-put
+    sub-put
+    part-put-start
+    part-put-end
+    put-requires
     enum-known-got-2
-    no-layout-requires
+    same-length
+    same-length-2
     returns
     add-k
     loop-less
     loop-again
-    no-layout-requires-2
+    same-length-3
+    same-length-4
     returns-2
+    same-length-5
+    same-length-6
     returns-3)

@@ -6,12 +6,6 @@ use Rattle.circular.proofs.reads.sheet_masks.Tie as tie
 cast-n : tie.Need-cast-n
 cast-n c = search needs
 
-slice-aggregate-all-reads : tie.Need-slice-aggregate-all-reads
-slice-aggregate-all-reads c = search needs
-
-slice-aggregate-all-reads-2 : tie.Need-slice-aggregate-all-reads-2
-slice-aggregate-all-reads-2 c = search needs
-
 all-reads-requires : tie.Need-all-reads-requires
 all-reads-requires c κs = search needs
 
@@ -21,15 +15,13 @@ masks-of-requires c κs = search needs
 returns : tie.Need-returns
 returns c =
     let a = c .before .before .before .before .before .before .before .before in
-    tells (a .args .x) (a .pre) (c .before .before .all-reads .result) (c .masks-of .result) (c .before .before .all-reads .ensures) (c .masks-of .ensures)
+    tells (a .args .t1) (a .pre) (c .before .before .all-reads .result) (c .masks-of .result) (c .before .before .all-reads .ensures) (c .masks-of .ensures)
 
 pub sheet-masks-spec : {M : Type 1} → statement M
 sheet-masks-spec =
     tie.close
     (tie.spec
     cast-n
-    slice-aggregate-all-reads
-    slice-aggregate-all-reads-2
     all-reads-requires
     masks-of-requires
     returns)

@@ -1,45 +1,47 @@
-use borrow.Author.Needs.{needs}
-use lib.ListN.{length, getD, length-set}
-use Rattle.circular.proofs.Fill.{filled-more}
-use mathlib.Core.Path.{_≡_, refl}
-use Prim.Native.Nat.{ℕ, _-_, _≤_, _<_}
 use native.Mathlib.Omega.{arith}
-use Rattle.circular.specs.Table.{baseN}
+use Prim.Native.Nat.{_-_, _≤_}
+use Rattle.circular.specs.Table.{baseN, readsOfWords, Small}
+use Rattle.circular.proofs.Rows.{FirstRows, rows-none, rows-more, small-zeros}
 use Rattle.circular.proofs.table.based.Statement.{statement}
 use Rattle.circular.proofs.table.based.Tie as tie
 
 abbrev Inv-loop : tie.InvT-loop
-Inv-loop masks up new₀ i₀ new i = (i ≤ 49) × (length new ≡ 49) × ((j : ℕ) → j < i → getD new j 0 ≡ baseN up (getD masks j 0))
+Inv-loop words m n up t₀ s₀ t s = (s ≤ n) × Small t × FirstRows n s (λ i j. baseN up (readsOfWords words m i j)) t₀ t
 
 abbrev μ-loop : tie.MeasureT-loop
-μ-loop masks up new₀ i₀ new i = 49 - i
+μ-loop words m n up t₀ s₀ t s = n - s
 
 loop-holds : tie.Need-loop-holds Inv-loop μ-loop
-loop-holds c = (omega arith, refl, (λ j h. absurd (omega arith)))
+loop-holds c = (omega arith, small-zeros, rows-none _ _ _)
 
-element-copy-out-base : tie.Need-element-copy-out-base Inv-loop μ-loop
-element-copy-out-base c = omega arith
+slice-aggregate-base-row : tie.Need-slice-aggregate-base-row Inv-loop μ-loop
+slice-aggregate-base-row c = omega arith
 
-base-requires : tie.Need-base-requires Inv-loop μ-loop
-base-requires c κs = search needs
+mul-base-row : tie.Need-mul-base-row Inv-loop μ-loop
+mul-base-row c = omega arith
 
-mul-new : tie.Need-mul-new Inv-loop μ-loop
-mul-new c = omega arith
+element-copy-out-base-row : tie.Need-element-copy-out-base-row Inv-loop μ-loop
+element-copy-out-base-row c = omega arith
 
-array-write-new : tie.Need-array-write-new Inv-loop μ-loop
-array-write-new c = omega arith
+base-row-requires : tie.Need-base-row-requires Inv-loop μ-loop
+base-row-requires c κs = (omega arith, omega arith, omega arith, c .before .before .before .loop .inv .1)
 
-add-i : tie.Need-add-i Inv-loop μ-loop
-add-i c = omega arith
+add-s : tie.Need-add-s Inv-loop μ-loop
+add-s c = omega arith
 
 loop-less : tie.Need-loop-less Inv-loop μ-loop
 loop-less c = omega arith
 
 loop-again : tie.Need-loop-again Inv-loop μ-loop
-loop-again c = (omega arith, simp length-set (search needs), filled-more (λ j. baseN (c .before .before .before .before .args .up) (getD (c .before .before .before .before .args .masks .now) j 0)) (c .before .before .before .loop .new) (c .before .before .before .loop .i) (c .base .result) (omega arith) (c .base .ensures) (c .before .before .before .loop .inv .2))
+loop-again c =
+    let l = c .before .before .before .before .before in
+    let x = c .before .base-row .ensures in
+    (omega arith, x .0, rows-more _ _ _ _ _ _ (omega arith) (l .loop .inv .2) (x .1))
 
 returns : tie.Need-returns Inv-loop μ-loop
-returns c = record { cells = λ j h. c .before .loop .inv .2 j (omega arith) }
+returns c =
+    let l = c .before .loop in
+    (l .inv .1, record { cells = λ i j h b. l .inv .2 .done i j (omega arith) b })
 
 pub based-spec : {M : Type 1} → statement M
 based-spec =
@@ -48,11 +50,11 @@ based-spec =
     Inv-loop
     μ-loop
     loop-holds
-    element-copy-out-base
-    base-requires
-    mul-new
-    array-write-new
-    add-i
+    slice-aggregate-base-row
+    mul-base-row
+    element-copy-out-base-row
+    base-row-requires
+    add-s
     loop-less
     loop-again
     returns)

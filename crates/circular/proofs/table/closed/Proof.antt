@@ -1,38 +1,43 @@
-use Rattle.circular.proofs.Codes.{Stage, stage-start, stage-small, stage-next, stage-skip, stage-closed}
-use Prim.Native.Nat.{_-_, _≤_}
 use native.Mathlib.Omega.{arith}
+use borrow.Author.Needs.{needs}
+use Prim.Native.Nat.{_-_, _≤_}
+use Rattle.circular.specs.Table.{baseN, readsOfWords, Small}
+use Rattle.circular.proofs.Codes.{Stage, stage-start, stage-next, stage-closed}
 use Rattle.circular.proofs.table.closed.Statement.{statement}
 use Rattle.circular.proofs.table.closed.Tie as tie
 
 abbrev Inv-loop : tie.InvT-loop
-Inv-loop g t₀ k₀ t k = (k ≤ 7) × Stage g k t
+Inv-loop words m n up t₀ k₀ t k = (k ≤ n) × Small t × Stage n (λ i j. baseN up (readsOfWords words m i j)) k t
 
 abbrev μ-loop : tie.MeasureT-loop
-μ-loop g t₀ k₀ t k = 7 - k
+μ-loop words m n up t₀ k₀ t k = n - k
 
-next-entered-requires : tie.Need-next-entered-requires Inv-loop μ-loop
-next-entered-requires c κs = omega arith
+based-requires : tie.Need-based-requires Inv-loop μ-loop
+based-requires c κs = search needs
 
 loop-holds : tie.Need-loop-holds Inv-loop μ-loop
-loop-holds c = (c .next-entered .ensures .inside, stage-skip _ _ _ _ (c .next-entered .ensures) (stage-start _))
+loop-holds c = let b = c .based .ensures in (omega arith, b .0, stage-start _ _ _ (b .1))
+
+slice-aggregate-stage : tie.Need-slice-aggregate-stage Inv-loop μ-loop
+slice-aggregate-stage c = omega arith
 
 stage-requires : tie.Need-stage-requires Inv-loop μ-loop
-stage-requires c κs = (omega arith, stage-small _ _ _ (c .before .before .before .before .before .before .pre) (c .before .before .loop .inv .1))
+stage-requires c κs = (omega arith, omega arith, c .before .before .loop .inv .1)
 
-add-next-entered : tie.Need-add-next-entered Inv-loop μ-loop
-add-next-entered c = omega arith
-
-next-entered-requires-2 : tie.Need-next-entered-requires-2 Inv-loop μ-loop
-next-entered-requires-2 c κs = omega arith
+add-k : tie.Need-add-k Inv-loop μ-loop
+add-k c = omega arith
 
 loop-less : tie.Need-loop-less Inv-loop μ-loop
-loop-less c = omega (arith, c .next-entered2 .ensures .onward)
+loop-less c = omega arith
 
 loop-again : tie.Need-loop-again Inv-loop μ-loop
-loop-again c = (c .next-entered2 .ensures .inside, stage-skip _ _ _ _ (c .next-entered2 .ensures) (stage-next _ _ _ _ (omega arith) (c .before .before .before .before .before .loop .inv .1) (c .before .before .stage .ensures)))
+loop-again c =
+    let l = c .before .before .before .before in
+    let x = c .before .stage .ensures in
+    (omega arith, x .0, stage-next _ _ _ _ _ (omega arith) (omega arith) (l .loop .inv .2) (x .1))
 
 returns : tie.Need-returns Inv-loop μ-loop
-returns c = stage-closed _ _ _ (omega arith) (c .before .loop .inv .1)
+returns c = stage-closed _ _ _ _ (omega arith) (c .before .loop .inv .2)
 
 pub closed-spec : {M : Type 1} → statement M
 closed-spec =
@@ -40,11 +45,11 @@ closed-spec =
     (tie.spec
     Inv-loop
     μ-loop
-    next-entered-requires
+    based-requires
     loop-holds
+    slice-aggregate-stage
     stage-requires
-    add-next-entered
-    next-entered-requires-2
+    add-k
     loop-less
     loop-again
     returns)

@@ -1,0 +1,20 @@
+use Rattle.circular.specs.Table.{topN}
+use borrow.Author.Needs.{needs}
+use Rattle.circular.proofs.table.top.Statement.{statement}
+use Rattle.circular.proofs.table.top.Tie as tie
+
+pick-requires : tie.Need-pick-requires
+pick-requires c κs = search needs
+
+pick-requires-2 : tie.Need-pick-requires-2
+pick-requires-2 c κs = search needs
+
+pick-requires-3 : tie.Need-pick-requires-3
+pick-requires-3 c κs = search needs
+
+returns : tie.Need-returns
+unfolding topN
+returns c = cc
+
+pub top-spec : {M : Type 1} → statement M
+top-spec = tie.close (tie.spec pick-requires pick-requires-2 pick-requires-3 returns)

@@ -1,13 +1,14 @@
 -- A letter matches the masks input by input exactly if its known bits are the value.
 use mathlib.Core.Path.{_≡_, refl, sym, ap, ap₂, _∙_}
 use mathlib.Core.Bool.{Bool, true, false, cond, not, _&&_, _||_, Bool·beq, false≢true, and-true, and-false}
-use Prim.Native.Nat.{ℕ, zero, suc, _+_, _<_, _≤_, _^_}
+use Prim.Native.Nat.{ℕ, zero, suc, _+_, _-_, _%_, _<_, _≤_, _^_}
+use native.Mathlib.Nat.{mod-lt, mod-eq-of-lt}
 use native.Mathlib.Omega.{arith}
 use native.Mathlib.Numerals.{add-one}
 use native.Mathlib.Decide.{ℕ-discrete}
-use lib.Bits.{bitAnd, and-le-r}
+use lib.Bits.{bitAnd, and-le-r, and-mod}
 use lib.Dec.{eqb, leb}
-use lib.Pow.{pow-mono}
+use lib.Pow.{pow-pos, pow-mono, mod-mod-pow}
 use borrow.Author.Tests.{eq-eqb, ne-eqb, eqb-true, leb-false}
 use Rattle.words.specs.Bits.{bit}
 use Rattle.words.proofs.BitLaws.{bit-and, bit-high, bits-ext}
@@ -110,12 +111,31 @@ not-false true e = refl
 not-false false e = absurd (false≢true (sym e))
 
 -- masks that rule 11 lets pass
+known-small : (m known val : ℕ) → badMasks m known val ≡ false → known < 2 ^ m
+unfolding badMasks
+known-small m known val e = leb-false (2 ^ m) known (or-fst (leb (2 ^ m) known) (not (eqb (bitAnd val known) val)) e)
+
 pub valid : (m known val : ℕ) → m ≤ 6 → badMasks m known val ≡ false → Valid known val
 unfolding badMasks
 valid m known val h e =
-    let a = leb-false (2 ^ m) known (or-fst (leb (2 ^ m) known) (not (eqb (bitAnd val known) val)) e) in
+    let a : known < 2 ^ m = known-small m known val e in
     let g : 2 ^ m ≤ 2 ^ 6 = pow-mono h in
     record {
       small = omega arith;
       inside = eqb-true (bitAnd val known) val (not-false (eqb (bitAnd val known) val) (or-snd (leb (2 ^ m) known) (not (eqb (bitAnd val known) val)) e));
     }
+
+-- the bits of a number at places below m are those of its rest
+and-low : (m known x y : ℕ) → known < 2 ^ m → x % 2 ^ m ≡ y % 2 ^ m → bitAnd x known ≡ bitAnd y known
+and-low m known x y h e = sym (cut x) ∙ and-mod x known m ∙ ap (λ (z : ℕ). bitAnd z (known % 2 ^ m)) e ∙ sym (and-mod y known m) ∙ cut y
+  where
+    cut : (z : ℕ) → bitAnd z known % 2 ^ m ≡ bitAnd z known
+    cut z = let l : bitAnd z known < 2 ^ m = omega (arith, and-le-r z known) in mod-eq-of-lt l
+
+-- so the masks ask of six bits what they ask of the inputs
+pub masked-low : (m known val v : ℕ) → m ≤ 6 → badMasks m known val ≡ false → masked known val (v % 64) ≡ masked known val (v % 2 ^ m)
+unfolding masked
+masked-low m known val v h e = ap (λ (z : ℕ). eqb z val) (and-low m known (v % 64) (v % 2 ^ m) (known-small m known val e) (six ∙ sym (mod-eq-of-lt (mod-lt v (pow-pos m)))))
+  where
+    six : v % 64 % 2 ^ m ≡ v % 2 ^ m
+    six = let q : 6 ≡ 6 - m + m = omega arith in ap (λ (k : ℕ). v % 2 ^ k % 2 ^ m) q ∙ mod-mod-pow v (6 - m) m

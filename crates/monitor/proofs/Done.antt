@@ -27,12 +27,12 @@ use Rattle.record.specs.Columns.{AreVerdicts}
 use Rattle.record.specs.declared.JournalRecord.{JournalRecord}
 use Rattle.rounds.specs.Rows.{among}
 use Rattle.rounds.specs.Round.{Rounded}
-use Rattle.rounds.specs.Firsts.{Told}
+use Rattle.rounds.specs.Firsts.{Passing, Told}
 use Rattle.monitor.specs.Results.{width, heard, nextSet, within, Verdicts, RoundDone, ClosingDone}
 use Rattle.monitor.specs.Steps.{given, RoundReady, Shares}
 use Rattle.monitor.specs.declared.RoundAnswer.{RoundAnswer}
 use Rattle.monitor.specs.declared.ClosingAnswer.{ClosingAnswer}
-use Rattle.monitor.proofs.Rounding.{sheet-outputs, sheet-width, heard-as, pairs-verdict-as, reached-below, wider}
+use Rattle.monitor.proofs.Rounding.{sheet-outputs, sheet-width, heard-as, pairs-verdict-as, reached-below, wider, only-heard}
 use Rattle.monitor.proofs.Entries.{next-later}
 
 verdict-small : (v : Verdict) → verdictNo v ≤ 3
@@ -57,6 +57,11 @@ module _ (x : Sheet) (u : Usable x) where
   small : width X ≤ 256
   small = let g : 2 ^ (x .inputs + x .outputs) ≤ 2 ^ 8 = pow-mono (u .ranges .streams) in omega (arith, sheet-width x)
 
+  -- after a round, only what was heard is a first part
+  pub heard-firsts : (s t : List ℕ) (n letters : ℕ) → Rounded (2 ^ (x .inputs + x .outputs)) s t (nextSet X (stored s 0) n (stored s 1028) (among letters))
+      → Passing (2 ^ (x .inputs + x .outputs)) (among letters) (stored t 1028)
+  heard-firsts s t n letters d = only-heard (2 ^ (x .inputs + x .outputs)) s t X (stored s 0) n (stored s 1028) (among letters) (pow-mono (u .ranges .streams)) d
+
   -- verdicts over the valuations of the sheet
   told-verdicts : (f g : ℕ → Verdict) (vs : List ℕ) → ((k : ℕ) → f k ≡ g k) → Told (x .outputs) f vs → Verdicts (outputs X) g vs
   told-verdicts f g vs e v = record {
@@ -68,13 +73,12 @@ module _ (x : Sheet) (u : Usable x) where
   pub round-done : (s t : List ℕ) (r : JournalRecord) (known val letters : ℕ) (a : RoundAnswer)
       → RoundReady (x .inputs) (x .outputs) (given (length s) r known val)
       → ((l : ℕ) → l < 64 → bit l letters ≡ matches known val 6 l)
-      → Rounded (2 ^ (x .inputs + x .outputs)) s t (nextSet X (stored s 0) (r .rounds) (stored s 1028) (among letters (x .inputs)))
+      → Rounded (2 ^ (x .inputs + x .outputs)) s t (nextSet X (stored s 0) (r .rounds) (stored s 1028) (among letters))
       → Told (x .outputs) (λ k. pairsVerdict (2 ^ (x .inputs + x .outputs)) (stored t 1028) (bit (x .inputs + k))) (a .verdicts)
       → a .record .rounds ≡ r .rounds + 1 → a .record .closed ≡ r .closed → Counted (x .outputs) (a .verdicts) (r .counts) (a .record .counts)
       → RoundDone X s t r known val a
-  unfolding among
   round-done s t r known val letters a ready f d v e₁ e₂ e₃ =
-      let H : among letters (x .inputs) ≡ heard X (masked known val) = heard-as X letters known val (u .ranges .inputs) (ready .masks) f in
+      let H : among letters ≡ heard X (masked known val) = heard-as X letters known val (u .ranges .inputs) (ready .masks) f in
       let R : Pairs = nextSet X (stored s 0) (r .rounds) (stored s 1028) (heard X (masked known val)) in
       let same : (b : ℕ) (c : Option ℕ) → b < 256 → Within 256 c → stored t 1028 b c ≡ cond (used (width X) b c) (within (width X) R b c) (stored s 1028 b c) =
       λ b c hb hc.

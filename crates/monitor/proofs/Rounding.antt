@@ -5,10 +5,8 @@ use mathlib.Core.List.{List}
 use mathlib.Core.Option.{Option, none, some}
 use Prim.Native.Nat.{ℕ, zero, suc, _+_, _*_, _%_, _^_, _<_, _≤_}
 use native.Mathlib.Omega.{arith}
-use native.Mathlib.Nat.{mod-lt}
 use lib.Dec.{ltb}
 use lib.ListN.{length, getD}
-use lib.Pow.{pow-pos, pow-mono}
 use borrow.Author.Tests.{lt-ltb}
 use Rattle.words.specs.Bits.{bit}
 use Rattle.words.specs.Below.{anyBelow}
@@ -19,16 +17,20 @@ use Rattle.sheet.specs.RuleSheet.{RuleSheet, outputs, streams}
 use Rattle.sheet.specs.Reading.{ruleSheet, Usable}
 use Rattle.sheet.specs.declared.Sheet.{Sheet}
 use Rattle.sheet.proofs.Sheets.{length-trees}
-use Rattle.lola.specs.Equations.{output, letter}
+use Rattle.lola.specs.Equations.{holds}
 use Rattle.completions.specs.Live.{Pairs}
 use Rattle.completions.specs.Completion.{masked}
-use Rattle.completions.specs.Steps.{Within, anyNext, anyPair, verdictOf, pairsVerdict, endsVerdict}
+use Rattle.completions.specs.Steps.{Within, startSet, stepSet, anyNext, anyPair, verdictOf, pairsVerdict, endsVerdict}
 use Rattle.letters.specs.Masks.{badMasks}
 use Rattle.letters.specs.Matching.{matches}
-use Rattle.letters.proofs.Matching.{Valid, valid, matches-masked}
-use Rattle.pairs.specs.Storage.{used}
+use Rattle.letters.proofs.Matching.{valid, matches-masked, masked-low}
+use Rattle.pairs.specs.Storage.{stored, used}
+use Rattle.pairs.proofs.Bools.{and-false}
 use Rattle.pairs.proofs.Sets.{used-below}
-use Rattle.monitor.specs.Results.{width, heard, within, below}
+use Rattle.rounds.specs.Rows.{among}
+use Rattle.rounds.specs.Round.{Rounded}
+use Rattle.rounds.specs.Firsts.{Passing}
+use Rattle.monitor.specs.Results.{width, heard, nextSet, within, below}
 
 -- ---- the sheet's numbers
 
@@ -42,12 +44,10 @@ sheet-width x = ap (λ (n : ℕ). 2 ^ (x .inputs + n)) (sheet-outputs x)
 
 -- a set of letters that has just those that match the masks asks what the masks ask
 pub heard-as : (x : RuleSheet) (letters known val : ℕ) → x .inputs ≤ 6 → badMasks (x .inputs) known val ≡ false
-    → ((l : ℕ) → l < 64 → bit l letters ≡ matches known val 6 l) → (λ (v : ℕ). bit (v % 2 ^ x .inputs) letters) ≡ heard x (masked known val)
+    → ((l : ℕ) → l < 64 → bit l letters ≡ matches known val 6 l) → among letters ≡ heard x (masked known val)
+unfolding among
 heard-as x letters known val h e f =
-    fun-ext (λ v.
-    let l : v % 2 ^ x .inputs < 2 ^ x .inputs = mod-lt v (pow-pos (x .inputs)) in
-    let g : 2 ^ x .inputs ≤ 2 ^ 6 = pow-mono h in
-    f (v % 2 ^ x .inputs) (omega arith) ∙ matches-masked known val (v % 2 ^ x .inputs) (valid (x .inputs) known val h e))
+    fun-ext (λ v. f (v % 64) (omega arith) ∙ matches-masked known val (v % 64) (valid (x .inputs) known val h e) ∙ masked-low (x .inputs) known val v h e)
 
 -- ---- verdicts read off sets that are the same below w
 
@@ -78,3 +78,14 @@ reached-below w S l b c h i = ap (λ (u : Bool). cond u (within w S b c) l) (use
 pub wider : (w : ℕ) → w ≤ 256 → (c : Option ℕ) → Within w c → Within 256 c
 wider w h none i = tt
 wider w h (some c) i = omega arith
+
+-- ---- after a round, only what was heard is a first part
+
+next-unheard : (x : RuleSheet) (L : Pairs) (t : ℕ) (S : Pairs) (r : ℕ → Bool) (b : ℕ) (c : Option ℕ) → r b ≡ false → nextSet x L t S r b c ≡ false
+unfolding startSet stepSet
+next-unheard x L zero S r b c e = ap (λ (u : Bool). L b c && (u && holds x none b c)) e ∙ and-false (L b c)
+next-unheard x L (suc t) S r b c e = ap (λ (u : Bool). L b c && (u && anyBelow (width x) (λ a. S a (some b) && holds x (some a) b c))) e ∙ and-false (L b c)
+
+pub only-heard : (w : ℕ) (s t : List ℕ) (x : RuleSheet) (L : Pairs) (n : ℕ) (S : Pairs) (r : ℕ → Bool) → w ≤ 256 → Rounded w s t (nextSet x L n S r) → Passing w r (stored t 1028)
+only-heard w s t x L n S r h d b c hb hc e =
+    d .reached b c (omega arith) (wider w h c hc) ∙ reached-below w (nextSet x L n S r) (stored s 1028 b c) b c hb hc ∙ next-unheard x L n S r b c e

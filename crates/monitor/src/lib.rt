@@ -201,7 +201,7 @@ fn step(
 )
     requires { ⌜ Coded m n (now code) (now len) ⌝ }
     requires { ⌜ 3084 ≤ length (now storage) ⌝ }
-    ensures { λ r. ⌜ ((ks : List ℕ) → Rounded (2 ^ (m + n)) (now (storage .entry)) (now (storage .exit)) (nextSet (sheetOf m n (now (code .entry)) (now (len .entry)) ks) (stored (now (storage .entry)) 0) rounds (stored (now (storage .entry)) 1028) (among letters m))) ⌝ }
+    ensures { λ r. ⌜ ((ks : List ℕ) → Rounded (2 ^ (m + n)) (now (storage .entry)) (now (storage .exit)) (nextSet (sheetOf m n (now (code .entry)) (now (len .entry)) ks) (stored (now (storage .entry)) 0) rounds (stored (now (storage .entry)) 1028) (among letters))) ⌝ }
 {
     if rounds == 0 {
         rounds::first_round(storage, code, len, m, n, letters);
@@ -226,7 +226,7 @@ fn accepted_round(
     let n = x.outputs as usize;
     let letters = letters::letters_of(known, value);
     step(storage, &code, &len, m, n, r.rounds, letters);
-    let verdicts = rounds::round_verdicts(storage, m, n);
+    let verdicts = rounds::round_verdicts(storage, m, n, letters);
     let next = record::with_round(r, n, &verdicts);
     RoundAnswer {
         outcome: Outcome::Accepted,

@@ -5,7 +5,10 @@ use Prim.Native.Nat.{ℕ, _+_, _*_, _/_, _≤_, _<_}
 use native.Mathlib.Omega.{arith}
 use native.Mathlib.Decide.{ℕ-discrete, decLt}
 use borrow.Author.Tests.{eq-eqb, ne-eqb, lt-ltb, le-ltb}
-use lib.Dec.{eqb, ltb}
+use lib.Dec.{T, eqb, ltb}
+use Rattle.words.specs.Below.{anyBelow}
+use Rattle.completions.proofs.Tests.{true-of}
+use Rattle.completions.proofs.Search.{any-found}
 
 -- a conjunction with a third test on both sides of a disjunction
 pub or-and : (u v k : Bool) → ((u && k) || (v && k)) ≡ ((u || v) && k)
@@ -31,6 +34,14 @@ turn true true w = refl
 turn true false w = refl
 turn false true w = refl
 turn false false w = refl
+
+pub and-split : (a b : Bool) → (a && b) ≡ true → (a ≡ true) × (b ≡ true)
+and-split true b e = (refl, e)
+and-split false b e = absurd (let y : _≡_ {A = ℕ} 0 1 = cc in omega arith)
+
+-- the number that a search found
+pub found : (n : ℕ) (f : ℕ → Bool) → anyBelow n f ≡ true → (i : ℕ) × (i < n) × (f i ≡ true)
+found n f e = let z : (i : ℕ) × (i < n) × T (f i) = any-found n f (rw e tt) in (z .0, z .1, true-of (f (z .0)) (z .2))
 
 -- ---- bounds
 

@@ -3,13 +3,13 @@ use mathlib.Core.Path.{_≡_, refl, sym, ap, ap₂, _∙_}
 use mathlib.Core.Bool.{Bool, true, false, cond, _&&_, _||_}
 use mathlib.Core.List.{List}
 use mathlib.Core.Option.{Option, none, some}
-use Prim.Native.Nat.{ℕ, _+_, _-_, _*_, _%_, _^_, _≤_, _<_}
+use Prim.Native.Nat.{ℕ, _+_, _-_, _*_, _/_, _%_, _^_, _≤_, _<_}
 use native.Mathlib.Omega.{arith}
-use native.Mathlib.Decide.{decLt}
+use native.Mathlib.Decide.{ℕ-discrete, decLt}
 use borrow.Author.Tests.{eq-eqb, ne-eqb, eqb-true, lt-ltb, le-ltb, ltb-false}
 use lib.Bits.{bitAnd, and-le-l}
-use lib.Dec.{T, eqb, ltb}
-use lib.Pow.{pow-mono}
+use lib.Dec.{eqb, ltb}
+use lib.Pow.{pow-pos, pow-mono}
 use Rattle.words.specs.Below.{anyBelow}
 use Rattle.words.specs.Bits.{bit}
 use Rattle.words.proofs.BitLaws.{one-shl, bit-and, bits-ext}
@@ -18,17 +18,34 @@ use Rattle.sheet.specs.RuleSheet.{RuleSheet}
 use Rattle.lola.specs.Equations.{holds}
 use Rattle.completions.specs.Live.{Pairs}
 use Rattle.completions.specs.Steps.{Within, startSet, stepSet}
-use Rattle.completions.proofs.Tests.{true-of}
-use Rattle.completions.proofs.Search.{any-found}
 use Rattle.pairs.specs.Storage.{stored, used}
 use Rattle.pairs.specs.Changes.{Adds, RowsCleared}
-use Rattle.pairs.proofs.Bools.{and-false, or-false, iff}
+use Rattle.pairs.proofs.Bools.{and-true, and-false, or-false, iff}
 use Rattle.pairs.proofs.Sets.{rows-before, rows-beyond, used-below, unused, adds-before, adds-beyond}
-use Rattle.rounds.specs.Rows.{below, cut, gains, brought, grouped, Sparse}
+use Rattle.rounds.specs.Rows.{Wide, below, gains, brought, heardIn, grouped, Sparse}
 use Rattle.rounds.specs.Round.{Rounded}
+use Rattle.rounds.proofs.Bools.{and-split, found}
 
 pub two-to : (k : ℕ) → k ≤ 8 → (1 * 2 ^ k % 2 ^ 64 ≡ 2 ^ k) × (1 * 2 ^ k % 2 ^ 64 ≤ 256)
 two-to k h = let g : 2 ^ k ≤ 256 = pow-mono h in (one-shl k (omega arith), omega (arith, one-shl k (omega arith)))
+
+-- the words that they take
+pub wide : (k v : ℕ) → k ≤ 8 → v ≡ 2 ^ k → Wide (2 ^ k) ((v + 63) / 64)
+wide k v h e = go (decLt k 7) (ℕ-discrete k 7)
+  where
+    one : 1 ≤ 2 ^ k → 2 ^ k ≤ 64 → Wide (2 ^ k) ((v + 63) / 64)
+    one l g = record { least = omega arith; most = omega arith; not-three = λ q. omega arith; under = omega arith; full = λ q. omega arith }
+
+    two : 2 ^ k ≡ 128 → Wide (2 ^ k) ((v + 63) / 64)
+    two g = record { least = omega arith; most = omega arith; not-three = λ q. omega arith; under = omega arith; full = λ q. omega arith }
+
+    four : 2 ^ k ≡ 256 → Wide (2 ^ k) ((v + 63) / 64)
+    four g = record { least = omega arith; most = omega arith; not-three = λ q. omega arith; under = omega arith; full = λ q. omega arith }
+
+    go : Dec (k < 7) → Dec (k ≡ 7) → Wide (2 ^ k) ((v + 63) / 64)
+    go (yes l) d = let l′ : k ≤ 6 = omega arith in one (pow-pos k) (pow-mono l′)
+    go (no l) (yes d) = two (ap (λ (i : ℕ). 2 ^ i) d)
+    go (no l) (no d) = let q : k ≡ 8 = omega arith in four (ap (λ (i : ℕ). 2 ^ i) q)
 
 -- ---- the words in use
 
@@ -75,13 +92,6 @@ rounded-first x w n r s t u v is c a d = record {
 abbrev pub Blind : RuleSheet → ℕ → Type 0
 Blind x mask = (a b : ℕ) (c : Option ℕ) → holds x (some a) b c ≡ holds x (some (bitAnd a mask)) b c
 
-and-split : (a b : Bool) → (a && b) ≡ true → (a ≡ true) × (b ≡ true)
-and-split true b e = (refl, e)
-and-split false b e = absurd (let y : _≡_ {A = ℕ} 0 1 = cc in omega arith)
-
-found : (n : ℕ) (f : ℕ → Bool) → anyBelow n f ≡ true → (i : ℕ) × (i < n) × (f i ≡ true)
-found n f e = let z : (i : ℕ) × (i < n) × T (f i) = any-found n f (rw e tt) in (z .0, z .1, true-of (f (z .0)) (z .2))
-
 module _ (x : RuleSheet) (mask : ℕ) (blind : Blind x mask) (S : Pairs) (w b : ℕ) (c : Option ℕ) where
   abbrev members : ℕ → Bool
   members g = anyBelow w (λ a. eqb g (bitAnd a mask) && S a (some b))
@@ -113,23 +123,22 @@ module _ (x : RuleSheet) (mask : ℕ) (blind : Blind x mask) (S : Pairs) (w b : 
           (ap₂ _&&_ (some-any w (λ a. eqb g (bitAnd a mask) && S a (some b)) a h (ap₂ _&&_ (eq-eqb g (bitAnd a mask) refl) (k .0))) (sym (blind a b c) ∙ k .1))
 
 -- tests that do not depend on the number searched for
-out : (w : ℕ) (i q y l : Bool) (G H : ℕ → Bool) → anyBelow w (λ g. (i && (G g && q)) && (y && (l && H g))) ≡ (i && (y && (l && (q && anyBelow w (λ g. G g && H g)))))
-out w false q y l G H = none-any w _ (λ g h. refl)
-out w true q false l G H = none-any w _ (λ g h. and-false (G g && q))
-out w true q true false G H = none-any w _ (λ g h. and-false (G g && q))
-out w true false true true G H = none-any w _ (λ g h. ap (λ (u : Bool). u && H g) (and-false (G g)))
-out w true true true true G H = any-cong w _ _ (λ g h. ap (λ (u : Bool). u && H g) (and-one (G g)))
-  where
-    and-one : (u : Bool) → (u && true) ≡ u
-    and-one true = refl
-    and-one false = refl
+out : (w : ℕ) (i y l : Bool) (G H : ℕ → Bool) → anyBelow w (λ g. (i && G g) && (y && (l && H g))) ≡ (i && (y && (l && anyBelow w (λ g. G g && H g))))
+out w false y l G H = none-any w _ (λ g h. refl)
+out w true false l G H = none-any w _ (λ g h. and-false (G g))
+out w true true false G H = none-any w _ (λ g h. and-false (G g))
+out w true true true G H = refl
+
+out-heard : (w : ℕ) (q : Bool) (G H : ℕ → Bool) → anyBelow w (λ g. (G g && q) && H g) ≡ (q && anyBelow w (λ g. G g && H g))
+out-heard w true G H = any-cong w _ _ (λ g h. ap (λ (u : Bool). u && H g) (and-true (G g)))
+out-heard w false G H = none-any w _ (λ g h. ap (λ (u : Bool). u && H g) (and-false (G g)))
 
 -- no group has a number beyond those of its rows
-group-low : (S : Pairs) (mask n v g : ℕ) (c : Option ℕ) → v ≤ g → grouped S mask n v g c ≡ false
+group-low : (S : Pairs) (r : ℕ → Bool) (mask n v g : ℕ) (c : Option ℕ) → v ≤ g → grouped S r mask n v g c ≡ false
 unfolding grouped
-group-low S mask n v g c h =
+group-low S r mask n v g c h =
     none-any v _
-    (λ a ha. ap (λ (u : Bool). u && cut (λ b. ltb b n && S a (some b)) c) (ne-eqb g (bitAnd a mask) (λ e. let l : bitAnd a mask ≤ a = and-le-l a mask in omega arith)))
+    (λ a ha. ap (λ (u : Bool). u && heardIn S r n a c) (ne-eqb g (bitAnd a mask) (λ e. let l : bitAnd a mask ≤ a = and-le-l a mask in omega arith)))
 
 and-twice : (a mask : ℕ) → a < 256 → bitAnd (bitAnd a mask) mask ≡ bitAnd a mask
 and-twice a mask h =
@@ -144,27 +153,27 @@ and-twice a mask h =
     again false v = refl
 
 -- only rows of groups hold anything
-pub groups-sparse : (mask n v w : ℕ) (s s₁ s₂ s₃ : List ℕ) → v ≡ w → v ≤ 256 → RowsCleared 2056 v s s₁ → Adds 2056 s₁ s₂ (grouped (stored s₁ 1028) mask n v) → RowsCleared 1028 v s₂ s₃
+pub groups-sparse : (r : ℕ → Bool) (mask n v w : ℕ) (s s₁ s₂ s₃ : List ℕ) → v ≡ w → v ≤ 256 → RowsCleared 2056 v s s₁ → Adds 2056 s₁ s₂ (grouped (stored s₁ 1028) r mask n v) → RowsCleared 1028 v s₂ s₃
     → Sparse w mask (stored s₃ 2056)
 unfolding grouped
-groups-sparse mask n v w s s₁ s₂ s₃ is hv a b c g hg ne k hk =
+groups-sparse r mask n v w s s₁ s₂ s₃ is hv a b c g hg ne k hk =
     let hg′ : g < 256 = omega arith in
     rows-beyond 1028 v s₂ s₃ c 2056 g (some k) hg′ hk (omega arith)
     ∙ b .adds g (some k) hg′ hk
     ∙ ap₂ _||_ (a .emptied g (some k) hg′ hk ∙ ap (λ (u : Bool). cond u false (stored s 2056 g (some k))) (used-below v g (some k) (omega arith)))
     (none-any v _
-    (λ i hi. ap (λ (u : Bool). u && (ltb k n && stored s₁ 1028 i (some k)))
+    (λ i hi. ap (λ (u : Bool). u && heardIn (stored s₁ 1028) r n i (some k))
     (ne-eqb g (bitAnd i mask) (λ e. ne (ap (λ (z : ℕ). bitAnd z mask) e ∙ and-twice i mask (omega arith) ∙ sym e)))))
 
 module _ (x : RuleSheet) (mask : ℕ) (blind : Blind x mask) (w n : ℕ) (r : ℕ → Bool) (hw : w ≤ 256) (hn : w ≤ 64 * n) where
   -- the storage: at first, cleared scratch, grouped, cleared reached, brought, cleared scratch
-  module _ (s s₁ s₂ s₃ s₄ s₅ : List ℕ) (v : ℕ) (is : v ≡ w) (a : RowsCleared 2056 v s s₁) (b : Adds 2056 s₁ s₂ (grouped (stored s₁ 1028) mask (64 * n) v)) (c : RowsCleared 1028 v s₂ s₃)
-      (d : Adds 1028 s₃ s₄ (brought x (stored s₃ 2056) w r (stored s₃ 0) w)) (e : RowsCleared 2056 v s₄ s₅) where
+  module _ (s s₁ s₂ s₃ s₄ s₅ : List ℕ) (v : ℕ) (is : v ≡ w) (a : RowsCleared 2056 v s s₁) (b : Adds 2056 s₁ s₂ (grouped (stored s₁ 1028) r mask (64 * n) v)) (c : RowsCleared 1028 v s₂ s₃)
+      (d : Adds 1028 s₃ s₄ (brought x (stored s₃ 2056) w (stored s₃ 0) w)) (e : RowsCleared 2056 v s₄ s₅) where
     abbrev G₁ : Pairs
-    G₁ = grouped (stored s₁ 1028) mask (64 * n) v
+    G₁ = grouped (stored s₁ 1028) r mask (64 * n) v
 
     abbrev Brought : Pairs
-    Brought = brought x (stored s₃ 2056) w r (stored s₃ 0) w
+    Brought = brought x (stored s₃ 2056) w (stored s₃ 0) w
 
     abbrev Next : Pairs
     Next k y = ltb k w && (below w y && stepSet x w (stored s 0) (stored s 1028) r k y)
@@ -173,7 +182,7 @@ module _ (x : RuleSheet) (mask : ℕ) (blind : Blind x mask) (w n : ℕ) (r : �
     live-same k y hk hy =
         rows-before 1028 v s₂ s₃ c 0 k y hk hy (omega arith) ∙ adds-before 2056 s₁ s₂ G₁ b 0 k y hk hy (omega arith) ∙ rows-before 2056 v s s₁ a 0 k y hk hy (omega arith)
 
-    group-same : (g k : ℕ) → g < w → k < w → stored s₃ 2056 g (some k) ≡ anyBelow w (λ i. eqb g (bitAnd i mask) && stored s 1028 i (some k))
+    group-same : (g k : ℕ) → g < w → k < w → stored s₃ 2056 g (some k) ≡ anyBelow w (λ i. eqb g (bitAnd i mask) && (stored s 1028 i (some k) && r k))
     unfolding grouped
     group-same g k hg hk =
         let hg′ : g < 256 = omega arith in
@@ -183,24 +192,25 @@ module _ (x : RuleSheet) (mask : ℕ) (blind : Blind x mask) (w n : ℕ) (r : �
         ∙ b .adds g (some k) hg′ hk′
         ∙ ap (λ (u : Bool). u || G₁ g (some k))
         (a .emptied g (some k) hg′ hk′ ∙ ap (λ (u : Bool). cond u false (stored s 2056 g (some k))) (used-below v g (some k) (omega arith)))
-        ∙ any-cong v _ (λ i. eqb g (bitAnd i mask) && stored s 1028 i (some k))
-        (λ i hi. ap₂ (λ (p q : Bool). eqb g (bitAnd i mask) && (p && q)) (lt-ltb k (64 * n) hm) (rows-before 2056 v s s₁ a 1028 i (some k) (omega arith) hk′ (omega arith)))
-        ∙ ap (λ (z : ℕ). anyBelow z (λ i. eqb g (bitAnd i mask) && stored s 1028 i (some k))) is
+        ∙ any-cong v _ (λ i. eqb g (bitAnd i mask) && (stored s 1028 i (some k) && r k))
+        (λ i hi. ap₂ (λ (p q : Bool). eqb g (bitAnd i mask) && (p && (q && r k))) (lt-ltb k (64 * n) hm) (rows-before 2056 v s s₁ a 1028 i (some k) (omega arith) hk′ (omega arith)))
+        ∙ ap (λ (z : ℕ). anyBelow z (λ i. eqb g (bitAnd i mask) && (stored s 1028 i (some k) && r k))) is
 
     brought-is : (k : ℕ) (y : Option ℕ) → k < 256 → Within 256 y → Brought k y ≡ Next k y
     unfolding brought gains stepSet
     brought-is k y hk hy =
-        out w (ltb k w) (r k) (below w y) (stored s₃ 0 k y) (λ g. stored s₃ 2056 g (some k)) (λ g. holds x (some g) k y)
-        ∙ ap (λ (l : Bool). ltb k w && (below w y && (l && (r k && anyBelow w (λ g. stored s₃ 2056 g (some k) && holds x (some g) k y))))) (live-same k y hk hy)
+        out w (ltb k w) (below w y) (stored s₃ 0 k y) (λ g. stored s₃ 2056 g (some k)) (λ g. holds x (some g) k y)
+        ∙ ap (λ (l : Bool). ltb k w && (below w y && (l && anyBelow w (λ g. stored s₃ 2056 g (some k) && holds x (some g) k y)))) (live-same k y hk hy)
         ∙ at (decLt k w)
       where
         at : Dec (k < w)
-            → (ltb k w && (below w y && (stored s 0 k y && (r k && anyBelow w (λ g. stored s₃ 2056 g (some k) && holds x (some g) k y)))))
+            → (ltb k w && (below w y && (stored s 0 k y && anyBelow w (λ g. stored s₃ 2056 g (some k) && holds x (some g) k y))))
             ≡ (ltb k w && (below w y && (stored s 0 k y && (r k && anyBelow w (λ i. stored s 1028 i (some k) && holds x (some i) k y)))))
         at (yes h) =
-            ap (λ (u : Bool). ltb k w && (below w y && (stored s 0 k y && (r k && u))))
+            ap (λ (u : Bool). ltb k w && (below w y && (stored s 0 k y && u)))
             (any-cong w _ _ (λ g hg. ap (λ (u : Bool). u && holds x (some g) k y) (group-same g k hg h))
-            ∙ groups-same x mask blind (stored s 1028) w k y)
+            ∙ groups-same x mask blind (λ i c. stored s 1028 i c && r k) w k y
+            ∙ out-heard w (r k) (λ i. stored s 1028 i (some k)) (λ i. holds x (some i) k y))
         at (no h) = let z : w ≤ k = omega arith in rw (le-ltb k w z)
 
     reached-is : (k : ℕ) (y : Option ℕ) → k < 256 → Within 256 y → stored s₅ 1028 k y ≡ cond (used w k y) (Next k y) (stored s 1028 k y)
@@ -223,7 +233,7 @@ module _ (x : RuleSheet) (mask : ℕ) (blind : Blind x mask) (w n : ℕ) (r : �
         ∙ rows-beyond 1028 v s₂ s₃ c 2056 k y hk hy (omega arith)
         ∙ b .adds k y hk hy
         ∙ ap (λ (l : Bool). l || G₁ k y) (a .emptied k y hk hy))
-        ∙ both (used v k y) (G₁ k y) (stored s 2056 k y) (λ q. group-low (stored s₁ 1028) mask (64 * n) v k y (ltb-false k v (unused v k y q)))
+        ∙ both (used v k y) (G₁ k y) (stored s 2056 k y) (λ q. group-low (stored s₁ 1028) r mask (64 * n) v k y (ltb-false k v (unused v k y q)))
         ∙ ap (λ (z : ℕ). cond (used z k y) false (stored s 2056 k y)) is
       where
         both : (u p l : Bool) → (u ≡ false → p ≡ false) → cond u false (cond u false l || p) ≡ cond u false l

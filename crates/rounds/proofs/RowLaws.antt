@@ -1,6 +1,6 @@
 -- What the reached set gains, row by row. Assumes nothing.
 use mathlib.Core.Path.{_≡_, refl, sym, ap, ap₂, _∙_, subst}
-use mathlib.Core.Bool.{Bool, true, false, _&&_, _||_}
+use mathlib.Core.Bool.{Bool, true, false, cond, _&&_, _||_}
 use mathlib.Core.List.{List}
 use mathlib.Core.Option.{Option, none, some}
 use Prim.Native.Nat.{ℕ, _+_, _*_, _/_, _≤_, _<_}
@@ -19,8 +19,17 @@ use Rattle.pairs.specs.Storage.{stored}
 use Rattle.pairs.specs.Changes.{eqNext, Adds, rowBit, NextBit}
 use Rattle.pairs.proofs.Bools.{and-true, and-false, or-false, or-comm, and-assoc}
 use Rattle.pairs.proofs.Sets.{adds-none, adds-as, adds-then, adds-before, adds-beyond, row-bit}
-use Rattle.rounds.specs.Rows.{below, cut, gains, heardIn, brought, Sparse}
+use Rattle.rounds.specs.Rows.{room, below, cut, gains, inRow, brought, Sparse}
 use Rattle.rounds.proofs.Bools.{merge, merge-under, merge-both, below-one, words-one, below-none, below-within, below-wider}
+
+-- the room that one word wants, and four
+pub room-one : (v : ℕ) → v ≤ 64 → room v ≡ 64
+unfolding room
+room-one v h = ap (λ (u : Bool). cond u 256 64) (le-ltb 64 v h)
+
+pub room-four : (v : ℕ) → 64 < v → room v ≡ 256
+unfolding room
+room-four v h = ap (λ (u : Bool). cond u 256 64) (lt-ltb 64 v h)
 
 -- the rows of another set stay
 pub sparse-same : (s t : List ℕ) (P : Pairs) (w mask : ℕ) → w ≤ 256 → Adds 1028 s t P → Sparse w mask (stored s 2056) → Sparse w mask (stored t 2056)
@@ -84,6 +93,14 @@ module _ (x : RuleSheet) where
       go a none = refl
       go a (some c) = ap (λ (u : Bool). eqb a b && u) (below-within c v (64 * j) h ∙ ap (ltb c) q)
 
+  -- one word is the whole row
+  pub row-word : (s t : List ℕ) (b v : ℕ) (p : Option ℕ) → v ≤ 64 → Adds 1028 s t (Row b v (λ c. eqb (c / 64) 0) s p) → Adds 1028 s t (gains x (λ a. eqb a b) (cut (λ c. ltb c v)) (stored s 0) p)
+  row-word s t b v p h f = row-all s t b v v 1 p refl h (row-more s s t b v 0 p (row-none s b v p) f)
+
+  pub row-as : (s t : List ℕ) (b v w : ℕ) (p : Option ℕ) → v ≡ w → Adds 1028 s t (gains x (λ a. eqb a b) (cut (λ c. ltb c v)) (stored s 0) p)
+      → Adds 1028 s t (gains x (λ a. eqb a b) (cut (λ c. ltb c w)) (stored s 0) p)
+  row-as s t b v w p e f = subst (λ (k : ℕ). Adds 1028 s t (gains x (λ a. eqb a b) (cut (λ c. ltb c k)) (stored s 0) p)) e f
+
   abbrev Ended : ℕ → List ℕ → Option ℕ → Pairs
   Ended b s p = gains x (λ a. eqb a b) (λ y. eqNext y none) (stored s 0) p
 
@@ -104,6 +121,18 @@ module _ (x : RuleSheet) where
 
   pub end-breaks : (s : List ℕ) (b : ℕ) (p : Option ℕ) → holds x p b none ≡ false → Adds 1028 s s (Ended b s p)
   end-breaks s b p e = end-false s b p (ap (λ (u : Bool). stored s 0 b none && u) e ∙ and-false (stored s 0 b none))
+
+  pub end-there : (s : List ℕ) (b : ℕ) (p : Option ℕ) → stored s 1028 b none ≡ true → Adds 1028 s s (Ended b s p)
+  unfolding gains eqNext
+  end-there s b p e = adds-as 1028 s s (λ a c. false) (Ended b s p) (adds-none 1028 s (λ a c. false) (λ a c. refl)) (λ a c ha hc. or-false (stored s 1028 a c) ∙ go a c)
+    where
+      at : (a : ℕ) → Dec (a ≡ b) → stored s 1028 a none ≡ (stored s 1028 a none || (eqb a b && (true && (stored s 0 a none && holds x p a none))))
+      at a (yes d) = let q : stored s 1028 a none ≡ true = ap (λ (k : ℕ). stored s 1028 k none) d ∙ e in rw q
+      at a (no d) = rw (ne-eqb a b d) (sym (or-false (stored s 1028 a none)))
+
+      go : (a : ℕ) (c : Option ℕ) → stored s 1028 a c ≡ (stored s 1028 a c || Ended b s p a c)
+      go a none = at a (ℕ-discrete a b)
+      go a (some c) = sym (ap (λ (u : Bool). stored s 1028 a (some c) || u) (and-false (eqb a b)) ∙ or-false (stored s 1028 a (some c)))
 
   pub end-set : (s t : List ℕ) (b : ℕ) (p : Option ℕ) → stored s 0 b none ≡ true → holds x p b none ≡ true → Adds 1028 s t (λ a c. eqb a b && eqNext c none) → Adds 1028 s t (Ended b s p)
   unfolding gains eqNext
@@ -128,7 +157,7 @@ module _ (x : RuleSheet) where
       go a none = ap (λ (u : Bool). u || (eqb a b && true)) (and-false (eqb a b))
       go a (some c) = ap (λ (u : Bool). (eqb a b && ltb c w) || u) (and-false (eqb a b)) ∙ or-false (eqb a b && ltb c w)
 
-  -- ---- rows whose letter is in the set
+  -- ---- rows that were heard
 
   abbrev One : ℕ → (ℕ → Bool) → ℕ → List ℕ → Option ℕ → Pairs
   One b r w s p = gains x (λ a. eqb a b && r a) (below w) (stored s 0) p
@@ -166,16 +195,13 @@ module _ (x : RuleSheet) where
   -- ---- the rows that one row of a set G names
 
   -- those below b are done; b is the next, or at least w
-  pub record Bringing (s t : List ℕ) (w g : ℕ) (r : ℕ → Bool) (b : ℕ) : Type 0 where
-    pub sofar : Adds 1028 s t (Rows b (heardIn (stored s 2056) w r g) w s (some g))
+  pub record Bringing (s t : List ℕ) (w g b : ℕ) : Type 0 where
+    pub sofar : Adds 1028 s t (Rows b (inRow (stored s 2056) w g) w s (some g))
     pub next : b < w → stored s 2056 g (some b) ≡ true
 
-  module _ (s : List ℕ) (w g : ℕ) (r : ℕ → Bool) (hw : w ≤ 256) (hg : g < 256) where
+  module _ (s : List ℕ) (w g : ℕ) (hw : w ≤ 256) (hg : g < 256) where
     abbrev In : ℕ → Bool
-    In = heardIn (stored s 2056) w r g
-
-    not-in : (a : ℕ) → stored s 2056 g (some a) ≡ false → In a ≡ false
-    not-in a e = ap (λ (u : Bool). ltb a w && (u && r a)) e ∙ and-false (ltb a w)
+    In = inRow (stored s 2056) w g
 
     row-same : (t : List ℕ) (P : Pairs) → Adds 1028 s t P → (a : ℕ) → a < 256 → rowBit t (2056 + 4 * g) a ≡ stored s 2056 g (some a)
     row-same t P f a h = row-bit t 2056 g a ∙ adds-beyond 1028 s t P f 2056 g (some a) hg h (omega arith)
@@ -183,9 +209,10 @@ module _ (x : RuleSheet) where
     wider : (t : List ℕ) (b b′ : ℕ) → b ≤ b′ → ((a : ℕ) → a < 256 → b ≤ a → a < b′ → stored s 2056 g (some a) ≡ false) → Adds 1028 s t (Rows b In w s (some g)) → Adds 1028 s t (Rows b′ In w s (some g))
     wider t b b′ l f a =
         gains-as s t (λ k. ltb k b && In k) (λ k. ltb k b′ && In k) (below w) (below w) (stored s 0) (some g) a
-        (λ k c hk hc. ap (λ (u : Bool). u && below w c) (below-wider k b b′ (In k) l (λ h i. not-in k (f k hk h i))))
+        (λ k c hk hc. ap (λ (u : Bool). u && below w c)
+        (below-wider k b b′ (In k) l (λ h i. ap (λ (u : Bool). ltb k w && u) (f k hk h i) ∙ and-false (ltb k w))))
 
-    pub bring-first : (n b : ℕ) → w ≤ 64 * n → NextBit s (2056 + 4 * g) n 0 b → Bringing s s w g r b
+    pub bring-first : (n b : ℕ) → w ≤ 64 * n → NextBit s (2056 + 4 * g) n 0 b → Bringing s s w g b
     bring-first n b hn z =
         let same : (a : ℕ) → a < 256 → rowBit s (2056 + 4 * g) a ≡ stored s 2056 g (some a) = λ a h. row-bit s 2056 g a in
         record {
@@ -193,55 +220,50 @@ module _ (x : RuleSheet) where
           next = λ h. sym (same b (omega arith)) ∙ z .found (omega arith);
         }
 
-    pub bring-more : (t u : List ℕ) (n b b′ : ℕ) → w ≤ 64 * n → b < w → Bringing s t w g r b → Adds 1028 t u (One b r w t (some g)) → NextBit u (2056 + 4 * g) n (b + 1) b′ → Bringing s u w g r b′
+    pub bring-more : (t u : List ℕ) (n b b′ : ℕ) → w ≤ 64 * n → b < w → Bringing s t w g b → Adds 1028 t u (gains x (λ a. eqb a b) (below w) (stored t 0) (some g))
+        → NextBit u (2056 + 4 * g) n (b + 1) b′ → Bringing s u w g b′
     bring-more t u n b b′ hn hb f q z =
-        let one : Adds 1028 t u (One b In w t (some g)) =
-        gains-as t u (λ a. eqb a b && r a) (λ a. eqb a b && In a) (below w) (below w) (stored t 0) (some g) q (λ a c ha hc. ap (λ (v : Bool). v && below w c) (at a (ℕ-discrete a b))) in
+        let one : Adds 1028 t u (One b In w t (some g)) = heard t u b w In (some g) (ap₂ _&&_ (lt-ltb b w hb) (f .next hb)) q in
         let all : Adds 1028 s u (Rows (b + 1) In w s (some g)) = rows-more s t u b w In (some g) (f .sofar) one in
         record {
           sofar = wider u (b + 1) b′ (z .onward) (λ a h l i. sym (row-same u (Rows (b + 1) In w s (some g)) all a h) ∙ z .skipped a l i) all;
           next = λ h. sym (row-same u (Rows (b + 1) In w s (some g)) all b′ (omega arith)) ∙ z .found (omega arith);
         }
-      where
-        at : (a : ℕ) → Dec (a ≡ b) → (eqb a b && r a) ≡ (eqb a b && In a)
-        at a (yes d) =
-            let h : a < w = omega arith in
-            ap (λ (v : Bool). eqb a b && v) (sym (ap₂ (λ (p q : Bool). p && (q && r a)) (lt-ltb a w h) (ap (λ (k : ℕ). stored s 2056 g (some k)) d ∙ f .next hb)))
-        at a (no d) = rw (ne-eqb a b d)
 
-    pub bring-all : (t : List ℕ) (b : ℕ) → w ≤ b → Bringing s t w g r b → Adds 1028 s t (gains x (heardIn (stored s 2056) w r g) (below w) (stored s 0) (some g))
+    pub bring-all : (t : List ℕ) (b : ℕ) → w ≤ b → Bringing s t w g b → Adds 1028 s t (gains x (inRow (stored s 2056) w g) (below w) (stored s 0) (some g))
     bring-all t b h f =
         gains-as s t (λ a. ltb a b && In a) In (below w) (below w) (stored s 0) (some g) (f .sofar)
-        (λ a c ha hc. ap (λ (u : Bool). u && below w c) (sym (and-assoc (ltb a b) (ltb a w) (stored s 2056 g (some a) && r a)) ∙ ap (λ (u : Bool). u && (stored s 2056 g (some a) && r a)) (below-within a w b h)))
+        (λ a c ha hc. ap (λ (u : Bool). u && below w c)
+        (sym (and-assoc (ltb a b) (ltb a w) (stored s 2056 g (some a))) ∙ ap (λ (u : Bool). u && stored s 2056 g (some a)) (below-within a w b h)))
 
   -- a row that is no group's
-  pub no-group : (s : List ℕ) (w mask g : ℕ) (r : ℕ → Bool) → w ≤ 256 → g < w → Sparse w mask (stored s 2056) → (bitAnd g mask ≡ g → ⊥)
-      → Adds 1028 s s (gains x (heardIn (stored s 2056) w r g) (below w) (stored s 0) (some g))
-  no-group s w mask g r hw hg f ne =
-      gains-none s (heardIn (stored s 2056) w r g) (below w) (stored s 0) (some g) (λ b c. ap (λ (u : Bool). u && below w c) (go b (decLt b w)))
+  pub no-group : (s : List ℕ) (w mask g : ℕ) → w ≤ 256 → g < w → Sparse w mask (stored s 2056) → (bitAnd g mask ≡ g → ⊥)
+      → Adds 1028 s s (gains x (inRow (stored s 2056) w g) (below w) (stored s 0) (some g))
+  no-group s w mask g hw hg f ne =
+      gains-none s (inRow (stored s 2056) w g) (below w) (stored s 0) (some g) (λ b c. ap (λ (u : Bool). u && below w c) (go b (decLt b w)))
     where
-      go : (b : ℕ) → Dec (b < w) → heardIn (stored s 2056) w r g b ≡ false
-      go b (yes d) = ap (λ (u : Bool). ltb b w && (u && r b)) (f g hg ne b (omega arith)) ∙ and-false (ltb b w)
-      go b (no d) = ap (λ (u : Bool). u && (stored s 2056 g (some b) && r b)) (le-ltb b w (omega arith))
+      go : (b : ℕ) → Dec (b < w) → inRow (stored s 2056) w g b ≡ false
+      go b (yes d) = ap (λ (u : Bool). ltb b w && u) (f g hg ne b (omega arith)) ∙ and-false (ltb b w)
+      go b (no d) = ap (λ (u : Bool). u && stored s 2056 g (some b)) (le-ltb b w (omega arith))
 
   -- ---- all rows of G
 
-  pub brought-none : (s : List ℕ) (G L : Pairs) (w : ℕ) (r : ℕ → Bool) → Adds 1028 s s (brought x G w r L 0)
+  pub brought-none : (s : List ℕ) (G L : Pairs) (w : ℕ) → Adds 1028 s s (brought x G w L 0)
   unfolding brought anyBelow
-  brought-none s G L w r = adds-none 1028 s (brought x G w r L 0) (λ b c. refl)
+  brought-none s G L w = adds-none 1028 s (brought x G w L 0) (λ b c. refl)
 
-  pub brought-more : (s t u : List ℕ) (w g : ℕ) (r : ℕ → Bool) → g < 256 → Adds 1028 s t (brought x (stored s 2056) w r (stored s 0) g)
-      → Adds 1028 t u (gains x (heardIn (stored t 2056) w r g) (below w) (stored t 0) (some g)) → Adds 1028 s u (brought x (stored s 2056) w r (stored s 0) (g + 1))
+  pub brought-more : (s t u : List ℕ) (w g : ℕ) → g < 256 → Adds 1028 s t (brought x (stored s 2056) w (stored s 0) g)
+      → Adds 1028 t u (gains x (inRow (stored t 2056) w g) (below w) (stored t 0) (some g)) → Adds 1028 s u (brought x (stored s 2056) w (stored s 0) (g + 1))
   unfolding brought gains
-  brought-more s t u w g r hg f q =
-      adds-then 1028 s t u (brought x (stored s 2056) w r (stored s 0) g) (gains x (heardIn (stored t 2056) w r g) (below w) (stored t 0) (some g)) (brought x (stored s 2056) w r (stored s 0) (g + 1)) f q
+  brought-more s t u w g hg f q =
+      adds-then 1028 s t u (brought x (stored s 2056) w (stored s 0) g) (gains x (inRow (stored t 2056) w g) (below w) (stored t 0) (some g)) (brought x (stored s 2056) w (stored s 0) (g + 1)) f q
       (λ b c hb hc.
-      or-comm (brought x (stored s 2056) w r (stored s 0) g b c) _
-      ∙ ap (λ (v : Bool). v || brought x (stored s 2056) w r (stored s 0) g b c)
-      (ap₂ (λ (k l : Bool). (ltb b w && (k && r b)) && (below w c && (l && holds x (some g) b c)))
-      (adds-beyond 1028 s t (brought x (stored s 2056) w r (stored s 0) g) f 2056 g (some b) hg hb (omega arith))
-      (adds-before 1028 s t (brought x (stored s 2056) w r (stored s 0) g) f 0 b c hb hc (omega arith)))
-      ∙ sym (any-one g (λ a. gains x (heardIn (stored s 2056) w r a) (below w) (stored s 0) (some a) b c)))
+      or-comm (brought x (stored s 2056) w (stored s 0) g b c) _
+      ∙ ap (λ (v : Bool). v || brought x (stored s 2056) w (stored s 0) g b c)
+      (ap₂ (λ (k l : Bool). (ltb b w && k) && (below w c && (l && holds x (some g) b c)))
+      (adds-beyond 1028 s t (brought x (stored s 2056) w (stored s 0) g) f 2056 g (some b) hg hb (omega arith))
+      (adds-before 1028 s t (brought x (stored s 2056) w (stored s 0) g) f 0 b c hb hc (omega arith)))
+      ∙ sym (any-one g (λ a. gains x (inRow (stored s 2056) w a) (below w) (stored s 0) (some a) b c)))
 
-  pub brought-all : (s t : List ℕ) (G L : Pairs) (w g v : ℕ) (r : ℕ → Bool) → g ≤ v → v ≤ g → v ≡ w → Adds 1028 s t (brought x G w r L g) → Adds 1028 s t (brought x G w r L w)
-  brought-all s t G L w g v r h l q f = let e : g ≡ w = omega arith in subst (λ (k : ℕ). Adds 1028 s t (brought x G w r L k)) e f
+  pub brought-all : (s t : List ℕ) (G L : Pairs) (w g v : ℕ) → g ≤ v → v ≤ g → v ≡ w → Adds 1028 s t (brought x G w L g) → Adds 1028 s t (brought x G w L w)
+  brought-all s t G L w g v h l q f = let e : g ≡ w = omega arith in subst (λ (k : ℕ). Adds 1028 s t (brought x G w L k)) e f

@@ -1,19 +1,20 @@
--- Valuations as the bits of four words, and the verdicts read off them. Assumes nothing.
-use mathlib.Core.Path.{_≡_, refl, sym, ap, ap₂, _∙_}
+-- Valuations as the bits of words, and the verdicts read off them. Assumes nothing.
+use mathlib.Core.Path.{_≡_, refl, sym, ap, ap₂, _∙_, subst}
 use mathlib.Core.Bool.{Bool, true, false, not, _&&_, _||_, Bool·beq}
 use mathlib.Core.List.{List}
 use mathlib.Core.Option.{Option, none, some}
 use Prim.Native.Nat.{ℕ, zero, suc, _+_, _-_, _*_, _/_, _%_, _^_, _≤_, _<_}
 use native.Mathlib.Omega.{arith}
 use native.Mathlib.Decide.{ℕ-discrete, decLt}
-use borrow.Author.Tests.{le-ltb, lt-ltb, ne-eqb}
+use borrow.Author.Tests.{le-ltb, lt-ltb, ltb-true, eq-eqb, ne-eqb}
 use lib.Dec.{eqb, ltb}
-use lib.Bits.{bitAnd, bitOr, and-lt}
+use lib.Count.{trailingZeros}
+use lib.Bits.{bitAnd, bitOr, and-lt, and-le-l}
 use lib.ListN.{length, getD, set, length-set, replicate}
 use lib.Seq.{getD-set-same, getD-set-other}
 use Rattle.words.specs.Bits.{bit}
 use Rattle.words.specs.Below.{anyBelow}
-use Rattle.words.proofs.BitLaws.{bit-and, bit-or, bit-shl, bit-none}
+use Rattle.words.proofs.BitLaws.{bit-and, bit-or, bit-not, bit-shl, bit-none, Lowest, lowest}
 use Rattle.words.proofs.AnyLaws.{any-cong, any-add, any-groups, any-word, none-any, some-any}
 use Rattle.words.proofs.LaneLaws.{beq-true, beq-false}
 use Rattle.refusal.specs.declared.Verdict.{Verdict}
@@ -21,11 +22,13 @@ use Rattle.refusal.specs.Numbers.{verdictNo}
 use Rattle.completions.specs.Live.{Pairs}
 use Rattle.completions.specs.Steps.{anyNext, anyPair, verdictOf, pairsVerdict, endsVerdict}
 use Rattle.pairs.specs.Storage.{stored}
-use Rattle.pairs.specs.Changes.{rowBit, NextBit}
-use Rattle.pairs.proofs.Bools.{and-true, and-false, or-false, and-assoc}
-use Rattle.pairs.proofs.Sets.{row-bit, lane-end}
-use Rattle.rounds.specs.Firsts.{Words, shows, Told}
-use Rattle.rounds.proofs.Bools.{merge, below-one, below-none}
+use Rattle.pairs.specs.Changes.{rowBit}
+use Rattle.pairs.proofs.Bools.{and-true, and-false, or-false, and-assoc, iff}
+use Rattle.pairs.proofs.Sets.{lane-end}
+use Rattle.rounds.specs.Rows.{among, Wide}
+use Rattle.rounds.specs.Firsts.{Passing, Words, shows, Told}
+use Rattle.rounds.proofs.Bools.{and-split, found}
+use Rattle.rounds.proofs.WordLaws.{heard-lane}
 
 -- ---- whether a row has a member
 
@@ -33,15 +36,47 @@ pub first-end : (s : List ℕ) (v a : ℕ) → stored s 1028 a none ≡ true →
 unfolding anyNext
 first-end s v a e = sym (ap (λ (u : Bool). u || anyBelow v (λ b. stored s 1028 a (some b))) e)
 
-pub first-rest : (s : List ℕ) (v w a r : ℕ) → v ≤ 64 * w → stored s 1028 a none ≡ false → NextBit s (1028 + 4 * a) w 0 r → ltb r v ≡ anyNext v (stored s 1028 a)
-unfolding anyNext
-first-rest s v w a r hw e z = go (decLt r v) ∙ sym (ap (λ (u : Bool). u || anyBelow v (λ b. stored s 1028 a (some b))) e)
-  where
-    go : Dec (r < v) → ltb r v ≡ anyBelow v (λ b. stored s 1028 a (some b))
-    go (yes h) = lt-ltb r v h ∙ sym (some-any v (λ b. stored s 1028 a (some b)) r h (sym (row-bit s 1028 a r) ∙ z .found (omega arith)))
-    go (no n) =
-        le-ltb r v (omega arith)
-        ∙ sym (none-any v (λ b. stored s 1028 a (some b)) (λ b h. sym (row-bit s 1028 a b) ∙ z .skipped b (omega arith) (omega arith)))
+-- the lanes of its words, those below v, show whether it has one
+module _ (s : List ℕ) (v w a x mask : ℕ) (wide : Wide v w) (lx : (i : ℕ) → i < 64 → bit i x ≡ anyBelow w (λ j. stored s 1028 a (some (64 * j + i))))
+    (lm : (i : ℕ) → i < 64 → bit i mask ≡ ltb (64 * 0 + i) v) where
+  abbrev member : ℕ → Bool
+  member b = stored s 1028 a (some b)
+
+  within : (i j : ℕ) → i < 64 → i < v → j < w → 64 * j + i < v
+  within i j h l g = go (decLt 1 w)
+    where
+      go : Dec (1 < w) → 64 * j + i < v
+      go (yes d) = omega (arith, wide .full d)
+      go (no d) = omega arith
+
+  some-lane : anyBelow 64 (λ i. bit i (bitAnd x mask)) ≡ true → anyBelow v member ≡ true
+  some-lane e =
+      let z = found 64 (λ i. bit i (bitAnd x mask)) e in
+      let i : ℕ = z .0 in
+      let h : i < 64 = z .1 in
+      let k = and-split (bit i x) (bit i mask) (sym (bit-and i x mask) ∙ z .2) in
+      let l : 64 * 0 + i < v = ltb-true (64 * 0 + i) v (sym (lm i h) ∙ k .1) in
+      let y = found w (λ j. member (64 * j + i)) (sym (lx i h) ∙ k .0) in
+      some-any v member (64 * y .0 + i) (within i (y .0) h (omega arith) (y .1)) (y .2)
+
+  lane-of : anyBelow v member ≡ true → anyBelow 64 (λ i. bit i (bitAnd x mask)) ≡ true
+  lane-of e =
+      let z = found v member e in
+      let b : ℕ = z .0 in
+      let g : b < v = z .1 in
+      let h : b % 64 < 64 = omega arith in
+      let q : 64 * (b / 64) + b % 64 ≡ b = omega arith in
+      let l : b / 64 < w = omega (arith, wide .under) in
+      some-any 64 (λ i. bit i (bitAnd x mask)) (b % 64) h
+      (bit-and (b % 64) x mask
+      ∙ ap₂ _&&_ (lx (b % 64) h ∙ some-any w (λ j. member (64 * j + b % 64)) (b / 64) l (ap member q ∙ z .2)) (lm (b % 64) h ∙ lt-ltb (64 * 0 + b % 64) v (omega arith)))
+
+  pub first-rest : x < 2 ^ 64 → mask < 2 ^ 64 → stored s 1028 a none ≡ false → not (eqb (bitAnd x mask) 0) ≡ anyNext v (stored s 1028 a)
+  unfolding anyNext
+  first-rest hx hm e =
+      sym (any-word 64 (bitAnd x mask) (and-lt 64 x mask hx hm))
+      ∙ iff (anyBelow 64 (λ i. bit i (bitAnd x mask))) (anyBelow v member) some-lane lane-of
+      ∙ sym (ap (λ (u : Bool). u || anyBelow v member) e)
 
 -- ---- the lanes of a word, one after the other
 
@@ -53,62 +88,86 @@ lane-set k x i v h e =
 pub lane-kept : (k x i : ℕ) (v : Bool) → v ≡ false → bit k x ≡ (bit k x || (eqb k i && v))
 lane-kept k x i v e = sym (ap (λ (u : Bool). bit k x || u) (ap (λ (u : Bool). eqb k i && u) e ∙ and-false (eqb k i)) ∙ or-false (bit k x))
 
--- the lanes below i have g
-pub record Lanes (g : ℕ → Bool) (word i : ℕ) : Type 0 where
-  pub lanes : (k : ℕ) → k < 64 → bit k word ≡ (ltb k i && g k)
+-- the lanes of `all` have g where it is looked at; the rest of them is still to be looked at
+pub record Looking (g : ℕ → Bool) (all word rest : ℕ) : Type 0 where
+  pub fits : rest < 2 ^ 64
+  pub lanes : (k : ℕ) → k < 64 → (bit k word || (bit k rest && g k)) ≡ (bit k all && g k)
 
-pub lanes-start : (g : ℕ → Bool) → Lanes g 0 0
-lanes-start g = record { lanes = λ k h. bit-none k ∙ sym (below-none k (g k)) }
+pub looking-start : (g : ℕ → Bool) (all : ℕ) → all < 2 ^ 64 → Looking g all 0 all
+looking-start g all l = record { fits = l; lanes = λ k h. ap (λ (u : Bool). u || (bit k all && g k)) (bit-none k) }
 
-pub lanes-more : (g : ℕ → Bool) (word i word′ : ℕ) (v : Bool) → Lanes g word i → v ≡ g i → ((k : ℕ) → bit k word′ ≡ (bit k word || (eqb k i && v))) → Lanes g word′ (i + 1)
-lanes-more g word i word′ v p e f =
-    record { lanes = λ k h. f k ∙ ap₂ _||_ (p .lanes k h) (same k (ℕ-discrete k i)) ∙ merge (ltb k i) (eqb k i) (ltb k (i + 1)) (g k) (below-one k i) }
+-- a word without lane i
+abbrev pub without : ℕ → ℕ → ℕ
+without x i = bitAnd x (18446744073709551615 - 1 * 2 ^ i % 2 ^ 64)
+
+lane-off : (k x i : ℕ) → k < 64 → i < 64 → bit k (without x i) ≡ (bit k x && not (eqb k i))
+lane-off k x i h l =
+    bit-and k x (18446744073709551615 - 1 * 2 ^ i % 2 ^ 64)
+    ∙ ap (λ (u : Bool). bit k x && u) (bit-not 64 k (1 * 2 ^ i % 2 ^ 64) h (omega arith) ∙ ap not (bit-shl k i l))
+
+pub lane-less : (x i : ℕ) → i < 64 → bit i x ≡ true → without x i < x
+lane-less x i h e = let l : without x i ≤ x = and-le-l x (18446744073709551615 - 1 * 2 ^ i % 2 ^ 64) in let n : without x i ≡ x → ⊥ = differs in omega arith
   where
-    same : (k : ℕ) → Dec (k ≡ i) → (eqb k i && v) ≡ (eqb k i && g k)
-    same k (yes d) = ap (λ (u : Bool). eqb k i && u) (e ∙ ap g (sym d))
-    same k (no n) = rw (ne-eqb k i n)
+    off : bit i (without x i) ≡ false
+    off = lane-off i x i h h ∙ ap₂ (λ (u v : Bool). u && not v) e (eq-eqb i i refl)
 
-pub lanes-done : (g : ℕ → Bool) (word i n j v : ℕ) → i ≤ n → n ≤ i → ((k : ℕ) → k < 64 → ltb k n ≡ ltb (64 * j + k) v) → Lanes g word i → (k : ℕ) → k < 64 → bit k word ≡ (ltb (64 * j + k) v && g k)
-lanes-done g word i n j v h l f p k b =
-    let e : i ≡ n = omega arith in
-    p .lanes k b ∙ ap (λ (u : Bool). u && g k) (ap (ltb k) e ∙ f k b)
+    differs : without x i ≡ x → ⊥
+    differs q = let y : true ≡ false = sym e ∙ ap (bit i) (sym q) ∙ off in let z : _≡_ {A = ℕ} 0 1 = cc in omega arith
 
-pub count-none : (i v j : ℕ) → v ≤ 64 * j → ltb i 0 ≡ ltb (64 * j + i) v
-count-none i v j h = le-ltb i 0 (omega arith) ∙ sym (le-ltb (64 * j + i) v (omega arith))
-
-pub count-all : (i v j : ℕ) → i < 64 → 64 * j + 64 ≤ v → ltb i 64 ≡ ltb (64 * j + i) v
-count-all i v j l h = lt-ltb i 64 l ∙ sym (lt-ltb (64 * j + i) v (omega arith))
-
-pub count-some : (i v j : ℕ) → ltb i (v - 64 * j) ≡ ltb (64 * j + i) v
-count-some i v j = go (decLt i (v - 64 * j))
+pub looking-more : (g : ℕ → Bool) (all word rest i word′ : ℕ) (v : Bool) → i < 64 → bit i rest ≡ true → v ≡ g i → ((k : ℕ) → bit k word′ ≡ (bit k word || (eqb k i && v))) → Looking g all word rest
+    → Looking g all word′ (without rest i)
+looking-more g all word rest i word′ v l o e f p = record {
+  fits = omega (arith, p .fits, lane-less rest i l o);
+  lanes = λ k h. ap₂ (λ (y z : Bool). y || (z && g k)) (f k) (lane-off k rest i h l) ∙ at k (ℕ-discrete k i) ∙ p .lanes k h;
+}
   where
-    go : Dec (i < v - 64 * j) → ltb i (v - 64 * j) ≡ ltb (64 * j + i) v
-    go (yes l) = lt-ltb i (v - 64 * j) l ∙ sym (lt-ltb (64 * j + i) v (omega arith))
-    go (no n) = le-ltb i (v - 64 * j) (omega arith) ∙ sym (le-ltb (64 * j + i) v (omega arith))
+    taken : (y z u t : Bool) → z ≡ true → u ≡ t → ((y || u) || ((z && false) && t)) ≡ (y || (z && t))
+    taken true z u t a b = refl
+    taken false true u t a b = or-false u ∙ b
+    taken false false u t a b = absurd (let z : _≡_ {A = ℕ} 0 1 = cc in omega arith)
 
--- ---- four words, one after the other
+    left : (y z t : Bool) → ((y || false) || ((z && true) && t)) ≡ (y || (z && t))
+    left y z t = ap₂ (λ (a b : Bool). a || (b && t)) (or-false y) (and-true z)
 
-pub record Filling (g : ℕ → Bool) (f : List ℕ) (j : ℕ) : Type 0 where
-  pub within : j ≤ 4
+    at : (k : ℕ) → Dec (k ≡ i) → ((bit k word || (eqb k i && v)) || ((bit k rest && not (eqb k i)) && g k)) ≡ (bit k word || (bit k rest && g k))
+    at k (yes d) = rw (eq-eqb k i d) (taken (bit k word) (bit k rest) v (g k) (ap (λ (j : ℕ). bit j rest) d ∙ o) (e ∙ ap g (sym d)))
+    at k (no n) = rw (ne-eqb k i n) (left (bit k word) (bit k rest) (g k))
+
+-- the next lane to look at
+pub looking-next : (g : ℕ → Bool) (all word rest : ℕ) → Looking g all word rest → (rest ≡ 0 → ⊥) → Lowest 64 rest (trailingZeros 64 rest)
+looking-next g all word rest p n = lowest 64 rest (p .fits) n
+
+pub looking-done : (g : ℕ → Bool) (all word rest : ℕ) → rest ≡ 0 → Looking g all word rest → (k : ℕ) → k < 64 → bit k word ≡ (bit k all && g k)
+looking-done g all word rest e p k h =
+    sym (ap (λ (u : Bool). bit k word || (u && g k)) (ap (bit k) e ∙ bit-none k) ∙ or-false (bit k word)) ∙ p .lanes k h
+
+-- the lanes that stand for valuations below v and were heard
+pub heard-below : (j v letters mask : ℕ) → ((i : ℕ) → i < 64 → bit i mask ≡ ltb (64 * j + i) v) → (i : ℕ) → i < 64 → bit i (bitAnd mask letters) ≡ (ltb (64 * j + i) v && among letters (64 * j + i))
+heard-below j v letters mask f i h = bit-and i mask letters ∙ ap₂ _&&_ (f i h) (heard-lane letters j i h)
+
+-- ---- w words, one after the other
+
+pub record Filling (w : ℕ) (g : ℕ → Bool) (f : List ℕ) (j : ℕ) : Type 0 where
+  pub within : j ≤ w
   pub size : length f ≡ 4
   pub done : (k i : ℕ) → k < j → i < 64 → bit i (getD f k 0) ≡ g (64 * k + i)
 
-pub filling-none : (g : ℕ → Bool) (f : List ℕ) → length f ≡ 4 → Filling g f 0
-filling-none g f l = record { within = omega arith; size = l; done = λ k i h. absurd (omega arith) }
+pub filling-none : (w : ℕ) (g : ℕ → Bool) (f : List ℕ) → length f ≡ 4 → Filling w g f 0
+filling-none w g f l = record { within = omega arith; size = l; done = λ k i h. absurd (omega arith) }
 
-pub filling-more : (g : ℕ → Bool) (f : List ℕ) (j x : ℕ) → j < 4 → Filling g f j → ((i : ℕ) → i < 64 → bit i x ≡ g (64 * j + i)) → Filling g (set f j x) (j + 1)
-filling-more g f j x h p e = record { within = omega arith; size = length-set f j x ∙ p .size; done = λ k i l b. go k i l b (ℕ-discrete k j) }
+pub filling-more : (w : ℕ) (g : ℕ → Bool) (f : List ℕ) (j x : ℕ) → w ≤ 4 → j < w → Filling w g f j → ((i : ℕ) → i < 64 → bit i x ≡ g (64 * j + i)) → Filling w g (set f j x) (j + 1)
+filling-more w g f j x l h p e = record { within = omega arith; size = length-set f j x ∙ p .size; done = λ k i a b. go k i a b (ℕ-discrete k j) }
   where
     go : (k i : ℕ) → k < j + 1 → i < 64 → Dec (k ≡ j) → bit i (getD (set f j x) k 0) ≡ g (64 * k + i)
-    go k i l b (yes d) =
+    go k i a b (yes d) =
         ap (λ (z : ℕ). bit i (getD (set f j x) z 0)) d ∙ ap (bit i) (getD-set-same f j x 0 (omega (arith, p .size))) ∙ e i b ∙ ap (λ (z : ℕ). g (64 * z + i)) (sym d)
-    go k i l b (no d) = ap (bit i) (getD-set-other f j k x 0 (omega arith)) ∙ p .done k i (omega arith) b
+    go k i a b (no d) = ap (bit i) (getD-set-other f j k x 0 (omega arith)) ∙ p .done k i (omega arith) b
 
-pub filling-all : (g : ℕ → Bool) (f : List ℕ) (j : ℕ) → 4 ≤ j → Filling g f j → Words f g
+pub filling-all : (w : ℕ) (g : ℕ → Bool) (f : List ℕ) (j : ℕ) → w ≤ j → Filling w g f j → Words w f g
 unfolding rowBit
-filling-all g f j h p = record { size = p .size; bits = λ b l. at b l }
+filling-all w g f j h p = record { size = p .size; bits = λ b l. at b l }
   where
-    at : (b : ℕ) → b < 256 → bit (b % 64) (getD f (0 + b / 64) 0) ≡ g b
+    at : (b : ℕ) → b < 64 * w → bit (b % 64) (getD f (0 + b / 64) 0) ≡ g b
     at b l =
         let e : 0 + b / 64 ≡ b / 64 = omega arith in
         let q : 64 * (b / 64) + b % 64 ≡ b = omega arith in
@@ -121,15 +180,10 @@ and-comm false true = refl
 and-comm false false = refl
 
 -- a word of the end row
-pub ends-lane : (s : List ℕ) (j v w mask : ℕ) → v ≡ w → ((i : ℕ) → i < 64 → bit i mask ≡ ltb (64 * j + i) v) → (i : ℕ) → i < 64
-    → bit i (bitAnd (getD s (1028 + (1024 + j)) 0) mask) ≡ (ltb (64 * j + i) w && stored s 1028 (64 * j + i) none)
-ends-lane s j v w mask e f i h =
-    bit-and i (getD s (1028 + (1024 + j)) 0) mask ∙ ap₂ _&&_ (lane-end s 1028 j i h) (f i h ∙ ap (ltb (64 * j + i)) e)
-    ∙ and-comm (stored s 1028 (64 * j + i) none) (ltb (64 * j + i) w)
-
-pub firsts-lane : (s : List ℕ) (j v w x : ℕ) → v ≡ w → ((i : ℕ) → i < 64 → bit i x ≡ (ltb (64 * j + i) v && anyNext v (stored s 1028 (64 * j + i))))
-    → (i : ℕ) → i < 64 → bit i x ≡ (ltb (64 * j + i) w && anyNext w (stored s 1028 (64 * j + i)))
-firsts-lane s j v w x e f i h = f i h ∙ ap (λ (z : ℕ). ltb (64 * j + i) z && anyNext z (stored s 1028 (64 * j + i))) e
+pub ends-lane : (s : List ℕ) (j v mask : ℕ) → ((i : ℕ) → i < 64 → bit i mask ≡ ltb (64 * j + i) v) → (i : ℕ) → i < 64
+    → bit i (bitAnd (getD s (1028 + (1024 + j)) 0) mask) ≡ (ltb (64 * j + i) v && stored s 1028 (64 * j + i) none)
+ends-lane s j v mask f i h =
+    bit-and i (getD s (1028 + (1024 + j)) 0) mask ∙ ap₂ _&&_ (lane-end s 1028 j i h) (f i h) ∙ and-comm (stored s 1028 (64 * j + i) none) (ltb (64 * j + i) v)
 
 -- ---- whether some valuation shows a bit, word by word
 
@@ -137,9 +191,9 @@ module _ (f : List ℕ) (q : ℕ) (v : Bool) where
   unfoldable pub shownIn : ℕ → Bool
   shownIn j = anyBelow 64 (λ i. rowBit f 0 (j * 64 + i) && Bool·beq (bit q (j * 64 + i)) v)
 
-  pub shows-words : shows f q v ≡ anyBelow 4 shownIn
+  pub shows-words : (w : ℕ) → shows w f q v ≡ anyBelow w shownIn
   unfolding shows shownIn
-  shows-words = any-groups 4 64 (λ b. rowBit f 0 b && Bool·beq (bit q b) v)
+  shows-words w = let e : 64 * w ≡ w * 64 = omega arith in ap (λ (k : ℕ). anyBelow k (λ b. rowBit f 0 b && Bool·beq (bit q b) v)) e ∙ any-groups w 64 (λ b. rowBit f 0 b && Bool·beq (bit q b) v)
 
   pub shown-word : (j p : ℕ) → getD f j 0 < 2 ^ 64 → p < 2 ^ 64 → ((i : ℕ) → i < 64 → bit i p ≡ Bool·beq (bit q (64 * j + i)) v) → shownIn j ≡ not (eqb (bitAnd (getD f j 0) p) 0)
   unfolding shownIn rowBit
@@ -165,18 +219,18 @@ any-below w n p h =
     ∙ ap₂ _||_ (none-any (n - w) (λ i. ltb (w + i) w && p (w + i)) (λ i l. ap (λ (u : Bool). u && p (w + i)) (le-ltb (w + i) w (omega arith))))
     (any-cong w (λ b. ltb b w && p b) p (λ b l. ap (λ (u : Bool). u && p b) (lt-ltb b w l)))
 
-module _ (f : List ℕ) (w q : ℕ) (P : ℕ → Bool) (hw : w ≤ 256) (words : Words f (λ b. ltb b w && P b)) where
-  shows-is : (v : Bool) → shows f q v ≡ anyBelow w (λ b. P b && Bool·beq (bit q b) v)
+module _ (w : ℕ) (f : List ℕ) (v q : ℕ) (P : ℕ → Bool) (hv : v ≤ 64 * w) (words : Words w f (λ b. ltb b v && P b)) where
+  shows-is : (u : Bool) → shows w f q u ≡ anyBelow v (λ b. P b && Bool·beq (bit q b) u)
   unfolding shows
-  shows-is v =
-      any-cong 256 _ (λ b. ltb b w && (P b && Bool·beq (bit q b) v)) (λ b h. ap (λ (u : Bool). u && Bool·beq (bit q b) v) (words .bits b h) ∙ and-assoc (ltb b w) (P b) (Bool·beq (bit q b) v))
-      ∙ any-below w 256 (λ b. P b && Bool·beq (bit q b) v) hw
+  shows-is u =
+      any-cong (64 * w) _ (λ b. ltb b v && (P b && Bool·beq (bit q b) u)) (λ b h. ap (λ (t : Bool). t && Bool·beq (bit q b) u) (words .bits b h) ∙ and-assoc (ltb b v) (P b) (Bool·beq (bit q b) u))
+      ∙ any-below v (64 * w) (λ b. P b && Bool·beq (bit q b) u) hv
 
-  pub shows-true : shows f q true ≡ anyBelow w (λ b. P b && bit q b)
-  shows-true = shows-is true ∙ any-cong w _ _ (λ b h. ap (λ (u : Bool). P b && u) (sym (beq-true (bit q b))))
+  pub shows-true : shows w f q true ≡ anyBelow v (λ b. P b && bit q b)
+  shows-true = shows-is true ∙ any-cong v _ _ (λ b h. ap (λ (u : Bool). P b && u) (sym (beq-true (bit q b))))
 
-  pub shows-false : shows f q false ≡ anyBelow w (λ b. P b && not (bit q b))
-  shows-false = shows-is false ∙ any-cong w _ _ (λ b h. ap (λ (u : Bool). P b && u) (sym (beq-false (bit q b))))
+  pub shows-false : shows w f q false ≡ anyBelow v (λ b. P b && not (bit q b))
+  shows-false = shows-is false ∙ any-cong v _ _ (λ b h. ap (λ (u : Bool). P b && u) (sym (beq-false (bit q b))))
 
 next-and : (w : ℕ) (f : Option ℕ → Bool) (k : Bool) → (anyNext w f && k) ≡ anyNext w (λ c. f c && k)
 unfolding anyNext
@@ -187,16 +241,33 @@ next-and w f false =
     and-false (f none || anyBelow w (λ b. f (some b)))
     ∙ sym (ap₂ _||_ (and-false (f none)) (none-any w _ (λ b h. and-false (f (some b)))))
 
-pub firsts-verdict : (f : List ℕ) (w q : ℕ) (S : Pairs) → w ≤ 256 → Words f (λ b. ltb b w && anyNext w (S b)) → verdictOf (shows f q true) (shows f q false) ≡ pairsVerdict w S (bit q)
-unfolding pairsVerdict anyPair
-firsts-verdict f w q S hw h =
-    ap₂ verdictOf
-    (shows-true f w q (λ b. anyNext w (S b)) hw h ∙ any-cong w _ _ (λ b l. next-and w (S b) (bit q b)))
-    (shows-false f w q (λ b. anyNext w (S b)) hw h ∙ any-cong w _ _ (λ b l. next-and w (S b) (not (bit q b))))
+-- where only what was heard is a first part, nothing else needs to be looked at
+all-firsts : (w : ℕ) (f : List ℕ) (v : ℕ) (r : ℕ → Bool) (S : Pairs) → Passing v r S → Words w f (λ b. (ltb b v && r b) && anyNext v (S b)) → Words w f (λ b. ltb b v && anyNext v (S b))
+unfolding anyNext
+all-firsts w f v r S p h = record { size = h .size; bits = λ b l. h .bits b l ∙ at b (decLt b v) (r b) refl }
+  where
+    none-at : (b : ℕ) → b < v → r b ≡ false → anyNext v (S b) ≡ false
+    none-at b l e = ap₂ _||_ (p b none l tt e) (none-any v (λ c. S b (some c)) (λ c g. p b (some c) l g e))
 
-pub ends-verdict : (f : List ℕ) (w q : ℕ) (S : Pairs) → w ≤ 256 → Words f (λ b. ltb b w && S b none) → verdictOf (shows f q true) (shows f q false) ≡ endsVerdict w S (bit q)
+    at : (b : ℕ) → Dec (b < v) → (u : Bool) → r b ≡ u → ((ltb b v && r b) && anyNext v (S b)) ≡ (ltb b v && anyNext v (S b))
+    at b (yes l) true e = ap (λ (u : Bool). u && anyNext v (S b)) (ap (λ (u : Bool). ltb b v && u) e ∙ and-true (ltb b v))
+    at b (yes l) false e = ap (λ (u : Bool). (ltb b v && r b) && u) (none-at b l e) ∙ and-false (ltb b v && r b) ∙ sym (ap (λ (u : Bool). ltb b v && u) (none-at b l e) ∙ and-false (ltb b v))
+    at b (no n) u e = let g : v ≤ b = omega arith in rw (le-ltb b v g)
+
+pub firsts-verdict : (w : ℕ) (f : List ℕ) (v v′ q : ℕ) (r : ℕ → Bool) (S : Pairs) → v ≡ v′ → v ≤ 64 * w → Passing v′ r S → Words w f (λ b. (ltb b v && r b) && anyNext v (S b))
+    → verdictOf (shows w f q true) (shows w f q false) ≡ pairsVerdict v′ S (bit q)
+unfolding pairsVerdict anyPair
+firsts-verdict w f v v′ q r S e hv p h =
+    let h′ = all-firsts w f v r S (subst (λ (k : ℕ). Passing k r S) (sym e) p) h in
+    ap₂ verdictOf
+    (shows-true w f v q (λ b. anyNext v (S b)) hv h′ ∙ any-cong v _ _ (λ b l. next-and v (S b) (bit q b)))
+    (shows-false w f v q (λ b. anyNext v (S b)) hv h′ ∙ any-cong v _ _ (λ b l. next-and v (S b) (not (bit q b))))
+    ∙ ap (λ (k : ℕ). pairsVerdict k S (bit q)) e
+
+pub ends-verdict : (w : ℕ) (f : List ℕ) (v v′ q : ℕ) (S : Pairs) → v ≡ v′ → v ≤ 64 * w → Words w f (λ b. ltb b v && S b none) → verdictOf (shows w f q true) (shows w f q false) ≡ endsVerdict v′ S (bit q)
 unfolding endsVerdict
-ends-verdict f w q S hw h = ap₂ verdictOf (shows-true f w q (λ b. S b none) hw h) (shows-false f w q (λ b. S b none) hw h)
+ends-verdict w f v v′ q S e hv h =
+    ap₂ verdictOf (shows-true w f v q (λ b. S b none) hv h) (shows-false w f v q (λ b. S b none) hv h) ∙ ap (λ (k : ℕ). endsVerdict k S (bit q)) e
 
 -- ---- the outputs, one after the other
 

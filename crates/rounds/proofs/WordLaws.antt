@@ -1,30 +1,30 @@
 -- One word of a row. Assumes nothing.
 use mathlib.Core.Path.{_≡_, refl, sym, ap, ap₂, _∙_, subst}
-use mathlib.Core.Bool.{Bool, false, not, _&&_, _||_}
+use mathlib.Core.Bool.{Bool, true, false, not, _&&_, _||_}
 use mathlib.Core.List.{List}
 use mathlib.Core.Option.{Option, none, some}
 use Prim.Native.Nat.{ℕ, _+_, _-_, _*_, _/_, _%_, _^_, _≤_, _<_}
 use native.Mathlib.Omega.{arith}
 use native.Mathlib.Decide.{ℕ-discrete, decLt}
 use borrow.Author.Tests.{eq-eqb, ne-eqb, lt-ltb, le-ltb}
-use lib.Bits.{bitAnd}
+use lib.Bits.{bitAnd, bitOr}
 use lib.Dec.{eqb, ltb}
 use lib.ListN.{getD}
 use lib.Pow.{pow-pos}
 use Rattle.words.specs.Bits.{bit}
 use Rattle.words.specs.Below.{anyBelow}
-use Rattle.words.proofs.BitLaws.{bit-and, bit-not, bit-none, bit-all, bit-high}
-use Rattle.words.proofs.AnyLaws.{any-one}
+use Rattle.words.proofs.BitLaws.{bit-and, bit-or, bit-not, bit-none, bit-all, bit-high}
+use Rattle.words.proofs.AnyLaws.{any-one, any-none}
 use Rattle.sheet.specs.RuleSheet.{RuleSheet}
 use Rattle.lola.specs.Equations.{holds}
 use Rattle.completions.specs.Live.{Pairs}
 use Rattle.completions.specs.Steps.{Within}
 use Rattle.pairs.specs.Storage.{stored}
 use Rattle.pairs.specs.Changes.{inWord, Adds}
-use Rattle.pairs.proofs.Bools.{and-false, or-false, or-comm, nothing-new}
+use Rattle.pairs.proofs.Bools.{and-true, and-false, or-false, or-comm, nothing-new}
 use Rattle.pairs.proofs.Sets.{adds-none, adds-as, adds-then, adds-before, lane}
-use Rattle.rounds.specs.Rows.{cut, gains, grouped}
-use Rattle.rounds.proofs.Bools.{turn, merge-under, words-one, below-none}
+use Rattle.rounds.specs.Rows.{among, cut, gains, NoneNew, heardIn, grouped}
+use Rattle.rounds.proofs.Bools.{turn, merge-under, words-one}
 
 -- ---- the lanes below a number
 
@@ -43,131 +43,235 @@ lanes-some i v j h = go (decLt i (v - 64 * j))
         bit-high (v - 64 * j) i (2 ^ (v - 64 * j) - 1) (let p : 0 < 2 ^ (v - 64 * j) = pow-pos (v - 64 * j) in omega arith) (omega arith)
         ∙ sym (le-ltb (64 * j + i) v (omega arith))
 
+-- ---- the lanes of a row, its words joined
+
+or-two : (u v : Bool) → (u || v) ≡ (v || (u || false))
+or-two u v = or-comm u v ∙ ap (λ (z : Bool). v || z) (sym (or-false u))
+
+or-four : (u v y z : Bool) → (((u || v) || y) || z) ≡ (z || (y || (v || (u || false))))
+or-four u v y z = or-comm ((u || v) || y) z ∙ ap (λ (q : Bool). z || q) (or-comm (u || v) y ∙ ap (λ (q : Bool). y || q) (or-two u v))
+
+module _ (s : List ℕ) (base a i : ℕ) (h : i < 64) where
+  abbrev has : ℕ → Bool
+  has j = stored s base a (some (64 * j + i))
+
+  pub lane-at : (k j : ℕ) → k ≡ base + (4 * a + j) → bit i (getD s k 0) ≡ has j
+  lane-at k j e = ap (λ (z : ℕ). bit i (getD s z 0)) e ∙ lane s base a j i h
+
+  pub row-one : (w : ℕ) → w ≡ 1 → bit i (getD s (base + 4 * a) 0) ≡ anyBelow w has
+  unfolding anyBelow
+  row-one w e = rw e (lane-at (base + 4 * a) 0 (omega arith) ∙ sym (or-false (has 0)))
+
+  two-words : bit i (bitOr (getD s (base + 4 * a) 0) (getD s (base + 4 * a + 1) 0)) ≡ (has 0 || has 1)
+  two-words =
+      bit-or i (getD s (base + 4 * a) 0) (getD s (base + 4 * a + 1) 0)
+      ∙ ap₂ _||_ (lane-at (base + 4 * a) 0 (omega arith)) (lane-at (base + 4 * a + 1) 1 (omega arith))
+
+  pub row-two : (w : ℕ) → w ≡ 2 → bit i (bitOr (getD s (base + 4 * a) 0) (getD s (base + 4 * a + 1) 0)) ≡ anyBelow w has
+  unfolding anyBelow
+  row-two w e = rw e (two-words ∙ or-two (has 0) (has 1))
+
+  pub row-four : (w : ℕ) → w ≡ 4
+      → bit i (bitOr (bitOr (bitOr (getD s (base + 4 * a) 0) (getD s (base + 4 * a + 1) 0)) (getD s (base + 4 * a + 2) 0)) (getD s (base + 4 * a + 3) 0)) ≡ anyBelow w has
+  unfolding anyBelow
+  row-four w e =
+      rw e
+      (bit-or i (bitOr (bitOr (getD s (base + 4 * a) 0) (getD s (base + 4 * a + 1) 0)) (getD s (base + 4 * a + 2) 0)) (getD s (base + 4 * a + 3) 0)
+      ∙ ap₂ _||_
+      (bit-or i (bitOr (getD s (base + 4 * a) 0) (getD s (base + 4 * a + 1) 0)) (getD s (base + 4 * a + 2) 0)
+      ∙ ap₂ _||_ two-words (lane-at (base + 4 * a + 2) 2 (omega arith)))
+      (lane-at (base + 4 * a + 3) 3 (omega arith))
+      ∙ or-four (has 0) (has 1) (has 2) (has 3))
+
+-- a lane was heard just where its valuations were
+pub heard-lane : (letters j i : ℕ) → i < 64 → bit i letters ≡ among letters (64 * j + i)
+unfolding among
+heard-lane letters j i h = let e : i ≡ (64 * j + i) % 64 = omega arith in ap (λ (k : ℕ). bit k letters) e
+
 -- ---- a word of the reached set
 
-module _ (x : RuleSheet) (s : List ℕ) (b j v mask : ℕ) (p : Option ℕ) (masks : (i : ℕ) → i < 64 → bit i mask ≡ ltb (64 * j + i) v) where
-  abbrev Word : Pairs
-  Word = gains x (λ a. eqb a b) (cut (λ c. eqb (c / 64) j && ltb c v)) (stored s 0) p
+-- the live valuations below v of word j of row b, as the lanes of a word
+abbrev pub LiveLanes : List ℕ → ℕ → ℕ → ℕ → ℕ → Type 0
+LiveLanes s b j v live = (i : ℕ) → i < 64 → bit i live ≡ (stored s 0 b (some (64 * j + i)) && ltb (64 * j + i) v)
 
-  live-lane : (c : ℕ) → c / 64 ≡ j → bit (c % 64) (bitAnd (getD s (4 * b + j) 0) mask) ≡ (stored s 0 b (some c) && ltb c v)
-  live-lane c e =
+-- the first word, cut
+pub live-masked : (s : List ℕ) (b v mask : ℕ) → ((i : ℕ) → i < 64 → bit i mask ≡ ltb (64 * 0 + i) v) → LiveLanes s b 0 v (bitAnd (getD s (4 * b) 0) mask)
+live-masked s b v mask f i h = bit-and i (getD s (4 * b) 0) mask ∙ ap₂ _&&_ (lane-at s 0 b i h (4 * b) 0 (omega arith)) (f i h)
+
+-- a word among those that are full
+pub live-whole : (s : List ℕ) (b j w : ℕ) → j < w → LiveLanes s b j (64 * w) (getD s (4 * b + j) 0)
+live-whole s b j w l i h =
+    lane-at s 0 b i h (4 * b + j) j (omega arith)
+    ∙ sym (ap (λ (u : Bool). stored s 0 b (some (64 * j + i)) && u) (lt-ltb (64 * j + i) (64 * w) (omega arith)) ∙ and-true (stored s 0 b (some (64 * j + i))))
+
+module _ (s : List ℕ) (b j v live : ℕ) (lanes : LiveLanes s b j v live) where
+  live-lane : (c : ℕ) → c / 64 ≡ j → bit (c % 64) live ≡ (stored s 0 b (some c) && ltb c v)
+  live-lane c e = let q : 64 * j + c % 64 ≡ c = omega arith in lanes (c % 64) (omega arith) ∙ ap (λ (k : ℕ). stored s 0 b (some k) && ltb k v) q
+
+  -- a word with nothing live that the reached set lacks
+  pub nothing-lacks : (k : ℕ) → k ≡ 1028 + (4 * b + j) → getD s k 0 < 2 ^ 64 → bitAnd live (18446744073709551615 - getD s k 0) ≡ 0
+      → (c : ℕ) → c / 64 ≡ j → c < v → (stored s 0 b (some c) && not (stored s 1028 b (some c))) ≡ false
+  nothing-lacks k at fit e c d l =
       let q : 64 * j + c % 64 ≡ c = omega arith in
-      let z : 4 * b + j ≡ 0 + (4 * b + j) = omega arith in
-      bit-and (c % 64) (getD s (4 * b + j) 0) mask
-      ∙ ap₂ _&&_ (ap (λ (k : ℕ). bit (c % 64) (getD s k 0)) z ∙ lane s 0 b j (c % 64) (omega arith) ∙ ap (λ (k : ℕ). stored s 0 b (some k)) q)
-      (masks (c % 64) (omega arith) ∙ ap (λ (k : ℕ). ltb k v) q)
+      let h : c % 64 < 64 = omega arith in
+      sym (ap₂ _&&_
+      (live-lane c d ∙ ap (λ (u : Bool). stored s 0 b (some c) && u) (lt-ltb c v l) ∙ and-true (stored s 0 b (some c)))
+      (bit-not 64 (c % 64) (getD s k 0) h fit ∙ ap not (lane-at s 1028 b (c % 64) h k j at ∙ ap (λ (i : ℕ). stored s 1028 b (some i)) q)))
+      ∙ sym (bit-and (c % 64) live (18446744073709551615 - getD s k 0))
+      ∙ ap (bit (c % 64)) e ∙ bit-none (c % 64)
 
-  pub word-gained : (t : List ℕ) (y : ℕ) → ((i : ℕ) → i < 64 → bit i y ≡ holds x p b (some (64 * j + i)))
-      → Adds 1028 s t (λ a c. eqb a b && inWord j (bitAnd (bitAnd (getD s (4 * b + j) 0) mask) y) c) → Adds 1028 s t Word
-  unfolding gains inWord
-  word-gained t y f a =
-      adds-as 1028 s t (λ a c. eqb a b && inWord j (bitAnd (bitAnd (getD s (4 * b + j) 0) mask) y) c) Word a (λ k c hk hc. ap (λ (u : Bool). stored s 1028 k c || u) (go k c))
+  module _ (x : RuleSheet) (p : Option ℕ) where
+    abbrev Word : Pairs
+    Word = gains x (λ a. eqb a b) (cut (λ c. eqb (c / 64) j && ltb c v)) (stored s 0) p
+
+    pub word-gained : (t : List ℕ) (y : ℕ) → ((i : ℕ) → i < 64 → bit i y ≡ holds x p b (some (64 * j + i))) → Adds 1028 s t (λ a c. eqb a b && inWord j (bitAnd live y) c) → Adds 1028 s t Word
+    unfolding gains inWord
+    word-gained t y f a = adds-as 1028 s t (λ a c. eqb a b && inWord j (bitAnd live y) c) Word a (λ k c hk hc. ap (λ (u : Bool). stored s 1028 k c || u) (go k c))
+      where
+        z : ℕ
+        z = bitAnd live y
+
+        core : (k c : ℕ) → k ≡ b → c / 64 ≡ j → bit (c % 64) z ≡ (ltb c v && (stored s 0 k (some c) && holds x p k (some c)))
+        core k c d e =
+            let q : 64 * j + c % 64 ≡ c = omega arith in
+            bit-and (c % 64) live y
+            ∙ ap₂ _&&_ (live-lane c e) (f (c % 64) (omega arith) ∙ ap (λ (i : ℕ). holds x p b (some i)) q)
+            ∙ turn (stored s 0 b (some c)) (ltb c v) (holds x p b (some c))
+            ∙ ap (λ (i : ℕ). ltb c v && (stored s 0 i (some c) && holds x p i (some c))) (sym d)
+
+        at : (k c : ℕ) → Dec (k ≡ b) → Dec (c / 64 ≡ j)
+            → (eqb k b && (eqb (c / 64) j && bit (c % 64) z)) ≡ (eqb k b && ((eqb (c / 64) j && ltb c v) && (stored s 0 k (some c) && holds x p k (some c))))
+        at k c (yes d) (yes e) = rw (eq-eqb k b d, eq-eqb (c / 64) j e) (core k c d e)
+        at k c (yes d) (no e) = rw (ne-eqb (c / 64) j e)
+        at k c (no d) e = rw (ne-eqb k b d)
+
+        go : (k : ℕ) (c : Option ℕ) → (eqb k b && inWord j z c) ≡ Word k c
+        go k none = refl
+        go k (some c) = at k c (ℕ-discrete k b) (ℕ-discrete (c / 64) j)
+
+-- one word more
+pub none-new-more : (s : List ℕ) (b j w : ℕ) → j < w → NoneNew (stored s 0) (stored s 1028) (64 * j) b → getD s (1028 + (4 * b + j)) 0 < 2 ^ 64
+    → bitAnd (getD s (4 * b + j) 0) (18446744073709551615 - getD s (1028 + (4 * b + j)) 0) ≡ 0 → NoneNew (stored s 0) (stored s 1028) (64 * (j + 1)) b
+none-new-more s b j w l f fit e c h = go (decLt c (64 * j))
+  where
+    go : Dec (c < 64 * j) → (stored s 0 b (some c) && not (stored s 1028 b (some c))) ≡ false
+    go (yes d) = f c d
+    go (no d) = nothing-lacks s b j (64 * w) (getD s (4 * b + j) 0) (live-whole s b j w l) (1028 + (4 * b + j)) refl fit e c (omega arith) (omega arith)
+
+-- the lanes of the first word
+pub first-lanes : (x : RuleSheet) (p : Option ℕ) (b y : ℕ) → ((i : ℕ) → i < 64 → bit i y ≡ holds x p b (some i)) → (i : ℕ) → i < 64 → bit i y ≡ holds x p b (some (64 * 0 + i))
+first-lanes x p b y f i h = let e : i ≡ 64 * 0 + i = omega arith in f i h ∙ ap (λ (k : ℕ). holds x p b (some k)) e
+
+-- a row with nothing live below v that the reached set lacks
+pub row-full : (x : RuleSheet) (s : List ℕ) (b v : ℕ) (p : Option ℕ) → NoneNew (stored s 0) (stored s 1028) v b
+    → Adds 1028 s s (gains x (λ a. eqb a b) (cut (λ c. ltb c v)) (stored s 0) p)
+unfolding gains
+row-full x s b v p f =
+    adds-as 1028 s s (λ a c. false) (gains x (λ a. eqb a b) (cut (λ c. ltb c v)) (stored s 0) p) (adds-none 1028 s (λ a c. false) (λ a c. refl))
+    (λ k c hk hc. or-false (stored s 1028 k c) ∙ go k c)
+  where
+    at : (k c : ℕ) → Dec (k ≡ b) → Dec (c < v) → stored s 1028 k (some c) ≡ (stored s 1028 k (some c) || (eqb k b && (ltb c v && (stored s 0 k (some c) && holds x p k (some c)))))
+    at k c (yes d) (yes l) =
+        rw (eq-eqb k b d, lt-ltb c v l)
+        (nothing-new (stored s 1028 k (some c)) (stored s 0 k (some c)) (holds x p k (some c)) (ap (λ (i : ℕ). stored s 0 i (some c) && not (stored s 1028 i (some c))) d ∙ f c l))
+    at k c (yes d) (no n) =
+        let l : v ≤ c = omega arith in
+        rw (le-ltb c v l) (sym (ap (λ (u : Bool). stored s 1028 k (some c) || u) (and-false (eqb k b)) ∙ or-false (stored s 1028 k (some c))))
+    at k c (no d) l = rw (ne-eqb k b d) (sym (or-false (stored s 1028 k (some c))))
+
+    go : (k : ℕ) (c : Option ℕ) → stored s 1028 k c ≡ (stored s 1028 k c || gains x (λ a. eqb a b) (cut (λ c. ltb c v)) (stored s 0) p k c)
+    go k none = sym (ap (λ (u : Bool). stored s 1028 k none || u) (and-false (eqb k b)) ∙ or-false (stored s 1028 k none))
+    go k (some c) = at k c (ℕ-discrete k b) (decLt c v)
+
+-- ---- what was heard of a row of the reached set joins a row of the scratch set
+
+abbrev pub Joined : List ℕ → ℕ → ℕ → ℕ → ℕ → Pairs
+Joined s letters a g w k c = eqb k g && heardIn (stored s 1028) (among letters) w a c
+
+module _ (s : List ℕ) (letters a g : ℕ) (ha : a < 256) where
+  -- a row of which nothing was heard
+  pub joined-unheard : (w : ℕ) → ((c : ℕ) → c < w → (stored s 1028 a (some c) && among letters c) ≡ false) → Adds 2056 s s (Joined s letters a g w)
+  joined-unheard w f = adds-none 2056 s (Joined s letters a g w) (λ k c. go k c)
     where
-      z : ℕ
-      z = bitAnd (bitAnd (getD s (4 * b + j) 0) mask) y
+      at : (c : ℕ) → Dec (c < w) → (ltb c w && (stored s 1028 a (some c) && among letters c)) ≡ false
+      at c (yes h) = ap (λ (u : Bool). ltb c w && u) (f c h) ∙ and-false (ltb c w)
+      at c (no n) = ap (λ (u : Bool). u && (stored s 1028 a (some c) && among letters c)) (le-ltb c w (omega arith))
 
-      core : (k c : ℕ) → k ≡ b → c / 64 ≡ j → bit (c % 64) z ≡ (ltb c v && (stored s 0 k (some c) && holds x p k (some c)))
-      core k c d e =
-          let q : 64 * j + c % 64 ≡ c = omega arith in
-          bit-and (c % 64) (bitAnd (getD s (4 * b + j) 0) mask) y
-          ∙ ap₂ _&&_ (live-lane c e) (f (c % 64) (omega arith) ∙ ap (λ (i : ℕ). holds x p b (some i)) q)
-          ∙ turn (stored s 0 b (some c)) (ltb c v) (holds x p b (some c))
-          ∙ ap (λ (i : ℕ). ltb c v && (stored s 0 i (some c) && holds x p i (some c))) (sym d)
-
-      at : (k c : ℕ) → Dec (k ≡ b) → Dec (c / 64 ≡ j) → (eqb k b && (eqb (c / 64) j && bit (c % 64) z)) ≡ (eqb k b && ((eqb (c / 64) j && ltb c v) && (stored s 0 k (some c) && holds x p k (some c))))
-      at k c (yes d) (yes e) = rw (eq-eqb k b d, eq-eqb (c / 64) j e) (core k c d e)
-      at k c (yes d) (no e) = rw (ne-eqb (c / 64) j e)
-      at k c (no d) e = rw (ne-eqb k b d)
-
-      go : (k : ℕ) (c : Option ℕ) → (eqb k b && inWord j z c) ≡ Word k c
-      go k none = refl
-      go k (some c) = at k c (ℕ-discrete k b) (ℕ-discrete (c / 64) j)
-
-  -- nothing is live that the reached set lacks
-  pub word-full : getD s (1028 + (4 * b + j)) 0 < 2 ^ 64 → bitAnd (bitAnd (getD s (4 * b + j) 0) mask) (18446744073709551615 - getD s (1028 + (4 * b + j)) 0) ≡ 0 → Adds 1028 s s Word
-  unfolding gains
-  word-full h e = adds-as 1028 s s (λ a c. false) Word (adds-none 1028 s (λ a c. false) (λ a c. refl)) (λ k c hk hc. or-false (stored s 1028 k c) ∙ go k c)
-    where
-      old : ℕ
-      old = getD s (1028 + (4 * b + j)) 0
-
-      new : (k c : ℕ) → k ≡ b → c / 64 ≡ j → ((stored s 0 k (some c) && ltb c v) && not (stored s 1028 k (some c))) ≡ false
-      new k c d q =
-          let w : 64 * j + c % 64 ≡ c = omega arith in
-          ap (λ (i : ℕ). (stored s 0 i (some c) && ltb c v) && not (stored s 1028 i (some c))) d
-          ∙ sym (ap₂ _&&_ (live-lane c q) (bit-not 64 (c % 64) old (omega arith) h ∙ ap not (lane s 1028 b j (c % 64) (omega arith) ∙ ap (λ (i : ℕ). stored s 1028 b (some i)) w)))
-          ∙ sym (bit-and (c % 64) (bitAnd (getD s (4 * b + j) 0) mask) (18446744073709551615 - old))
-          ∙ ap (bit (c % 64)) e ∙ bit-none (c % 64)
-
-      at : (k c : ℕ) → Dec (k ≡ b) → Dec (c / 64 ≡ j) → stored s 1028 k (some c) ≡ (stored s 1028 k (some c) || (eqb k b && ((eqb (c / 64) j && ltb c v) && (stored s 0 k (some c) && holds x p k (some c)))))
-      at k c (yes d) (yes q) =
-          rw (eq-eqb k b d, eq-eqb (c / 64) j q)
-          (nothing-new (stored s 1028 k (some c)) (stored s 0 k (some c) && ltb c v) (holds x p k (some c)) (new k c d q)
-          ∙ ap (λ (u : Bool). stored s 1028 k (some c) || u) (turn (stored s 0 k (some c)) (ltb c v) (holds x p k (some c))))
-      at k c (yes d) (no q) = rw (ne-eqb (c / 64) j q) (sym (ap (λ (u : Bool). stored s 1028 k (some c) || u) (and-false (eqb k b)) ∙ or-false (stored s 1028 k (some c))))
-      at k c (no d) q = rw (ne-eqb k b d) (sym (or-false (stored s 1028 k (some c))))
-
-      go : (k : ℕ) (c : Option ℕ) → stored s 1028 k c ≡ (stored s 1028 k c || Word k c)
-      go k none = sym (ap (λ (u : Bool). stored s 1028 k none || u) (and-false (eqb k b)) ∙ or-false (stored s 1028 k none))
-      go k (some c) = at k c (ℕ-discrete k b) (ℕ-discrete (c / 64) j)
-
--- ---- a row of the reached set joins a row of the scratch set
-
-abbrev pub Joined : List ℕ → ℕ → ℕ → ℕ → Pairs
-Joined s a g w k c = eqb k g && cut (λ b. ltb b w && stored s 1028 a (some b)) c
-
-module _ (s : List ℕ) (a g : ℕ) (ha : a < 256) where
-  pub joined-none : Adds 2056 s s (Joined s a g (64 * 0))
-  joined-none = adds-none 2056 s (Joined s a g (64 * 0)) (λ k c. go k c)
-    where
-      go : (k : ℕ) (c : Option ℕ) → Joined s a g (64 * 0) k c ≡ false
+      go : (k : ℕ) (c : Option ℕ) → Joined s letters a g w k c ≡ false
       go k none = and-false (eqb k g)
-      go k (some c) = ap (λ (u : Bool). eqb k g && u) (below-none c (stored s 1028 a (some c))) ∙ and-false (eqb k g)
+      go k (some c) = ap (λ (u : Bool). eqb k g && u) (at c (decLt c w)) ∙ and-false (eqb k g)
 
-  pub joined-more : (t u : List ℕ) (j : ℕ) → j < 4 → Adds 2056 s t (Joined s a g (64 * j)) → Adds 2056 t u (λ k c. eqb k g && inWord j (getD t (1028 + (4 * a + j)) 0) c) → Adds 2056 s u (Joined s a g (64 * (j + 1)))
+  pub unheard-row : (w x : ℕ) → ((i : ℕ) → i < 64 → bit i x ≡ anyBelow w (λ j. stored s 1028 a (some (64 * j + i)))) → bitAnd x letters ≡ 0 → Adds 2056 s s (Joined s letters a g (64 * w))
+  unheard-row w x f e = joined-unheard (64 * w) (λ c h. at c h (among letters c) refl)
+    where
+      first : (u v : Bool) → (u && v) ≡ false → v ≡ true → u ≡ false
+      first true v p q = sym q ∙ p
+      first false v p q = refl
+
+      at : (c : ℕ) → c < 64 * w → (u : Bool) → among letters c ≡ u → (stored s 1028 a (some c) && among letters c) ≡ false
+      at c h false q = ap (λ (u : Bool). stored s 1028 a (some c) && u) q ∙ and-false (stored s 1028 a (some c))
+      at c h true q =
+          let k : 64 * (c / 64) + c % 64 ≡ c = omega arith in
+          let l : c % 64 < 64 = omega arith in
+          let z : bit (c % 64) x ≡ false = first (bit (c % 64) x) (bit (c % 64) letters) (sym (bit-and (c % 64) x letters) ∙ ap (bit (c % 64)) e ∙ bit-none (c % 64))
+          (heard-lane letters (c / 64) (c % 64) l ∙ ap (among letters) k ∙ q) in
+          ap (λ (u : Bool). u && among letters c)
+          (ap (λ (i : ℕ). stored s 1028 a (some i)) (sym k) ∙ any-none w (λ j. stored s 1028 a (some (64 * j + c % 64))) (sym (f (c % 64) l) ∙ z) (c / 64) (omega arith))
+
+  pub joined-none : Adds 2056 s s (Joined s letters a g (64 * 0))
+  joined-none = joined-unheard (64 * 0) (λ c h. absurd (omega arith))
+
+  pub joined-more : (t u : List ℕ) (j : ℕ) → j < 4 → Adds 2056 s t (Joined s letters a g (64 * j))
+      → Adds 2056 t u (λ k c. eqb k g && inWord j (bitAnd (getD t (1028 + (4 * a + j)) 0) letters) c) → Adds 2056 s u (Joined s letters a g (64 * (j + 1)))
   unfolding inWord
   joined-more t u j hj f q =
-      adds-then 2056 s t u (Joined s a g (64 * j)) (λ k c. eqb k g && inWord j (getD t (1028 + (4 * a + j)) 0) c) (Joined s a g (64 * (j + 1))) f q (λ k c hk hc. go k c hc)
+      adds-then 2056 s t u (Joined s letters a g (64 * j)) (λ k c. eqb k g && inWord j x c) (Joined s letters a g (64 * (j + 1))) f q (λ k c hk hc. go k c hc)
     where
-      word : (c : ℕ) → c < 256 → (eqb (c / 64) j && bit (c % 64) (getD t (1028 + (4 * a + j)) 0)) ≡ (eqb (c / 64) j && stored s 1028 a (some c))
-      word c hc = at (ℕ-discrete (c / 64) j)
-        where
-          at : Dec (c / 64 ≡ j) → (eqb (c / 64) j && bit (c % 64) (getD t (1028 + (4 * a + j)) 0)) ≡ (eqb (c / 64) j && stored s 1028 a (some c))
-          at (yes e) =
-              let w : 64 * j + c % 64 ≡ c = omega arith in
-              ap (λ (b : Bool). eqb (c / 64) j && b)
-              (lane t 1028 a j (c % 64) (omega arith) ∙ ap (λ (i : ℕ). stored t 1028 a (some i)) w ∙ adds-before 2056 s t (Joined s a g (64 * j)) f 1028 a (some c) ha hc (omega arith))
-          at (no e) = rw (ne-eqb (c / 64) j e)
+      x : ℕ
+      x = bitAnd (getD t (1028 + (4 * a + j)) 0) letters
 
-      go : (k : ℕ) (c : Option ℕ) → Within 256 c → (Joined s a g (64 * j) k c || (eqb k g && inWord j (getD t (1028 + (4 * a + j)) 0) c)) ≡ Joined s a g (64 * (j + 1)) k c
+      word : (c : ℕ) → c < 256 → Dec (c / 64 ≡ j) → (eqb (c / 64) j && bit (c % 64) x) ≡ (eqb (c / 64) j && (stored s 1028 a (some c) && among letters c))
+      word c hc (yes e) =
+          let w : 64 * j + c % 64 ≡ c = omega arith in
+          let l : c % 64 < 64 = omega arith in
+          ap (λ (b : Bool). eqb (c / 64) j && b)
+          (bit-and (c % 64) (getD t (1028 + (4 * a + j)) 0) letters
+          ∙ ap₂ _&&_ (lane t 1028 a j (c % 64) l ∙ ap (λ (i : ℕ). stored t 1028 a (some i)) w ∙ adds-before 2056 s t (Joined s letters a g (64 * j)) f 1028 a (some c) ha hc (omega arith))
+          (heard-lane letters j (c % 64) l ∙ ap (among letters) w))
+      word c hc (no e) = rw (ne-eqb (c / 64) j e)
+
+      go : (k : ℕ) (c : Option ℕ) → Within 256 c → (Joined s letters a g (64 * j) k c || (eqb k g && inWord j x c)) ≡ Joined s letters a g (64 * (j + 1)) k c
       go k none hc = ap (λ (b : Bool). (eqb k g && false) || b) (and-false (eqb k g)) ∙ or-false (eqb k g && false)
       go k (some c) hc =
-          ap (λ (b : Bool). (eqb k g && (ltb c (64 * j) && stored s 1028 a (some c))) || (eqb k g && b)) (word c hc)
-          ∙ merge-under (eqb k g) (ltb c (64 * j)) (eqb (c / 64) j) (ltb c (64 * (j + 1))) (stored s 1028 a (some c)) (words-one c j)
+          ap (λ (b : Bool). (eqb k g && (ltb c (64 * j) && (stored s 1028 a (some c) && among letters c))) || (eqb k g && b)) (word c hc (ℕ-discrete (c / 64) j))
+          ∙ merge-under (eqb k g) (ltb c (64 * j)) (eqb (c / 64) j) (ltb c (64 * (j + 1))) (stored s 1028 a (some c) && among letters c) (words-one c j)
 
-  pub joined-all : (t : List ℕ) (j w : ℕ) → j ≤ w → w ≤ j → Adds 2056 s t (Joined s a g (64 * j)) → Adds 2056 s t (Joined s a g (64 * w))
-  joined-all t j w h l f = let e : j ≡ w = omega arith in subst (λ (k : ℕ). Adds 2056 s t (Joined s a g (64 * k))) e f
+  pub joined-all : (t : List ℕ) (j w : ℕ) → j ≤ w → w ≤ j → Adds 2056 s t (Joined s letters a g (64 * j)) → Adds 2056 s t (Joined s letters a g (64 * w))
+  joined-all t j w h l f = let e : j ≡ w = omega arith in subst (λ (k : ℕ). Adds 2056 s t (Joined s letters a g (64 * k))) e f
 
 -- ---- all rows
 
-pub grouped-none : (s : List ℕ) (S : Pairs) (mask w : ℕ) → Adds 2056 s s (grouped S mask w 0)
+pub grouped-none : (s : List ℕ) (S : Pairs) (r : ℕ → Bool) (mask w : ℕ) → Adds 2056 s s (grouped S r mask w 0)
 unfolding grouped anyBelow
-grouped-none s S mask w = adds-none 2056 s (grouped S mask w 0) (λ k c. refl)
+grouped-none s S r mask w = adds-none 2056 s (grouped S r mask w 0) (λ k c. refl)
 
-pub grouped-more : (s t u : List ℕ) (mask w a : ℕ) → a < 256 → Adds 2056 s t (grouped (stored s 1028) mask w a) → Adds 2056 t u (Joined t a (bitAnd a mask) w)
-    → Adds 2056 s u (grouped (stored s 1028) mask w (a + 1))
+pub grouped-more : (s t u : List ℕ) (letters mask w a : ℕ) → a < 256 → Adds 2056 s t (grouped (stored s 1028) (among letters) mask w a) → Adds 2056 t u (Joined t letters a (bitAnd a mask) w)
+    → Adds 2056 s u (grouped (stored s 1028) (among letters) mask w (a + 1))
 unfolding grouped
-grouped-more s t u mask w a ha f q =
-    adds-then 2056 s t u (grouped (stored s 1028) mask w a) (Joined t a (bitAnd a mask) w) (grouped (stored s 1028) mask w (a + 1)) f q
+grouped-more s t u letters mask w a ha f q =
+    adds-then 2056 s t u (grouped (stored s 1028) r mask w a) (Joined t letters a (bitAnd a mask) w) (grouped (stored s 1028) r mask w (a + 1)) f q
     (λ k c hk hc.
-    or-comm (grouped (stored s 1028) mask w a k c) _
-    ∙ ap (λ (v : Bool). v || grouped (stored s 1028) mask w a k c) (go k c hc)
-    ∙ sym (any-one a (λ a. eqb k (bitAnd a mask) && cut (λ b. ltb b w && stored s 1028 a (some b)) c)))
+    or-comm (grouped (stored s 1028) r mask w a k c) _
+    ∙ ap (λ (v : Bool). v || grouped (stored s 1028) r mask w a k c) (go k c hc)
+    ∙ sym (any-one a (λ a. eqb k (bitAnd a mask) && heardIn (stored s 1028) r w a c)))
   where
-    go : (k : ℕ) (c : Option ℕ) → Within 256 c → Joined t a (bitAnd a mask) w k c ≡ (eqb k (bitAnd a mask) && cut (λ b. ltb b w && stored s 1028 a (some b)) c)
+    r : ℕ → Bool
+    r = among letters
+
+    go : (k : ℕ) (c : Option ℕ) → Within 256 c → Joined t letters a (bitAnd a mask) w k c ≡ (eqb k (bitAnd a mask) && heardIn (stored s 1028) r w a c)
     go k none hc = refl
     go k (some c) hc =
-        ap (λ (v : Bool). eqb k (bitAnd a mask) && (ltb c w && v)) (adds-before 2056 s t (grouped (stored s 1028) mask w a) f 1028 a (some c) ha hc (omega arith))
+        ap (λ (v : Bool). eqb k (bitAnd a mask) && (ltb c w && (v && among letters c))) (adds-before 2056 s t (grouped (stored s 1028) r mask w a) f 1028 a (some c) ha hc (omega arith))
 
-pub grouped-all : (s t : List ℕ) (S : Pairs) (mask w a v : ℕ) → a ≤ v → v ≤ a → Adds 2056 s t (grouped S mask w a) → Adds 2056 s t (grouped S mask w v)
-grouped-all s t S mask w a v h l f = let e : a ≡ v = omega arith in subst (λ (k : ℕ). Adds 2056 s t (grouped S mask w k)) e f
+pub grouped-all : (s t : List ℕ) (S : Pairs) (r : ℕ → Bool) (mask w a v : ℕ) → a ≤ v → v ≤ a → Adds 2056 s t (grouped S r mask w a) → Adds 2056 s t (grouped S r mask w v)
+grouped-all s t S r mask w a v h l f = let e : a ≡ v = omega arith in subst (λ (k : ℕ). Adds 2056 s t (grouped S r mask w k)) e f

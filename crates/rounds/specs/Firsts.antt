@@ -1,23 +1,30 @@
--- For the contracts of private functions: valuations as the bits of four words, and the verdicts read off them.
+-- For the contracts of private functions: valuations as the bits of words, and the verdicts read off them.
 use mathlib.Core.Path.{_≡_}
-use mathlib.Core.Bool.{Bool, _&&_, Bool·beq}
+use mathlib.Core.Bool.{Bool, false, _&&_, Bool·beq}
 use mathlib.Core.List.{List}
-use Prim.Native.Nat.{ℕ, _<_, _≤_}
+use mathlib.Core.Option.{Option}
+use Prim.Native.Nat.{ℕ, _*_, _<_, _≤_}
 use lib.ListN.{length, getD}
 use Rattle.words.specs.Bits.{bit}
 use Rattle.words.specs.Below.{anyBelow}
 use Rattle.refusal.specs.declared.Verdict.{Verdict}
 use Rattle.refusal.specs.Numbers.{verdictNo}
+use Rattle.completions.specs.Live.{Pairs}
+use Rattle.completions.specs.Steps.{Within}
 use Rattle.pairs.specs.Changes.{rowBit}
 
--- the four words have the valuations that pass the test
-pub record Words (f : List ℕ) (g : ℕ → Bool) : Type 0 where
-  pub size : length f ≡ 4
-  pub bits : (b : ℕ) → b < 256 → rowBit f 0 b ≡ g b
+-- every pair of S among the valuations below w has a first part that passes the test
+abbrev pub Passing : ℕ → (ℕ → Bool) → Pairs → Type 0
+Passing w r S = (b : ℕ) (c : Option ℕ) → b < w → Within w c → r b ≡ false → S b c ≡ false
 
--- some valuation of the words has v in stream q
-unfoldable pub shows : List ℕ → ℕ → Bool → Bool
-shows f q v = anyBelow 256 (λ b. rowBit f 0 b && Bool·beq (bit q b) v)
+-- the first w of four words have the valuations that pass the test
+pub record Words (w : ℕ) (f : List ℕ) (g : ℕ → Bool) : Type 0 where
+  pub size : length f ≡ 4
+  pub bits : (b : ℕ) → b < 64 * w → rowBit f 0 b ≡ g b
+
+-- some valuation of the first w words has v in stream q
+unfoldable pub shows : ℕ → List ℕ → ℕ → Bool → Bool
+shows w f q v = anyBelow (64 * w) (λ b. rowBit f 0 b && Bool·beq (bit q b) v)
 
 -- the numbers of n verdicts, and 0 after them
 pub record Told (n : ℕ) (f : ℕ → Verdict) (vs : List ℕ) : Type 0 where

@@ -1,8 +1,8 @@
 -- For the contracts of private functions: the pairs that a set gains, row by row.
 use mathlib.Core.Path.{_≡_}
-use mathlib.Core.Bool.{Bool, true, false, _&&_}
+use mathlib.Core.Bool.{Bool, true, false, not, cond, _&&_}
 use mathlib.Core.Option.{Option, none, some}
-use Prim.Native.Nat.{ℕ, _%_, _^_, _<_}
+use Prim.Native.Nat.{ℕ, _*_, _%_, _<_, _≤_}
 use lib.Bits.{bitAnd}
 use lib.Dec.{eqb, ltb}
 use Rattle.words.specs.Bits.{bit}
@@ -10,10 +10,28 @@ use Rattle.words.specs.Below.{anyBelow}
 use Rattle.sheet.specs.RuleSheet.{RuleSheet}
 use Rattle.lola.specs.Equations.{holds}
 use Rattle.completions.specs.Live.{Pairs}
+use Rattle.lanes.specs.Around.{Before}
 
--- v's letter, its low m bits, is in the set
-unfoldable pub among : ℕ → ℕ → ℕ → Bool
-among letters m v = bit (v % 2 ^ m) letters
+-- v was heard, as its lane of the round's letters tells: the inputs, at most 6, are the low bits of the lane's number too
+unfoldable pub among : ℕ → ℕ → Bool
+among letters v = bit (v % 64) letters
+
+-- w is the number of words that v valuations take: one, two or four
+pub record Wide (v w : ℕ) : Type 0 where
+  pub least : 1 ≤ w
+  pub most : w ≤ 4
+  pub not-three : w ≡ 3 → ⊥
+  pub under : v ≤ 64 * w
+  pub full : 1 < w → v ≡ 64 * w
+
+-- the room that evaluation wants: 64 words where v valuations take one word, else four times as many
+unfoldable pub room : ℕ → ℕ
+room v = cond (ltb 64 v) 256 64
+
+-- the word has the reads of some round before
+pub record Earlier (w : ℕ) : Type 0 where
+  pub round : Option ℕ
+  pub reads : Before w round
 
 -- c is the end mark or a valuation below w
 abbrev pub below : ℕ → Option ℕ → Bool
@@ -29,17 +47,25 @@ cut f (some c) = f c
 unfoldable pub gains : RuleSheet → (ℕ → Bool) → (Option ℕ → Bool) → Pairs → Option ℕ → Pairs
 gains x B C L p b c = B b && (C c && (L b c && holds x p b c))
 
--- the valuations of a row that are below w and whose letter is in the set
-abbrev pub heardIn : Pairs → ℕ → (ℕ → Bool) → ℕ → ℕ → Bool
-heardIn G w r a b = ltb b w && (G a (some b) && r b)
+-- row b of S has every valuation below v of row b of L
+abbrev pub NoneNew : Pairs → Pairs → ℕ → ℕ → Type 0
+NoneNew L S v b = (c : ℕ) → c < v → (L b (some c) && not (S b (some c))) ≡ false
+
+-- the valuations of a row that are below w
+abbrev pub inRow : Pairs → ℕ → ℕ → ℕ → Bool
+inRow G w a b = ltb b w && G a (some b)
 
 -- the pairs that the rows below k of G bring
-unfoldable pub brought : RuleSheet → Pairs → ℕ → (ℕ → Bool) → Pairs → ℕ → Pairs
-brought x G w r L k b c = anyBelow k (λ a. gains x (heardIn G w r a) (below w) L (some a) b c)
+unfoldable pub brought : RuleSheet → Pairs → ℕ → Pairs → ℕ → Pairs
+brought x G w L k b c = anyBelow k (λ a. gains x (inRow G w a) (below w) L (some a) b c)
 
--- the rows below k of S, each put into the row of what the mask leaves of its number, the valuations below w of it
-unfoldable pub grouped : Pairs → ℕ → ℕ → ℕ → Pairs
-grouped S mask w k g c = anyBelow k (λ a. eqb g (bitAnd a mask) && cut (λ b. ltb b w && S a (some b)) c)
+-- row a of S: the valuations below w that pass the test
+abbrev pub heardIn : Pairs → (ℕ → Bool) → ℕ → ℕ → Option ℕ → Bool
+heardIn S r w a = cut (λ b. ltb b w && (S a (some b) && r b))
+
+-- the rows below k of S, each put into the row of what the mask leaves of its number, the valuations below w of it that pass the test
+unfoldable pub grouped : Pairs → (ℕ → Bool) → ℕ → ℕ → ℕ → Pairs
+grouped S r mask w k g c = anyBelow k (λ a. eqb g (bitAnd a mask) && heardIn S r w a c)
 
 -- of the rows below w, those that the mask does not leave as they are have no valuation
 abbrev pub Sparse : ℕ → ℕ → Pairs → Type 0

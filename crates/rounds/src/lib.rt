@@ -7,15 +7,16 @@ ghost use Prim.Native.Nat.{ℕ, _+_, _*_, _/_, _^_, _<_, _≤_};
 ghost use lib.Dec.{eqb, ltb};
 ghost use lib.ListN.{length};
 ghost use Rattle.words.specs.Bits.{bit};
+ghost use Rattle.words.specs.Below.{anyBelow};
 ghost use Rattle.completions.specs.Steps.{startSet, stepSet, anyNext, verdictOf, pairsVerdict, endsVerdict};
 ghost use Rattle.pairs.specs.Storage.{stored};
 ghost use Rattle.pairs.specs.Changes.{Adds, eqNext};
 ghost use Rattle.refusal.specs.Numbers.{verdictNo};
-ghost use Rattle.lanes.specs.Table.{Before, Seen};
+ghost use Rattle.lanes.specs.Around.{Before, Seen};
 ghost use Rattle.lanes.specs.Coded.{Coded, sheetOf};
-ghost use Rattle.rounds.specs.Rows.{among, below, cut, gains, heardIn, brought, grouped, Sparse};
+ghost use Rattle.rounds.specs.Rows.{among, Wide, room, Earlier, below, cut, gains, NoneNew, inRow, brought, heardIn, grouped, Sparse};
 ghost use Rattle.rounds.specs.Round.{Rounded};
-ghost use Rattle.rounds.specs.Firsts.{Words, shows, Told};
+ghost use Rattle.rounds.specs.Firsts.{Passing, Words, shows, Told};
 
 // ---- Valuations
 
@@ -25,6 +26,14 @@ fn valuations(m: usize, n: usize) -> usize
     ensures { λ r. ⌜ (r ≡ 2 ^ (m + n)) × (r ≤ 256) ⌝ }
 {
     1 << (m + n)
+}
+
+// How many words of a row they take: one, two or four.
+fn row_words(m: usize, n: usize) -> usize
+    requires { ⌜ m + n ≤ 8 ⌝ }
+    ensures { λ r. ⌜ Wide (2 ^ (m + n)) r ⌝ }
+{
+    (valuations(m, n) + 63) / 64
 }
 
 // The lanes i with 64 * j + i below v.
@@ -43,185 +52,259 @@ fn lanes_below(v: usize, j: usize) -> u64
     next - 1
 }
 
-// Whether the letter of v, its low m bits, is in the set.
-fn letter_in(letters: u64, m: usize, v: usize) -> bool
-    requires { ⌜ m ≤ 6 ⌝ }
-    ensures { λ r. ⌜ r ≡ among letters m v ⌝ }
+// Whether the valuation v was heard.
+fn heard(letters: u64, v: usize) -> bool
+    ensures { λ r. ⌜ r ≡ among letters v ⌝ }
 {
-    let size: usize = 1 << m;
-    (letters >> (v % size)) % 2 == 1
+    (letters >> (v % 64)) % 2 == 1
+}
+
+// The valuations of row a of the set at base, its w words joined: in each lane whether some word has it.
+fn row_lanes(s: &[u64], base: usize, w: usize, a: usize) -> u64
+    requires { ⌜ (1 ≤ w) × (w ≤ 4) × (w ≡ 3 → ⊥) × (a < 256) × (base ≤ 2056) × (3084 ≤ length (now s)) ⌝ }
+    ensures { λ r. ⌜ ((i : ℕ) → i < 64 → bit i r ≡ anyBelow w (λ j. stored (now (s .entry)) base a (some (64 * j + i)))) ⌝ }
+{
+    let at = base + 4 * a;
+    if w == 1 {
+        return s[at];
+    }
+    let two = s[at] | s[at + 1];
+    if w == 2 {
+        return two;
+    }
+    two | s[at + 2] | s[at + 3]
 }
 
 // ---- The pairs that one round brings
 
-// Word j of row b of the reached set gains the live valuations below v before which the equations hold at b.
+// Row b of the reached set, one word of it, gains the live valuations below v before which the equations hold at b.
 fn gain_word(
     s: &mut [u64],
-    t: &mut [u64],
     st: &mut [u64],
     code: &[u8],
     len: &[usize],
     m: usize,
     n: usize,
     v: usize,
+    env: u64,
     b: usize,
-    j: usize,
 )
     requires { ⌜ Coded m n (now code) (now len) ⌝ }
-    requires { ⌜ (length (now st) ≡ 64) × (length (now t) ≡ 48) × (3084 ≤ length (now s)) × (v ≤ 256) × (b < 256) × (j < 4) ⌝ }
-    ensures { λ r. ⌜ ((p : Option ℕ) → Seen (now (t .entry)) p b → Seen (now (t .exit)) p b × ((ks : List ℕ) → Adds 1028 (now (s .entry)) (now (s .exit)) (gains (sheetOf m n (now (code .entry)) (now (len .entry)) ks) (λ x. eqb x b) (cut (λ c. eqb (c / 64) j && ltb c v)) (stored (now (s .entry)) 0) p))) ⌝ }
+    requires { ⌜ (64 ≤ length (now st)) × (3084 ≤ length (now s)) × (v ≤ 64) × (b < 256) ⌝ }
+    ensures { λ r. ⌜ ((p : Option ℕ) → Seen env p b → (ks : List ℕ) → Adds 1028 (now (s .entry)) (now (s .exit)) (gains (sheetOf m n (now (code .entry)) (now (len .entry)) ks) (λ x. eqb x b) (cut (λ c. ltb c v)) (stored (now (s .entry)) 0) p)) ⌝ }
 {
-    let live = s[4 * b + j] & lanes_below(v, j);
-    let old = s[1028 + (4 * b + j)];
+    let live = s[4 * b] & lanes_below(v, 0);
+    let old = s[1028 + 4 * b];
     if live & !old == 0 {
         return;
     }
-    let x = lanes::successors_word(t, st, code, len, m, n, b, j);
-    pairs::insert_word(s, 1028, b, j, live & x);
+    let x = lanes::successors_word(st, code, len, m, n, env, b);
+    pairs::insert_word(s, 1028, b, 0, live & x);
+}
+
+// Whether row b of the live set, w words of it, may have a valuation that the reached set lacks.
+fn is_new(s: &[u64], w: usize, b: usize) -> bool
+    requires { ⌜ (w ≤ 4) × (b < 256) × (3084 ≤ length (now s)) ⌝ }
+    ensures { λ r. ⌜ (r ≡ false → NoneNew (stored (now (s .entry)) 0) (stored (now (s .entry)) 1028) (64 * w) b) ⌝ }
+{
+    let mut j: usize = 0;
+    while j < w {
+        if s[4 * b + j] & !s[1028 + (4 * b + j)] != 0 {
+            return true;
+        }
+        j += 1;
+    }
+    false
+}
+
+// Row b of the reached set, w words of it, gains the live valuations before which the equations hold at b.
+fn gain_words(
+    s: &mut [u64],
+    st: &mut [u64],
+    code: &[u8],
+    len: &[usize],
+    m: usize,
+    n: usize,
+    w: usize,
+    env: u64,
+    b: usize,
+)
+    requires { ⌜ Coded m n (now code) (now len) ⌝ }
+    requires { ⌜ (256 ≤ length (now st)) × (3084 ≤ length (now s)) × (w ≤ 4) × (b < 256) ⌝ }
+    ensures { λ r. ⌜ ((p : Option ℕ) → Seen env p b → (ks : List ℕ) → Adds 1028 (now (s .entry)) (now (s .exit)) (gains (sheetOf m n (now (code .entry)) (now (len .entry)) ks) (λ x. eqb x b) (cut (λ c. ltb c (64 * w))) (stored (now (s .entry)) 0) p)) ⌝ }
+{
+    if !is_new(s, w, b) {
+        return;
+    }
+    let mut x = [0u64; 4];
+    lanes::successors_row(&mut x, st, code, len, m, n, env, b);
+    let mut j: usize = 0;
+    while j < w {
+        let live = s[4 * b + j];
+        pairs::insert_word(s, 1028, b, j, live & x[j]);
+        j += 1;
+    }
 }
 
 // Row b of the reached set gains the live valuations before which the equations hold at b.
 fn gain_row(
     s: &mut [u64],
-    t: &mut [u64],
     st: &mut [u64],
     code: &[u8],
     len: &[usize],
     m: usize,
     n: usize,
+    env: u64,
     b: usize,
 )
     requires { ⌜ Coded m n (now code) (now len) ⌝ }
-    requires { ⌜ (length (now st) ≡ 64) × (length (now t) ≡ 48) × (3084 ≤ length (now s)) × (b < 256) ⌝ }
-    ensures { λ r. ⌜ ((p : Option ℕ) → Seen (now (t .entry)) p b → Seen (now (t .exit)) p b × ((ks : List ℕ) → Adds 1028 (now (s .entry)) (now (s .exit)) (gains (sheetOf m n (now (code .entry)) (now (len .entry)) ks) (λ x. eqb x b) (cut (λ c. ltb c (2 ^ (m + n)))) (stored (now (s .entry)) 0) p))) ⌝ }
+    requires { ⌜ (room (2 ^ (m + n)) ≤ length (now st)) × (3084 ≤ length (now s)) × (b < 256) ⌝ }
+    ensures { λ r. ⌜ ((p : Option ℕ) → Seen env p b → (ks : List ℕ) → Adds 1028 (now (s .entry)) (now (s .exit)) (gains (sheetOf m n (now (code .entry)) (now (len .entry)) ks) (λ x. eqb x b) (cut (λ c. ltb c (2 ^ (m + n)))) (stored (now (s .entry)) 0) p)) ⌝ }
 {
-    let v = valuations(m, n);
-    let mut j: usize = 0;
-    while 64 * j < v {
-        gain_word(s, t, st, code, len, m, n, v, b, j);
-        j += 1;
+    let w = row_words(m, n);
+    if w == 1 {
+        gain_word(s, st, code, len, m, n, valuations(m, n), env, b);
+        return;
     }
+    gain_words(s, st, code, len, m, n, w, env, b);
 }
 
 // The reached set gains (b, end) if that is live and the equations hold at b with nothing after it.
-fn gain_end(
-    s: &mut [u64],
-    t: &mut [u64],
-    st: &mut [u64],
-    code: &[u8],
-    len: &[usize],
-    m: usize,
-    n: usize,
-    b: usize,
-)
+fn gain_end(s: &mut [u64], code: &[u8], len: &[usize], m: usize, n: usize, env: u64, b: usize)
     requires { ⌜ Coded m n (now code) (now len) ⌝ }
-    requires { ⌜ (length (now st) ≡ 64) × (length (now t) ≡ 48) × (3084 ≤ length (now s)) × (b < 256) ⌝ }
-    ensures { λ r. ⌜ ((p : Option ℕ) → Seen (now (t .entry)) p b → Seen (now (t .exit)) p b × ((ks : List ℕ) → Adds 1028 (now (s .entry)) (now (s .exit)) (gains (sheetOf m n (now (code .entry)) (now (len .entry)) ks) (λ x. eqb x b) (λ y. eqNext y none) (stored (now (s .entry)) 0) p))) ⌝ }
+    requires { ⌜ (3084 ≤ length (now s)) × (env < 4294967296) × (b < 256) ⌝ }
+    ensures { λ r. ⌜ ((p : Option ℕ) → Seen env p b → (ks : List ℕ) → Adds 1028 (now (s .entry)) (now (s .exit)) (gains (sheetOf m n (now (code .entry)) (now (len .entry)) ks) (λ x. eqb x b) (λ y. eqNext y none) (stored (now (s .entry)) 0) p)) ⌝ }
 {
     if !pairs::has_end(s, 0, b) {
         return;
     }
-    if !lanes::holds_at_end(t, st, code, len, m, n, b) {
+    if pairs::has_end(s, 1028, b) {
         return;
     }
-    pairs::insert_end(s, 1028, b);
+    if lanes::holds_at_end(code, len, m, n, env, b) {
+        pairs::insert_end(s, 1028, b);
+    }
 }
 
-// The reached set gains the live pairs (b, c) with the equations at b after the round that the table has before it.
+// The reached set gains the live pairs (b, c) with the equations at b after the round whose reads are `before`.
 fn gain(
     s: &mut [u64],
-    t: &mut [u64],
     st: &mut [u64],
     code: &[u8],
     len: &[usize],
     m: usize,
     n: usize,
+    before: u64,
     b: usize,
 )
     requires { ⌜ Coded m n (now code) (now len) ⌝ }
-    requires { ⌜ (length (now st) ≡ 64) × (length (now t) ≡ 48) × (3084 ≤ length (now s)) × (b < 256) ⌝ }
-    ensures { λ r. ⌜ ((p : Option ℕ) → Before (now (t .entry)) p → Before (now (t .exit)) p × ((ks : List ℕ) → Adds 1028 (now (s .entry)) (now (s .exit)) (gains (sheetOf m n (now (code .entry)) (now (len .entry)) ks) (λ x. eqb x b) (below (2 ^ (m + n))) (stored (now (s .entry)) 0) p))) ⌝ }
+    requires { ⌜ (room (2 ^ (m + n)) ≤ length (now st)) × (3084 ≤ length (now s)) × (b < 256) × Earlier before ⌝ }
+    ensures { λ r. ⌜ ((p : Option ℕ) → Before before p → (ks : List ℕ) → Adds 1028 (now (s .entry)) (now (s .exit)) (gains (sheetOf m n (now (code .entry)) (now (len .entry)) ks) (λ x. eqb x b) (below (2 ^ (m + n))) (stored (now (s .entry)) 0) p)) ⌝ }
 {
-    lanes::see(t, b);
-    gain_row(s, t, st, code, len, m, n, b);
-    gain_end(s, t, st, code, len, m, n, b);
+    let env = lanes::seen(before, b);
+    gain_row(s, st, code, len, m, n, env, b);
+    gain_end(s, code, len, m, n, env, b);
 }
 
-// The same, if b's letter is in the set.
+// The same, if b was heard.
 fn gain_heard(
     s: &mut [u64],
-    t: &mut [u64],
     st: &mut [u64],
     code: &[u8],
     len: &[usize],
     m: usize,
     n: usize,
     letters: u64,
+    before: u64,
     b: usize,
 )
     requires { ⌜ Coded m n (now code) (now len) ⌝ }
-    requires { ⌜ (length (now st) ≡ 64) × (length (now t) ≡ 48) × (3084 ≤ length (now s)) × (b < 256) ⌝ }
-    ensures { λ r. ⌜ ((p : Option ℕ) → Before (now (t .entry)) p → Before (now (t .exit)) p × ((ks : List ℕ) → Adds 1028 (now (s .entry)) (now (s .exit)) (gains (sheetOf m n (now (code .entry)) (now (len .entry)) ks) (λ x. eqb x b && among letters m x) (below (2 ^ (m + n))) (stored (now (s .entry)) 0) p))) ⌝ }
+    requires { ⌜ (room (2 ^ (m + n)) ≤ length (now st)) × (3084 ≤ length (now s)) × (b < 256) × Earlier before ⌝ }
+    ensures { λ r. ⌜ ((p : Option ℕ) → Before before p → (ks : List ℕ) → Adds 1028 (now (s .entry)) (now (s .exit)) (gains (sheetOf m n (now (code .entry)) (now (len .entry)) ks) (λ x. eqb x b && among letters x) (below (2 ^ (m + n))) (stored (now (s .entry)) 0) p)) ⌝ }
 {
-    if letter_in(letters, m, b) {
-        gain(s, t, st, code, len, m, n, b);
+    if heard(letters, b) {
+        gain(s, st, code, len, m, n, before, b);
     }
 }
 
 // ---- The first round
 
-// The pairs of the first round.
-fn start_rows(s: &mut [u64], code: &[u8], len: &[usize], m: usize, n: usize, letters: u64)
+// The pairs of the first round; st is room to work in.
+fn start_rows(
+    s: &mut [u64],
+    st: &mut [u64],
+    code: &[u8],
+    len: &[usize],
+    m: usize,
+    n: usize,
+    letters: u64,
+)
     requires { ⌜ Coded m n (now code) (now len) ⌝ }
-    requires { ⌜ 3084 ≤ length (now s) ⌝ }
-    ensures { λ r. ⌜ ((ks : List ℕ) → Adds 1028 (now (s .entry)) (now (s .exit)) (gains (sheetOf m n (now (code .entry)) (now (len .entry)) ks) (λ x. ltb x (2 ^ (m + n)) && among letters m x) (below (2 ^ (m + n))) (stored (now (s .entry)) 0) none)) ⌝ }
+    requires { ⌜ (room (2 ^ (m + n)) ≤ length (now st)) × (3084 ≤ length (now s)) ⌝ }
+    ensures { λ r. ⌜ ((ks : List ℕ) → Adds 1028 (now (s .entry)) (now (s .exit)) (gains (sheetOf m n (now (code .entry)) (now (len .entry)) ks) (λ x. ltb x (2 ^ (m + n)) && among letters x) (below (2 ^ (m + n))) (stored (now (s .entry)) 0) none)) ⌝ }
 {
     let v = valuations(m, n);
-    let mut t = [0u64; 48];
-    let mut st = [0u64; 64];
-    lanes::see_before(&mut t, true, 0);
+    let before = lanes::before(true, 0);
     let mut b: usize = 0;
     while b < v {
-        gain_heard(s, &mut t, &mut st, code, len, m, n, letters, b);
+        gain_heard(s, st, code, len, m, n, letters, before, b);
         b += 1;
     }
 }
 
-// The first round: which letters it may have are the bits of the set.
+// The same, with as much room as the valuations want.
+fn start_pairs(s: &mut [u64], code: &[u8], len: &[usize], m: usize, n: usize, letters: u64)
+    requires { ⌜ Coded m n (now code) (now len) ⌝ }
+    requires { ⌜ 3084 ≤ length (now s) ⌝ }
+    ensures { λ r. ⌜ ((ks : List ℕ) → Adds 1028 (now (s .entry)) (now (s .exit)) (gains (sheetOf m n (now (code .entry)) (now (len .entry)) ks) (λ x. ltb x (2 ^ (m + n)) && among letters x) (below (2 ^ (m + n))) (stored (now (s .entry)) 0) none)) ⌝ }
+{
+    if valuations(m, n) <= 64 {
+        let mut st = [0u64; 64];
+        start_rows(s, &mut st, code, len, m, n, letters);
+        return;
+    }
+    let mut st = [0u64; 256];
+    start_rows(s, &mut st, code, len, m, n, letters);
+}
+
+// The first round, where the valuations heard are those of the lanes of `letters`.
 pub fn first_round(s: &mut [u64], code: &[u8], len: &[usize], m: usize, n: usize, letters: u64)
     requires { ⌜ Coded m n (now code) (now len) ⌝ }
     requires { ⌜ 3084 ≤ length (now s) ⌝ }
-    ensures { λ r. ⌜ ((ks : List ℕ) → Rounded (2 ^ (m + n)) (now (s .entry)) (now (s .exit)) (startSet (sheetOf m n (now (code .entry)) (now (len .entry)) ks) (stored (now (s .entry)) 0) (among letters m))) ⌝ }
+    ensures { λ r. ⌜ ((ks : List ℕ) → Rounded (2 ^ (m + n)) (now (s .entry)) (now (s .exit)) (startSet (sheetOf m n (now (code .entry)) (now (len .entry)) ks) (stored (now (s .entry)) 0) (among letters))) ⌝ }
 {
     let v = valuations(m, n);
     pairs::clear_rows(s, 1028, v);
-    start_rows(s, code, len, m, n, letters);
+    start_pairs(s, code, len, m, n, letters);
     pairs::clear_rows(s, 2056, v);
 }
 
 // ---- A later round
 
-// Row a of the reached set, w words of it, joins row g of the scratch set.
-fn group_row(s: &mut [u64], w: usize, a: usize, g: usize)
-    requires { ⌜ (w ≤ 4) × (a < 256) × (g < 256) × (3084 ≤ length (now s)) ⌝ }
-    ensures { λ r. ⌜ Adds 2056 (now (s .entry)) (now (s .exit)) (λ x y. eqb x g && cut (λ c. ltb c (64 * w) && stored (now (s .entry)) 1028 a (some c)) y) ⌝ }
+// Row a of the reached set, what was heard of its w words, joins row g of the scratch set.
+fn group_row(s: &mut [u64], w: usize, letters: u64, a: usize, g: usize)
+    requires { ⌜ (1 ≤ w) × (w ≤ 4) × (w ≡ 3 → ⊥) × (a < 256) × (g < 256) × (3084 ≤ length (now s)) ⌝ }
+    ensures { λ r. ⌜ Adds 2056 (now (s .entry)) (now (s .exit)) (λ x y. eqb x g && heardIn (stored (now (s .entry)) 1028) (among letters) (64 * w) a y) ⌝ }
 {
+    if row_lanes(s, 1028, w, a) & letters == 0 {
+        return;
+    }
     let mut j: usize = 0;
     while j < w {
         let x = s[1028 + (4 * a + j)];
-        pairs::insert_word(s, 2056, g, j, x);
+        pairs::insert_word(s, 2056, g, j, x & letters);
         j += 1;
     }
 }
 
 // Each row below v of the reached set joins the row of its group: rows that agree in the streams of the mask.
-fn group_rows(s: &mut [u64], v: usize, w: usize, mask: usize)
-    requires { ⌜ (v ≤ 256) × (w ≤ 4) × (3084 ≤ length (now s)) ⌝ }
-    ensures { λ r. ⌜ Adds 2056 (now (s .entry)) (now (s .exit)) (grouped (stored (now (s .entry)) 1028) mask (64 * w) v) ⌝ }
+fn group_rows(s: &mut [u64], v: usize, w: usize, letters: u64, mask: usize)
+    requires { ⌜ (v ≤ 256) × (1 ≤ w) × (w ≤ 4) × (w ≡ 3 → ⊥) × (3084 ≤ length (now s)) ⌝ }
+    ensures { λ r. ⌜ Adds 2056 (now (s .entry)) (now (s .exit)) (grouped (stored (now (s .entry)) 1028) (among letters) mask (64 * w) v) ⌝ }
 {
     let mut a: usize = 0;
     while a < v {
-        group_row(s, w, a, a & mask);
+        group_row(s, w, letters, a, a & mask);
         a += 1;
     }
 }
@@ -229,29 +312,24 @@ fn group_rows(s: &mut [u64], v: usize, w: usize, mask: usize)
 // The pairs that row g of the scratch set brings.
 fn bring_row(
     s: &mut [u64],
-    t: &mut [u64],
     st: &mut [u64],
     code: &[u8],
     len: &[usize],
     m: usize,
     n: usize,
-    letters: u64,
     g: usize,
 )
     requires { ⌜ Coded m n (now code) (now len) ⌝ }
-    requires { ⌜ (length (now st) ≡ 64) × (length (now t) ≡ 48) × (3084 ≤ length (now s)) × (g < 256) ⌝ }
-    ensures { λ r. ⌜ ((ks : List ℕ) → Adds 1028 (now (s .entry)) (now (s .exit)) (gains (sheetOf m n (now (code .entry)) (now (len .entry)) ks) (heardIn (stored (now (s .entry)) 2056) (2 ^ (m + n)) (among letters m) g) (below (2 ^ (m + n))) (stored (now (s .entry)) 0) (some g))) ⌝ }
+    requires { ⌜ (room (2 ^ (m + n)) ≤ length (now st)) × (3084 ≤ length (now s)) × (g < 256) ⌝ }
+    ensures { λ r. ⌜ ((ks : List ℕ) → Adds 1028 (now (s .entry)) (now (s .exit)) (gains (sheetOf m n (now (code .entry)) (now (len .entry)) ks) (inRow (stored (now (s .entry)) 2056) (2 ^ (m + n)) g) (below (2 ^ (m + n))) (stored (now (s .entry)) 0) (some g))) ⌝ }
 {
     let v = valuations(m, n);
-    let w = (v + 63) / 64;
+    let w = row_words(m, n);
     let at = 2056 + 4 * g;
+    let before = lanes::before(false, g);
     let mut b = pairs::next_bit(s, at, w, 0);
-    if v <= b {
-        return;
-    }
-    lanes::see_before(t, false, g);
     while b < v {
-        gain_heard(s, t, st, code, len, m, n, letters, b);
+        gain(s, st, code, len, m, n, before, b);
         b = pairs::next_bit(s, at, w, b + 1);
     }
 }
@@ -259,62 +337,73 @@ fn bring_row(
 // The same, where rows that the mask does not leave as they are have nothing to bring.
 fn bring_group(
     s: &mut [u64],
-    t: &mut [u64],
     st: &mut [u64],
     code: &[u8],
     len: &[usize],
     m: usize,
     n: usize,
-    letters: u64,
     mask: usize,
     g: usize,
 )
     requires { ⌜ Coded m n (now code) (now len) ⌝ }
-    requires { ⌜ (length (now st) ≡ 64) × (length (now t) ≡ 48) × (3084 ≤ length (now s)) × (g < 2 ^ (m + n)) × (2 ^ (m + n) ≤ 256) × Sparse (2 ^ (m + n)) mask (stored (now s) 2056) ⌝ }
-    ensures { λ r. ⌜ ((ks : List ℕ) → Adds 1028 (now (s .entry)) (now (s .exit)) (gains (sheetOf m n (now (code .entry)) (now (len .entry)) ks) (heardIn (stored (now (s .entry)) 2056) (2 ^ (m + n)) (among letters m) g) (below (2 ^ (m + n))) (stored (now (s .entry)) 0) (some g))) ⌝ }
+    requires { ⌜ (room (2 ^ (m + n)) ≤ length (now st)) × (3084 ≤ length (now s)) × (g < 2 ^ (m + n)) × (2 ^ (m + n) ≤ 256) × Sparse (2 ^ (m + n)) mask (stored (now s) 2056) ⌝ }
+    ensures { λ r. ⌜ ((ks : List ℕ) → Adds 1028 (now (s .entry)) (now (s .exit)) (gains (sheetOf m n (now (code .entry)) (now (len .entry)) ks) (inRow (stored (now (s .entry)) 2056) (2 ^ (m + n)) g) (below (2 ^ (m + n))) (stored (now (s .entry)) 0) (some g))) ⌝ }
 {
     if g & mask == g {
-        bring_row(s, t, st, code, len, m, n, letters, g);
+        bring_row(s, st, code, len, m, n, g);
     }
 }
 
-// The pairs that the scratch set brings; its rows are groups by the mask.
+// The pairs that the scratch set brings; its rows are groups by the mask, and st is room to work in.
 fn bring_rows(
     s: &mut [u64],
+    st: &mut [u64],
     code: &[u8],
     len: &[usize],
     m: usize,
     n: usize,
-    letters: u64,
     mask: usize,
 )
     requires { ⌜ Coded m n (now code) (now len) ⌝ }
-    requires { ⌜ (3084 ≤ length (now s)) × Sparse (2 ^ (m + n)) mask (stored (now s) 2056) ⌝ }
-    ensures { λ r. ⌜ ((ks : List ℕ) → Adds 1028 (now (s .entry)) (now (s .exit)) (brought (sheetOf m n (now (code .entry)) (now (len .entry)) ks) (stored (now (s .entry)) 2056) (2 ^ (m + n)) (among letters m) (stored (now (s .entry)) 0) (2 ^ (m + n)))) ⌝ }
+    requires { ⌜ (room (2 ^ (m + n)) ≤ length (now st)) × (3084 ≤ length (now s)) × Sparse (2 ^ (m + n)) mask (stored (now s) 2056) ⌝ }
+    ensures { λ r. ⌜ ((ks : List ℕ) → Adds 1028 (now (s .entry)) (now (s .exit)) (brought (sheetOf m n (now (code .entry)) (now (len .entry)) ks) (stored (now (s .entry)) 2056) (2 ^ (m + n)) (stored (now (s .entry)) 0) (2 ^ (m + n)))) ⌝ }
 {
     let v = valuations(m, n);
-    let mut t = [0u64; 48];
-    let mut st = [0u64; 64];
     let mut g: usize = 0;
     while g < v {
-        bring_group(s, &mut t, &mut st, code, len, m, n, letters, mask, g);
+        bring_group(s, st, code, len, m, n, mask, g);
         g += 1;
     }
 }
 
+// The same, with as much room as the valuations want.
+fn bring_pairs(s: &mut [u64], code: &[u8], len: &[usize], m: usize, n: usize, mask: usize)
+    requires { ⌜ Coded m n (now code) (now len) ⌝ }
+    requires { ⌜ (3084 ≤ length (now s)) × Sparse (2 ^ (m + n)) mask (stored (now s) 2056) ⌝ }
+    ensures { λ r. ⌜ ((ks : List ℕ) → Adds 1028 (now (s .entry)) (now (s .exit)) (brought (sheetOf m n (now (code .entry)) (now (len .entry)) ks) (stored (now (s .entry)) 2056) (2 ^ (m + n)) (stored (now (s .entry)) 0) (2 ^ (m + n)))) ⌝ }
+{
+    if valuations(m, n) <= 64 {
+        let mut st = [0u64; 64];
+        bring_rows(s, &mut st, code, len, m, n, mask);
+        return;
+    }
+    let mut st = [0u64; 256];
+    bring_rows(s, &mut st, code, len, m, n, mask);
+}
+
 // A later round. Pairs (a, b) and (a', b) whose first parts agree in every stream that is read one round earlier have the same
-// successors, so the rows of the reached set are first joined by these groups.
+// successors, so the rows of the reached set, what was heard of them, are first joined by these groups.
 pub fn later_round(s: &mut [u64], code: &[u8], len: &[usize], m: usize, n: usize, letters: u64)
     requires { ⌜ Coded m n (now code) (now len) ⌝ }
     requires { ⌜ 3084 ≤ length (now s) ⌝ }
-    ensures { λ r. ⌜ ((ks : List ℕ) → Rounded (2 ^ (m + n)) (now (s .entry)) (now (s .exit)) (stepSet (sheetOf m n (now (code .entry)) (now (len .entry)) ks) (2 ^ (m + n)) (stored (now (s .entry)) 0) (stored (now (s .entry)) 1028) (among letters m))) ⌝ }
+    ensures { λ r. ⌜ ((ks : List ℕ) → Rounded (2 ^ (m + n)) (now (s .entry)) (now (s .exit)) (stepSet (sheetOf m n (now (code .entry)) (now (len .entry)) ks) (2 ^ (m + n)) (stored (now (s .entry)) 0) (stored (now (s .entry)) 1028) (among letters))) ⌝ }
 {
     let v = valuations(m, n);
     let mask = lanes::earlier_mask(code, len, m, n);
     pairs::clear_rows(s, 2056, v);
-    group_rows(s, v, 4, mask);
+    group_rows(s, v, row_words(m, n), letters, mask);
     pairs::clear_rows(s, 1028, v);
-    bring_rows(s, code, len, m, n, letters, mask);
+    bring_pairs(s, code, len, m, n, mask);
     pairs::clear_rows(s, 2056, v);
 }
 
@@ -322,13 +411,13 @@ pub fn later_round(s: &mut [u64], code: &[u8], len: &[usize], m: usize, n: usize
 
 // Whether some pair of the reached set has the first part a; v valuations, w words to a row.
 fn is_first(s: &[u64], v: usize, w: usize, a: usize) -> bool
-    requires { ⌜ (v ≤ 64 * w) × (w ≤ 4) × (a < 256) × (3084 ≤ length (now s)) ⌝ }
+    requires { ⌜ Wide v w × (a < 256) × (3084 ≤ length (now s)) ⌝ }
     ensures { λ r. ⌜ r ≡ anyNext v (stored (now (s .entry)) 1028 a) ⌝ }
 {
     if pairs::has_end(s, 1028, a) {
         return true;
     }
-    pairs::next_bit(s, 1028 + 4 * a, w, 0) < v
+    row_lanes(s, 1028, w, a) & lanes_below(v, 0) != 0
 }
 
 // x with lane i set as well, where b.
@@ -339,75 +428,57 @@ fn with_lane(x: u64, i: usize, b: bool) -> u64
     if b { x | 1 << i } else { x }
 }
 
-// How many lanes of word j stand for valuations below v.
-fn lane_count(v: usize, j: usize) -> usize
-    requires { ⌜ (v ≤ 256) × (j < 4) ⌝ }
-    ensures { λ r. ⌜ (r ≤ 64) × ((i : ℕ) → i < 64 → ltb i r ≡ ltb (64 * j + i) v) ⌝ }
+// The lanes i for which 64 * j + i was heard and is a first part of the reached set.
+fn firsts_word(s: &[u64], v: usize, w: usize, letters: u64, j: usize) -> u64
+    requires { ⌜ Wide v w × (j < 4) × (3084 ≤ length (now s)) ⌝ }
+    ensures { λ r. ⌜ ((i : ℕ) → i < 64 → bit i r ≡ ((ltb (64 * j + i) v && among letters (64 * j + i)) && anyNext v (stored (now (s .entry)) 1028 (64 * j + i)))) ⌝ }
 {
-    let low = 64 * j;
-    if v <= low {
-        return 0;
-    }
-    if low + 64 <= v {
-        return 64;
-    }
-    v - low
-}
-
-// The lanes i for which 64 * j + i is a first part of the reached set.
-fn firsts_word(s: &[u64], v: usize, w: usize, j: usize) -> u64
-    requires { ⌜ (v ≤ 64 * w) × (w ≤ 4) × (j < 4) × (3084 ≤ length (now s)) ⌝ }
-    ensures { λ r. ⌜ ((i : ℕ) → i < 64 → bit i r ≡ (ltb (64 * j + i) v && anyNext v (stored (now (s .entry)) 1028 (64 * j + i)))) ⌝ }
-{
-    let count = lane_count(v, j);
     let mut word: u64 = 0;
-    let mut i: usize = 0;
-    while i < count {
+    let mut rest = lanes_below(v, j) & letters;
+    while rest != 0 {
+        let i = u64::trailing_zeros(rest) as usize;
         let b = is_first(s, v, w, 64 * j + i);
         word = with_lane(word, i, b);
-        i += 1;
+        rest = rest & !(1 << i);
     }
     word
 }
 
-// The first parts of the reached set, in four words.
-fn firsts(s: &[u64], m: usize, n: usize) -> [u64; 4]
-    requires { ⌜ (m + n ≤ 8) × (3084 ≤ length (now s)) ⌝ }
-    ensures { λ r. ⌜ Words r (λ b. ltb b (2 ^ (m + n)) && anyNext (2 ^ (m + n)) (stored (now (s .entry)) 1028 b)) ⌝ }
+// The first parts of the reached set that were heard, in w words.
+fn firsts(s: &[u64], v: usize, w: usize, letters: u64) -> [u64; 4]
+    requires { ⌜ Wide v w × (3084 ≤ length (now s)) ⌝ }
+    ensures { λ r. ⌜ Words w r (λ b. (ltb b v && among letters b) && anyNext v (stored (now (s .entry)) 1028 b)) ⌝ }
 {
-    let v = valuations(m, n);
-    let w = (v + 63) / 64;
     let mut f = [0u64; 4];
     let mut j: usize = 0;
-    while j < 4 {
-        f[j] = firsts_word(s, v, w, j);
+    while j < w {
+        f[j] = firsts_word(s, v, w, letters, j);
         j += 1;
     }
     f
 }
 
-// The valuations that the end mark follows in the reached set, in four words.
-fn ends(s: &[u64], m: usize, n: usize) -> [u64; 4]
-    requires { ⌜ (m + n ≤ 8) × (3084 ≤ length (now s)) ⌝ }
-    ensures { λ r. ⌜ Words r (λ b. ltb b (2 ^ (m + n)) && stored (now (s .entry)) 1028 b none) ⌝ }
+// The valuations that the end mark follows in the reached set, in w words.
+fn ends(s: &[u64], v: usize, w: usize) -> [u64; 4]
+    requires { ⌜ (v ≤ 256) × (w ≤ 4) × (3084 ≤ length (now s)) ⌝ }
+    ensures { λ r. ⌜ Words w r (λ b. ltb b v && stored (now (s .entry)) 1028 b none) ⌝ }
 {
-    let v = valuations(m, n);
     let mut f = [0u64; 4];
     let mut j: usize = 0;
-    while j < 4 {
+    while j < w {
         f[j] = s[1028 + (1024 + j)] & lanes_below(v, j);
         j += 1;
     }
     f
 }
 
-// Whether some valuation of the four words has b in stream q.
-fn shown(f: &[u64], q: usize, b: bool) -> bool
-    requires { ⌜ (q < 8) × (length (now f) ≡ 4) ⌝ }
-    ensures { λ r. ⌜ r ≡ shows (now (f .entry)) q b ⌝ }
+// Whether some valuation of the w words has b in stream q.
+fn shown(f: &[u64], w: usize, q: usize, b: bool) -> bool
+    requires { ⌜ (w ≤ 4) × (q < 8) × (length (now f) ≡ 4) ⌝ }
+    ensures { λ r. ⌜ r ≡ shows w (now (f .entry)) q b ⌝ }
 {
     let mut j: usize = 0;
-    while j < 4 {
+    while j < w {
         let p = words::agree(words::stream_word(q, j), b);
         if f[j] & p != 0 {
             return true;
@@ -417,13 +488,13 @@ fn shown(f: &[u64], q: usize, b: bool) -> bool
     false
 }
 
-// The number of the verdict on stream q over the valuations of the four words.
-fn verdict(f: &[u64], q: usize) -> u8
-    requires { ⌜ (q < 8) × (length (now f) ≡ 4) ⌝ }
-    ensures { λ r. ⌜ r ≡ verdictNo (verdictOf (shows (now (f .entry)) q true) (shows (now (f .entry)) q false)) ⌝ }
+// The number of the verdict on stream q over the valuations of the w words.
+fn verdict(f: &[u64], w: usize, q: usize) -> u8
+    requires { ⌜ (w ≤ 4) × (q < 8) × (length (now f) ≡ 4) ⌝ }
+    ensures { λ r. ⌜ r ≡ verdictNo (verdictOf (shows w (now (f .entry)) q true) (shows w (now (f .entry)) q false)) ⌝ }
 {
-    let yes = shown(f, q, true);
-    let no = shown(f, q, false);
+    let yes = shown(f, w, q, true);
+    let no = shown(f, w, q, false);
     if yes {
         if no {
             return 2;
@@ -437,26 +508,28 @@ fn verdict(f: &[u64], q: usize) -> u8
 }
 
 // The verdicts on the n outputs, streams m on.
-fn verdicts(f: &[u64], m: usize, n: usize) -> [u8; 7]
-    requires { ⌜ (m + n ≤ 8) × (n ≤ 7) × (length (now f) ≡ 4) ⌝ }
-    ensures { λ r. ⌜ Told n (λ k. verdictOf (shows (now (f .entry)) (m + k) true) (shows (now (f .entry)) (m + k) false)) r ⌝ }
+fn verdicts(f: &[u64], w: usize, m: usize, n: usize) -> [u8; 7]
+    requires { ⌜ (w ≤ 4) × (m + n ≤ 8) × (n ≤ 7) × (length (now f) ≡ 4) ⌝ }
+    ensures { λ r. ⌜ Told n (λ k. verdictOf (shows w (now (f .entry)) (m + k) true) (shows w (now (f .entry)) (m + k) false)) r ⌝ }
 {
     let mut vs = [0u8; 7];
     let mut k: usize = 0;
     while k < n {
-        vs[k] = verdict(f, lanes::output_stream(m, k));
+        vs[k] = verdict(f, w, lanes::output_stream(m, k));
         k += 1;
     }
     vs
 }
 
-// Each output's verdict over the reached set.
-pub fn round_verdicts(s: &[u64], m: usize, n: usize) -> [u8; 7]
+// Each output's verdict over the reached set, where only valuations that were heard are first parts.
+pub fn round_verdicts(s: &[u64], m: usize, n: usize, letters: u64) -> [u8; 7]
     requires { ⌜ (m + n ≤ 8) × (n ≤ 7) × (3084 ≤ length (now s)) ⌝ }
-    ensures { λ r. ⌜ Told n (λ k. pairsVerdict (2 ^ (m + n)) (stored (now (s .entry)) 1028) (bit (m + k))) r ⌝ }
+    ensures { λ r. ⌜ (Passing (2 ^ (m + n)) (among letters) (stored (now (s .entry)) 1028) → Told n (λ k. pairsVerdict (2 ^ (m + n)) (stored (now (s .entry)) 1028) (bit (m + k))) r) ⌝ }
 {
-    let f = firsts(s, m, n);
-    verdicts(&f, m, n)
+    let v = valuations(m, n);
+    let w = row_words(m, n);
+    let f = firsts(s, v, w, letters);
+    verdicts(&f, w, m, n)
 }
 
 // Each output's verdict over the pairs of the reached set with the end mark.
@@ -464,6 +537,8 @@ pub fn closing_verdicts(s: &[u64], m: usize, n: usize) -> [u8; 7]
     requires { ⌜ (m + n ≤ 8) × (n ≤ 7) × (3084 ≤ length (now s)) ⌝ }
     ensures { λ r. ⌜ Told n (λ k. endsVerdict (2 ^ (m + n)) (stored (now (s .entry)) 1028) (bit (m + k))) r ⌝ }
 {
-    let f = ends(s, m, n);
-    verdicts(&f, m, n)
+    let v = valuations(m, n);
+    let w = row_words(m, n);
+    let f = ends(s, v, w);
+    verdicts(&f, w, m, n)
 }

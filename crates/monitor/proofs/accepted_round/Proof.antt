@@ -12,7 +12,7 @@ use Rattle.monitor.specs.Checks.{roundChecks, closingChecks}
 use Rattle.monitor.specs.Results.{OfSheet, RoundDone, ClosingDone}
 use Rattle.monitor.specs.Steps.{given}
 use Rattle.sheet.specs.RuleSheet.{requiredOf}
-use Rattle.monitor.proofs.Done.{told-are, round-done}
+use Rattle.monitor.proofs.Done.{told-are, heard-firsts, round-done}
 use borrow.Author.Needs.{needs}
 use Rattle.monitor.proofs.accepted_round.Statement.{statement}
 use Rattle.monitor.proofs.accepted_round.Tie as tie
@@ -49,8 +49,11 @@ slice-aggregate-with-round c = search needs
 
 with-round-requires : tie.Need-with-round-requires
 with-round-requires c κs =
+    let a = c .before .before .before .before .before .before .before .before .before .before .before .before .before .before .before .args in
     let p = c .before .before .before .before .before .before .before .before .before .before .before .before .before .before .before .pre in
-    (p .0 .ranges .outputs, p .1 .right, p .1 .room, c .before .round-verdicts .ensures .size, told-are _ _ _ (c .before .round-verdicts .ensures))
+    let d = c .before .before .before .before .before .step in
+    let t = c .before .round-verdicts .ensures (heard-firsts (a .x) (p .0) (now (a .storage)) (d .last .0) (a .r .rounds) (c .before .before .before .before .before .before .before .before .before .letters-of .result) (d .ensures (requiredOf (a .x .assumed)))) in
+    (p .0 .ranges .outputs, p .1 .right, p .1 .room, t .size, told-are _ _ _ t)
 
 same-length : tie.Need-same-length
 same-length c = search needs
@@ -59,10 +62,13 @@ returns : tie.Need-returns
 returns c =
     let a = c .before .before .before .before .before .before .before .before .before .before .before .before .before .before .before .before .args in
     let p = c .before .before .before .before .before .before .before .before .before .before .before .before .before .before .before .before .pre in
+    let l = c .before .before .before .before .before .before .before .before .before .before .letters-of in
+    let t = c .before .before .before .before .before .before .step .last .0 in
+    let d = c .before .before .before .before .before .before .step .ensures (requiredOf (a .x .assumed)) in
     let w = c .with-round .ensures in (
       refl,
-      round-done (a .x) (p .0) (now (a .storage)) (c .before .before .before .before .before .before .step .last .0) (a .r) (a .known) (a .value) (c .before .before .before .before .before .before .before .before .before .before .letters-of .result) _ (p .1)
-          (c .before .before .before .before .before .before .before .before .before .before .letters-of .ensures) (c .before .before .before .before .before .before .step .ensures (requiredOf (a .x .assumed))) (c .before .before .round-verdicts .ensures) (w .0) (w .1) (w .2),
+      round-done (a .x) (p .0) (now (a .storage)) t (a .r) (a .known) (a .value) (l .result) _ (p .1) (l .ensures) d
+          (c .before .before .round-verdicts .ensures (heard-firsts (a .x) (p .0) (now (a .storage)) t (a .r .rounds) (l .result) d)) (w .0) (w .1) (w .2),
     )
 
 pub accepted-round-spec : {M : Type 1} → statement M

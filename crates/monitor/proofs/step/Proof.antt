@@ -37,7 +37,7 @@ returns c = λ ks.
     let X = sheetOf (c .before .before .before .before .before .before .before .before .args .m) (c .before .before .before .before .before .before .before .before .args .n) (now (c .before .before .before .before .before .before .before .before .args .code)) (now (c .before .before .before .before .before .before .before .before .args .len)) ks in
     let s = now (c .before .before .before .before .before .before .before .before .args .storage) in
     subst (λ (R : Pairs). Rounded (2 ^ (c .before .before .before .before .before .before .before .before .args .m + c .before .before .before .before .before .before .before .before .args .n)) s (c .before .before .first-round .last .0) R)
-    (sym (next-first X (stored s 0) (stored s 1028) (among (c .before .before .before .before .before .before .before .before .args .letters) (c .before .before .before .before .before .before .before .before .args .m)) (c .before .before .before .before .before .before .before .before .args .rounds) (c .before .before .before .before .if1 .taken))) (c .before .before .first-round .ensures ks)
+    (sym (next-first X (stored s 0) (stored s 1028) (among (c .before .before .before .before .before .before .before .before .args .letters)) (c .before .before .before .before .before .before .before .before .args .rounds) (c .before .before .before .before .if1 .taken))) (c .before .before .first-round .ensures ks)
 
 later-round-requires : tie.Need-later-round-requires
 later-round-requires c κs = search needs
@@ -49,7 +49,7 @@ returns-2 : tie.Need-returns-2
 returns-2 c = λ ks.
     let s = now (c .before .before .before .before .before .before .before .before .args .storage) in
     subst (λ (R : Pairs). Rounded (2 ^ (c .before .before .before .before .before .before .before .before .args .m + c .before .before .before .before .before .before .before .before .args .n)) s (c .before .before .later-round .last .0) R)
-    (sym (later-step (c .before .before .before .before .before .before .before .before .args .m) (c .before .before .before .before .before .before .before .before .args .n) (now (c .before .before .before .before .before .before .before .before .args .code)) (now (c .before .before .before .before .before .before .before .before .args .len)) ks (stored s 0) (stored s 1028) (among (c .before .before .before .before .before .before .before .before .args .letters) (c .before .before .before .before .before .before .before .before .args .m)) (c .before .before .before .before .before .before .before .before .args .rounds) (c .before .before .before .before .if1 .left))) (c .before .before .later-round .ensures ks)
+    (sym (later-step (c .before .before .before .before .before .before .before .before .args .m) (c .before .before .before .before .before .before .before .before .args .n) (now (c .before .before .before .before .before .before .before .before .args .code)) (now (c .before .before .before .before .before .before .before .before .args .len)) ks (stored s 0) (stored s 1028) (among (c .before .before .before .before .before .before .before .before .args .letters)) (c .before .before .before .before .before .before .before .before .args .rounds) (c .before .before .before .before .if1 .left))) (c .before .before .later-round .ensures ks)
 
 pub step-spec : {M : Type 1} → statement M
 step-spec =

@@ -1,10 +1,15 @@
 -- `rounds::closing_verdicts` meets its contract. Assumes nothing.
+use native.Mathlib.Omega.{arith}
 use borrow.Author.Needs.{needs}
-use Prim.Native.Nat.{_+_, _^_, _≤_}
-use lib.Pow.{pow-mono}
 use Rattle.rounds.proofs.VerdictLaws.{told-as, ends-verdict}
 use Rattle.rounds.proofs.closing_verdicts.Statement.{statement}
 use Rattle.rounds.proofs.closing_verdicts.Tie as tie
+
+valuations-requires : tie.Need-valuations-requires
+valuations-requires c κs = search needs
+
+row-words-requires : tie.Need-row-words-requires
+row-words-requires c κs = search needs
 
 ends-requires : tie.Need-ends-requires
 ends-requires c κs = search needs
@@ -17,9 +22,16 @@ verdicts-requires c κs = search needs
 
 returns : tie.Need-returns
 returns c =
-    let h : 2 ^ (c .before .before .before .before .args .m + c .before .before .before .before .args .n) ≤ 2 ^ 8 = pow-mono (c .before .before .before .before .pre .0) in
-    told-as _ _ _ _ (λ k l. ends-verdict _ _ _ _ h (c .before .before .ends .ensures)) (c .verdicts .ensures)
+    let v = c .before .before .before .before .valuations .ensures .0 in
+    told-as _ _ _ _ (λ k l. ends-verdict _ _ _ _ _ _ v (omega (arith, v, c .before .before .before .row-words .ensures .under)) (c .before .before .ends .ensures)) (c .verdicts .ensures)
 
 pub closing-verdicts-spec : {M : Type 1} → statement M
 closing-verdicts-spec =
-    tie.close (tie.spec ends-requires slice-aggregate-verdicts verdicts-requires returns)
+    tie.close
+    (tie.spec
+    valuations-requires
+    row-words-requires
+    ends-requires
+    slice-aggregate-verdicts
+    verdicts-requires
+    returns)

@@ -1,7 +1,7 @@
 -- `rounds::ends` meets its contract: the words below j are done. Assumes nothing.
 use borrow.Author.Needs.{needs}
 use mathlib.Core.Path.{refl}
-use Prim.Native.Nat.{_+_, _-_, _^_}
+use Prim.Native.Nat.{_-_}
 use mathlib.Core.Option.{none}
 use mathlib.Core.Bool.{_&&_}
 use lib.Dec.{ltb}
@@ -11,16 +11,13 @@ use Rattle.rounds.proofs.ends.Statement.{statement}
 use Rattle.rounds.proofs.ends.Tie as tie
 
 abbrev Inv-loop : tie.InvT-loop
-Inv-loop s m n v f₀ j₀ f j = Filling (λ b. ltb b (2 ^ (m + n)) && stored s 1028 b none) f j
+Inv-loop s v w f₀ j₀ f j = Filling w (λ b. ltb b v && stored s 1028 b none) f j
 
 abbrev μ-loop : tie.MeasureT-loop
-μ-loop s m n v f₀ j₀ f j = 4 - j
-
-valuations-requires : tie.Need-valuations-requires Inv-loop μ-loop
-valuations-requires c κs = c .before .pre .0
+μ-loop s v w f₀ j₀ f j = w - j
 
 loop-holds : tie.Need-loop-holds Inv-loop μ-loop
-loop-holds c = filling-none _ _ refl
+loop-holds c = filling-none _ _ _ refl
 
 add-f : tie.Need-add-f Inv-loop μ-loop
 add-f c = search needs
@@ -50,10 +47,10 @@ loop-less : tie.Need-loop-less Inv-loop μ-loop
 loop-less c = search needs
 
 loop-again : tie.Need-loop-again Inv-loop μ-loop
-loop-again c = filling-more _ _ _ _ (c .before .before .loop-test .taken) (c .before .before .before .loop .inv) (ends-lane _ _ _ _ _ (c .before .before .before .before .valuations .ensures .0) (c .lanes-below .ensures))
+loop-again c = filling-more _ _ _ _ _ (c .before .before .before .before .before .pre .1) (c .before .before .loop-test .taken) (c .before .before .before .loop .inv) (ends-lane _ _ _ _ (c .lanes-below .ensures))
 
 returns : tie.Need-returns Inv-loop μ-loop
-returns c = filling-all _ _ _ (c .loop-test .left) (c .before .loop .inv)
+returns c = filling-all _ _ _ _ (c .loop-test .left) (c .before .loop .inv)
 
 pub ends-spec : {M : Type 1} → statement M
 ends-spec =
@@ -61,7 +58,6 @@ ends-spec =
     (tie.spec
     Inv-loop
     μ-loop
-    valuations-requires
     loop-holds
     add-f
     add-f-2

@@ -10,8 +10,8 @@ valuations-requires c κs = search needs
 clear-rows-requires : tie.Need-clear-rows-requires
 clear-rows-requires c κs = search needs
 
-start-rows-requires : tie.Need-start-rows-requires
-start-rows-requires c κs = search needs
+start-pairs-requires : tie.Need-start-pairs-requires
+start-pairs-requires c κs = search needs
 
 clear-rows-requires-2 : tie.Need-clear-rows-requires-2
 clear-rows-requires-2 c κs = search needs
@@ -20,7 +20,7 @@ same-length : tie.Need-same-length
 same-length c = search needs
 
 returns : tie.Need-returns
-returns c = λ ks. rounded-first _ _ _ _ _ _ _ _ (c .before .before .before .before .before .before .before .before .before .before .before .before .valuations .ensures .0) (c .before .before .before .before .before .before .before .before .before .before .clear-rows .ensures) (c .before .before .before .before .before .before .start-rows .ensures ks) (c .before .before .clear-rows2 .ensures)
+returns c = λ ks. rounded-first _ _ _ _ _ _ _ _ (c .before .before .before .before .before .before .before .before .before .before .before .before .valuations .ensures .0) (c .before .before .before .before .before .before .before .before .before .before .clear-rows .ensures) (c .before .before .before .before .before .before .start-pairs .ensures ks) (c .before .before .clear-rows2 .ensures)
 
 pub first-round-spec : {M : Type 1} → statement M
 first-round-spec =
@@ -28,7 +28,7 @@ first-round-spec =
     (tie.spec
     valuations-requires
     clear-rows-requires
-    start-rows-requires
+    start-pairs-requires
     clear-rows-requires-2
     same-length
     returns)

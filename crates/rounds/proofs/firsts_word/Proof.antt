@@ -1,48 +1,59 @@
--- `rounds::firsts_word` meets its contract: the lanes below i are done. Assumes nothing.
+-- `rounds::firsts_word` meets its contract: the lanes that are no longer in `rest` are done. Assumes nothing.
 use native.Mathlib.Omega.{arith}
-use borrow.Author.Needs.{needs}
-use Prim.Native.Nat.{_+_, _-_, _*_, _≤_}
+use mathlib.Core.Path.{ap, _∙_}
+use mathlib.Core.Bool.{Bool, _&&_}
+use Prim.Native.Nat.{_+_, _*_}
+use lib.Bits.{and-le-l}
+use lib.Count.{trailing-le}
 use Rattle.completions.specs.Steps.{anyNext}
 use Rattle.pairs.specs.Storage.{stored}
-use Rattle.rounds.proofs.VerdictLaws.{Lanes, lanes-start, lanes-more, lanes-done}
+use Rattle.rounds.proofs.VerdictLaws.{Looking, looking-start, looking-next, looking-more, looking-done, lane-less, heard-below}
 use Rattle.rounds.proofs.firsts_word.Statement.{statement}
 use Rattle.rounds.proofs.firsts_word.Tie as tie
 
 abbrev Inv-loop : tie.InvT-loop
-Inv-loop s v w j count word₀ i₀ word i = (i ≤ count) × Lanes (λ k. anyNext v (stored s 1028 (64 * j + k))) word i
+Inv-loop s v w letters j word₀ rest₀ word rest = Looking (λ k. anyNext v (stored s 1028 (64 * j + k))) rest₀ word rest
 
 abbrev μ-loop : tie.MeasureT-loop
-μ-loop s v w j count word₀ i₀ word i = count - i
+μ-loop s v w letters j word₀ rest₀ word rest = rest
 
-lane-count-requires : tie.Need-lane-count-requires Inv-loop μ-loop
-lane-count-requires c κs = search needs
+lanes-below-requires : tie.Need-lanes-below-requires Inv-loop μ-loop
+lanes-below-requires c κs = (omega arith, omega arith)
 
 loop-holds : tie.Need-loop-holds Inv-loop μ-loop
-loop-holds c = (omega arith, lanes-start _)
+loop-holds c = looking-start _ _ (omega (arith, c .lanes-below .ok, and-le-l (c .lanes-below .result) (c .before .before .args .letters)))
+
+cast-i : tie.Need-cast-i Inv-loop μ-loop
+cast-i c = omega (arith, trailing-le 64 (c .before .loop .rest))
 
 mul-is-first : tie.Need-mul-is-first Inv-loop μ-loop
-mul-is-first c = search needs
+mul-is-first c = omega arith
 
 add-is-first : tie.Need-add-is-first Inv-loop μ-loop
-add-is-first c = search needs
+add-is-first c = omega (arith, trailing-le 64 (c .before .loop .rest))
 
 is-first-requires : tie.Need-is-first-requires Inv-loop μ-loop
-is-first-requires c κs = (c .before .before .before .before .pre .0, c .before .before .before .before .pre .1, omega (arith, c .before .before .lane-count .ensures .0), c .before .before .before .before .pre .3)
+is-first-requires c κs = let l = looking-next _ _ _ _ (c .before .loop .inv) (c .loop-test .taken) in (c .before .before .before .before .pre .0, omega (arith, l .under-k), c .before .before .before .before .pre .2)
 
 with-lane-requires : tie.Need-with-lane-requires Inv-loop μ-loop
-with-lane-requires c κs = omega (arith, c .before .before .before .lane-count .ensures .0)
+with-lane-requires c κs = let l = looking-next _ _ _ _ (c .before .before .loop .inv) (c .before .loop-test .taken) in l .under-k
 
-add-i : tie.Need-add-i Inv-loop μ-loop
-add-i c = search needs
+shl-rest : tie.Need-shl-rest Inv-loop μ-loop
+shl-rest c = let l = looking-next _ _ _ _ (c .before .before .before .loop .inv) (c .before .before .loop-test .taken) in l .under-k
 
 loop-less : tie.Need-loop-less Inv-loop μ-loop
-loop-less c = search needs
+loop-less c = let l = looking-next _ _ _ _ (c .before .before .before .loop .inv) (c .before .before .loop-test .taken) in lane-less _ _ (l .under-k) (l .is-set)
 
 loop-again : tie.Need-loop-again Inv-loop μ-loop
-loop-again c = (omega arith, lanes-more _ _ _ _ _ (c .before .before .before .loop .inv .1) (c .before .is-first .ensures) (c .with-lane .ensures))
+loop-again c =
+    let l = looking-next _ _ _ _ (c .before .before .before .loop .inv) (c .before .before .loop-test .taken) in
+    looking-more _ _ _ _ _ _ _ (l .under-k) (l .is-set) (c .before .is-first .ensures) (c .with-lane .ensures) (c .before .before .before .loop .inv)
 
 returns : tie.Need-returns Inv-loop μ-loop
-returns c = lanes-done _ _ _ _ _ _ (c .before .loop .inv .0) (c .loop-test .left) (c .before .before .lane-count .ensures .1) (c .before .loop .inv .1)
+returns c = λ i h.
+    let a = c .before .before .before .before .args in
+    looking-done _ _ _ _ (c .loop-test .left) (c .before .loop .inv) i h
+    ∙ ap (λ (u : Bool). u && anyNext (a .v) (stored (a .s .now) 1028 (64 * a .j + i))) (heard-below _ _ _ _ (c .before .before .lanes-below .ensures) i h)
 
 pub firsts-word-spec : {M : Type 1} → statement M
 firsts-word-spec =
@@ -50,13 +61,14 @@ firsts-word-spec =
     (tie.spec
     Inv-loop
     μ-loop
-    lane-count-requires
+    lanes-below-requires
     loop-holds
+    cast-i
     mul-is-first
     add-is-first
     is-first-requires
     with-lane-requires
-    add-i
+    shl-rest
     loop-less
     loop-again
     returns)

@@ -1,14 +1,14 @@
--- `rounds::gain_word` meets its contract: one word of a row. Assumes nothing.
+-- `rounds::gain_word` meets its contract: one word is the whole row. Assumes nothing.
+use native.Mathlib.Omega.{arith}
 use borrow.Author.Needs.{needs}
-use Rattle.rounds.proofs.WordLaws.{word-full, word-gained}
+use Prim.Native.Nat.{_+_, _*_}
+use Rattle.rounds.proofs.WordLaws.{live-masked, nothing-lacks, row-full, first-lanes, word-gained}
+use Rattle.rounds.proofs.RowLaws.{row-word}
 use Rattle.rounds.proofs.gain_word.Statement.{statement}
 use Rattle.rounds.proofs.gain_word.Tie as tie
 
 mul-live : tie.Need-mul-live
 mul-live c = search needs
-
-add-live : tie.Need-add-live
-add-live c = search needs
 
 mul-live-2 : tie.Need-mul-live-2
 mul-live-2 c = search needs
@@ -25,9 +25,6 @@ mul-old c = search needs
 add-old : tie.Need-add-old
 add-old c = search needs
 
-add-old-2 : tie.Need-add-old-2
-add-old-2 c = search needs
-
 mul-old-2 : tie.Need-mul-old-2
 mul-old-2 c = search needs
 
@@ -35,7 +32,9 @@ slice-read-old : tie.Need-slice-read-old
 slice-read-old c = search needs
 
 returns : tie.Need-returns
-returns c = λ p seen. (seen, λ ks. word-full _ _ _ _ _ _ p (c .before .before .lanes-below .ensures) (c .before .slice-known5 .given _ .fits) (c .if1 .taken))
+returns c = λ p seen ks.
+    let a = c .before .before .before .before .before .before .before .before .args in
+    row-full _ _ _ _ p (λ k l. nothing-lacks (a .s .now) (a .b) 0 (a .v) _ (live-masked _ _ _ _ (c .before .before .lanes-below .ensures)) (1028 + 4 * a .b) (omega arith) (c .before .slice-known4 .given _ .fits) (c .if1 .taken) k (omega arith) l)
 
 successors-word-requires : tie.Need-successors-word-requires
 successors-word-requires c κs = search needs
@@ -49,26 +48,21 @@ same-length c = search needs
 same-length-2 : tie.Need-same-length-2
 same-length-2 c = search needs
 
-same-length-3 : tie.Need-same-length-3
-same-length-3 c = search needs
-
 returns-2 : tie.Need-returns-2
-returns-2 c = λ p seen.
-    let q = c .before .before .before .before .before .before .before .before .successors-word .ensures p seen in
-    (q .0, λ ks. word-gained _ _ _ _ _ _ p (c .before .before .before .before .before .before .before .before .before .before .before .before .before .lanes-below .ensures) _ _ (q .1 ks) (c .before .before .insert-word .ensures))
+returns-2 c = λ p seen ks.
+    row-word _ _ _ _ _ p (c .before .before .before .before .before .before .before .before .before .before .before .before .before .before .before .before .pre .1 .2)
+    (word-gained _ _ _ _ _ (live-masked _ _ _ _ (c .before .before .before .before .before .before .before .before .before .before .lanes-below .ensures)) _ p _ _ (first-lanes _ p _ _ (c .before .before .before .before .before .before .successors-word .ensures p seen ks)) (c .before .before .insert-word .ensures))
 
 pub gain-word-spec : {M : Type 1} → statement M
 gain-word-spec =
     tie.close
     (tie.spec
     mul-live
-    add-live
     mul-live-2
     slice-read-live
     lanes-below-requires
     mul-old
     add-old
-    add-old-2
     mul-old-2
     slice-read-old
     returns
@@ -76,5 +70,4 @@ gain-word-spec =
     insert-word-requires
     same-length
     same-length-2
-    same-length-3
     returns-2)

@@ -5,18 +5,27 @@ use mathlib.Core.Path.{_≡_, refl}
 use Prim.Native.Nat.{_-_, _*_, _≤_}
 use lib.ListN.{length}
 use Rattle.pairs.specs.Changes.{Adds}
-use Rattle.rounds.proofs.WordLaws.{Joined, joined-none, joined-more, joined-all}
+use Rattle.rounds.proofs.WordLaws.{Joined, unheard-row, joined-none, joined-more, joined-all}
 use Rattle.rounds.proofs.group_row.Statement.{statement}
 use Rattle.rounds.proofs.group_row.Tie as tie
 
 abbrev Inv-loop : tie.InvT-loop
-Inv-loop s₀ w a g j₀ s j = (j ≤ w) × (length s ≡ length s₀) × Adds 2056 s₀ s (Joined s₀ a g (64 * j))
+Inv-loop s₀ w letters a g j₀ s j = (j ≤ w) × (length s ≡ length s₀) × Adds 2056 s₀ s (Joined s₀ letters a g (64 * j))
 
 abbrev μ-loop : tie.MeasureT-loop
-μ-loop s₀ w a g j₀ s j = w - j
+μ-loop s₀ w letters a g j₀ s j = w - j
+
+row-lanes-requires : tie.Need-row-lanes-requires Inv-loop μ-loop
+row-lanes-requires c κs = let p = c .before .before .pre in (p .0, p .1, p .2, p .3, omega arith, p .5)
+
+same-length : tie.Need-same-length Inv-loop μ-loop
+same-length c = search needs
+
+returns : tie.Need-returns Inv-loop μ-loop
+returns c = unheard-row _ _ _ _ (c .before .before .before .before .pre .3) _ _ (c .before .row-lanes .ensures) (c .if1 .taken)
 
 loop-holds : tie.Need-loop-holds Inv-loop μ-loop
-loop-holds c = (omega arith, refl, joined-none _ _ _ (c .before .pre .1))
+loop-holds c = (omega arith, refl, joined-none _ _ _ _ (c .before .before .before .before .pre .3))
 
 mul-x : tie.Need-mul-x Inv-loop μ-loop
 mul-x c = search needs
@@ -43,13 +52,13 @@ loop-less : tie.Need-loop-less Inv-loop μ-loop
 loop-less c = search needs
 
 loop-again : tie.Need-loop-again Inv-loop μ-loop
-loop-again c = (omega arith, omega arith, joined-more _ _ _ (c .before .before .before .before .before .before .before .before .pre .1) _ _ _ (omega arith) (c .before .before .before .before .before .before .loop .inv .2) (c .before .before .insert-word .ensures))
+loop-again c = (omega arith, omega arith, joined-more _ _ _ _ (c .before .before .before .before .before .before .before .before .before .before .before .pre .3) _ _ _ (omega arith) (c .before .before .before .before .before .before .loop .inv .2) (c .before .before .insert-word .ensures))
 
-same-length : tie.Need-same-length Inv-loop μ-loop
-same-length c = search needs
+same-length-2 : tie.Need-same-length-2 Inv-loop μ-loop
+same-length-2 c = search needs
 
-returns : tie.Need-returns Inv-loop μ-loop
-returns c = joined-all _ _ _ (c .before .before .before .pre .1) _ _ _ (c .before .loop .inv .0) (c .loop-test .left) (c .before .loop .inv .2)
+returns-2 : tie.Need-returns-2 Inv-loop μ-loop
+returns-2 c = joined-all _ _ _ _ (c .before .before .before .before .before .before .pre .3) _ _ _ (c .before .loop .inv .0) (c .loop-test .left) (c .before .loop .inv .2)
 
 pub group-row-spec : {M : Type 1} → statement M
 group-row-spec =
@@ -57,6 +66,9 @@ group-row-spec =
     (tie.spec
     Inv-loop
     μ-loop
+    row-lanes-requires
+    same-length
+    returns
     loop-holds
     mul-x
     add-x
@@ -67,5 +79,5 @@ group-row-spec =
     add-j
     loop-less
     loop-again
-    same-length
-    returns)
+    same-length-2
+    returns-2)

@@ -1,7 +1,8 @@
 -- `rounds::is_first` meets its contract. Assumes nothing.
-use borrow.Author.Needs.{needs}
+use native.Mathlib.Omega.{arith}
 use mathlib.Core.Path.{sym, _∙_}
 use Rattle.rounds.proofs.VerdictLaws.{first-end, first-rest}
+use borrow.Author.Needs.{needs}
 use Rattle.rounds.proofs.is_first.Statement.{statement}
 use Rattle.rounds.proofs.is_first.Tie as tie
 
@@ -11,19 +12,15 @@ has-end-requires c κs = search needs
 returns : tie.Need-returns
 returns c = first-end _ _ _ (sym (c .before .has-end .ensures) ∙ c .if1 .taken)
 
-mul-next-bit : tie.Need-mul-next-bit
-mul-next-bit c = search needs
+row-lanes-requires : tie.Need-row-lanes-requires
+row-lanes-requires c κs = let p = c .before .before .before .pre in (p .0 .least, p .0 .most, p .0 .not-three, p .1, omega arith, p .2)
 
-add-next-bit : tie.Need-add-next-bit
-add-next-bit c = search needs
-
-next-bit-requires : tie.Need-next-bit-requires
-next-bit-requires c κs = search needs
+lanes-below-requires : tie.Need-lanes-below-requires
+lanes-below-requires c κs = search needs
 
 returns-2 : tie.Need-returns-2
-returns-2 c = first-rest _ _ _ _ _ (c .before .before .before .before .pre .0) (sym (c .before .before .has-end .ensures) ∙ c .before .if1 .left) (c .next-bit .ensures)
+returns-2 c = first-rest _ _ _ _ _ _ (c .before .before .before .before .before .pre .0) (c .before .row-lanes .ensures) (c .lanes-below .ensures) (c .before .row-lanes .ok) (c .lanes-below .ok) (sym (c .before .before .before .has-end .ensures) ∙ c .before .before .if1 .left)
 
 pub is-first-spec : {M : Type 1} → statement M
 is-first-spec =
-    tie.close
-    (tie.spec has-end-requires returns mul-next-bit add-next-bit next-bit-requires returns-2)
+    tie.close (tie.spec has-end-requires returns row-lanes-requires lanes-below-requires returns-2)

@@ -14,20 +14,19 @@ earlier-mask-requires c κs = search needs
 clear-rows-requires : tie.Need-clear-rows-requires
 clear-rows-requires c κs = search needs
 
+row-words-requires : tie.Need-row-words-requires
+row-words-requires c κs = search needs
+
 group-rows-requires : tie.Need-group-rows-requires
-group-rows-requires c κs = search needs
+group-rows-requires c κs = let r = c .row-words .ensures in (c .before .before .before .before .before .before .before .valuations .ensures .1, r .least, r .most, r .not-three, omega arith)
 
 clear-rows-requires-2 : tie.Need-clear-rows-requires-2
 clear-rows-requires-2 c κs = search needs
 
-bring-rows-requires : tie.Need-bring-rows-requires
-bring-rows-requires c κs = (
-  c .before .before .before .before .before .before .before .before .before .before .before .before .before .before .before .before .before .before .pre .0,
-  (
-    omega (arith, c .before .before .before .clear-rows2 .ensures .same-length),
-    groups-sparse _ _ _ _ _ _ _ _ (c .before .before .before .before .before .before .before .before .before .before .before .before .before .before .valuations .ensures .0) (c .before .before .before .before .before .before .before .before .before .before .before .before .before .before .valuations .ensures .1) (c .before .before .before .before .before .before .before .before .before .before .before .clear-rows .ensures) (c .before .before .before .before .before .before .before .group-rows .ensures) (c .before .before .before .clear-rows2 .ensures),
-  ),
-)
+bring-pairs-requires : tie.Need-bring-pairs-requires
+bring-pairs-requires c κs =
+    let v = c .before .before .before .before .before .before .before .before .before .before .before .before .before .before .before .valuations .ensures in
+    (c .before .before .before .before .before .before .before .before .before .before .before .before .before .before .before .before .before .before .before .pre .0, (omega (arith, c .before .before .before .clear-rows2 .ensures .same-length), groups-sparse _ _ _ _ _ _ _ _ _ (v .0) (v .1) (c .before .before .before .before .before .before .before .before .before .before .before .before .clear-rows .ensures) (c .before .before .before .before .before .before .before .group-rows .ensures) (c .before .before .before .clear-rows2 .ensures)))
 
 clear-rows-requires-3 : tie.Need-clear-rows-requires-3
 clear-rows-requires-3 c κs = search needs
@@ -37,8 +36,9 @@ same-length c = search needs
 
 returns : tie.Need-returns
 returns c = λ ks.
-    rounded-later _ _ (c .before .before .before .before .before .before .before .before .before .before .before .before .before .before .before .before .before .before .before .before .earlier-mask .ensures ks) _ 4 _ (omega (arith, c .before .before .before .before .before .before .before .before .before .before .before .before .before .before .before .before .before .before .before .before .before .valuations .ensures)) (omega (arith, c .before .before .before .before .before .before .before .before .before .before .before .before .before .before .before .before .before .before .before .before .before .valuations .ensures)) _ _ _ _ _ _ _ (c .before .before .before .before .before .before .before .before .before .before .before .before .before .before .before .before .before .before .before .before .before .valuations .ensures .0)
-    (c .before .before .before .before .before .before .before .before .before .before .before .before .before .before .before .before .before .before .clear-rows .ensures) (c .before .before .before .before .before .before .before .before .before .before .before .before .before .before .group-rows .ensures) (c .before .before .before .before .before .before .before .before .before .before .clear-rows2 .ensures) (c .before .before .before .before .before .before .bring-rows .ensures ks) (c .before .before .clear-rows3 .ensures)
+    let v = c .before .before .before .before .before .before .before .before .before .before .before .before .before .before .before .before .before .before .before .before .before .before .valuations .ensures in
+    rounded-later _ _ (c .before .before .before .before .before .before .before .before .before .before .before .before .before .before .before .before .before .before .before .before .before .earlier-mask .ensures ks) _ _ _ (omega (arith, v)) (c .before .before .before .before .before .before .before .before .before .before .before .before .before .before .before .row-words .ensures .under) _ _ _ _ _ _ _ (v .0)
+    (c .before .before .before .before .before .before .before .before .before .before .before .before .before .before .before .before .before .before .before .clear-rows .ensures) (c .before .before .before .before .before .before .before .before .before .before .before .before .before .before .group-rows .ensures) (c .before .before .before .before .before .before .before .before .before .before .clear-rows2 .ensures) (c .before .before .before .before .before .before .bring-pairs .ensures ks) (c .before .before .clear-rows3 .ensures)
 
 pub later-round-spec : {M : Type 1} → statement M
 later-round-spec =
@@ -47,9 +47,10 @@ later-round-spec =
     valuations-requires
     earlier-mask-requires
     clear-rows-requires
+    row-words-requires
     group-rows-requires
     clear-rows-requires-2
-    bring-rows-requires
+    bring-pairs-requires
     clear-rows-requires-3
     same-length
     returns)

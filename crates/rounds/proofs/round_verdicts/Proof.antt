@@ -1,13 +1,18 @@
 -- `rounds::round_verdicts` meets its contract. Assumes nothing.
+use native.Mathlib.Omega.{arith}
 use borrow.Author.Needs.{needs}
-use Prim.Native.Nat.{_+_, _^_, _≤_}
-use lib.Pow.{pow-mono}
 use Rattle.rounds.proofs.VerdictLaws.{told-as, firsts-verdict}
 use Rattle.rounds.proofs.round_verdicts.Statement.{statement}
 use Rattle.rounds.proofs.round_verdicts.Tie as tie
 
+valuations-requires : tie.Need-valuations-requires
+valuations-requires c κs = search needs
+
+row-words-requires : tie.Need-row-words-requires
+row-words-requires c κs = search needs
+
 firsts-requires : tie.Need-firsts-requires
-firsts-requires c κs = search needs
+firsts-requires c κs = (rw (c .before .valuations .ensures .0) (c .row-words .ensures), c .before .before .before .pre .2)
 
 slice-aggregate-verdicts : tie.Need-slice-aggregate-verdicts
 slice-aggregate-verdicts c = search needs
@@ -16,10 +21,17 @@ verdicts-requires : tie.Need-verdicts-requires
 verdicts-requires c κs = search needs
 
 returns : tie.Need-returns
-returns c =
-    let h : 2 ^ (c .before .before .before .before .args .m + c .before .before .before .before .args .n) ≤ 2 ^ 8 = pow-mono (c .before .before .before .before .pre .0) in
-    told-as _ _ _ _ (λ k l. firsts-verdict _ _ _ _ h (c .before .before .firsts .ensures)) (c .verdicts .ensures)
+returns c = λ h.
+    let v = c .before .before .before .before .valuations .ensures .0 in
+    told-as _ _ _ _ (λ k l. firsts-verdict _ _ _ _ _ _ _ v (omega (arith, v, c .before .before .before .row-words .ensures .under)) h (c .before .before .firsts .ensures)) (c .verdicts .ensures)
 
 pub round-verdicts-spec : {M : Type 1} → statement M
 round-verdicts-spec =
-    tie.close (tie.spec firsts-requires slice-aggregate-verdicts verdicts-requires returns)
+    tie.close
+    (tie.spec
+    valuations-requires
+    row-words-requires
+    firsts-requires
+    slice-aggregate-verdicts
+    verdicts-requires
+    returns)

@@ -12,10 +12,10 @@ use Rattle.rounds.proofs.shown.Statement.{statement}
 use Rattle.rounds.proofs.shown.Tie as tie
 
 abbrev Inv-loop : tie.InvT-loop
-Inv-loop f q b j₀ j = (j ≤ 4) × (anyBelow j (shownIn f q b) ≡ false)
+Inv-loop f w q b j₀ j = (j ≤ w) × (anyBelow j (shownIn f q b) ≡ false)
 
 abbrev μ-loop : tie.MeasureT-loop
-μ-loop f q b j₀ j = 4 - j
+μ-loop f w q b j₀ j = w - j
 
 loop-holds : tie.Need-loop-holds Inv-loop μ-loop
 unfolding anyBelow
@@ -37,7 +37,7 @@ returns : tie.Need-returns Inv-loop μ-loop
 returns c =
     let a = c .before .before .before .before .before .before .before .args in
     let j = c .before .before .before .before .before .loop .j in
-    sym (shows-words (a .f .now) (a .q) (a .b) ∙ some-any 4 (shownIn (a .f .now) (a .q) (a .b)) j (c .before .before .before .before .loop-test .taken)
+    sym (shows-words (a .f .now) (a .q) (a .b) (a .w) ∙ some-any (a .w) (shownIn (a .f .now) (a .q) (a .b)) j (c .before .before .before .before .loop-test .taken)
     (shown-word (a .f .now) (a .q) (a .b) j (c .before .before .agree .result) (c .before .shared-slice-known2 .given j .fits) (c .before .before .agree .ok)
     (λ i h. c .before .before .agree .ensures i h ∙ ap (λ (u : Bool). Bool·beq u (a .b)) (c .before .before .before .stream-word .ensures i h)) ∙ ap not (ne-eqb _ _ (c .if1 .taken))))
 
@@ -61,8 +61,8 @@ loop-again c =
 returns-2 : tie.Need-returns-2 Inv-loop μ-loop
 returns-2 c =
     let a = c .before .before .before .args in
-    let e : c .before .loop .j ≡ 4 = omega arith in
-    sym (shows-words (a .f .now) (a .q) (a .b) ∙ ap (λ (k : ℕ). anyBelow k (shownIn (a .f .now) (a .q) (a .b))) (sym e) ∙ c .before .loop .inv .1)
+    let e : c .before .loop .j ≡ a .w = omega arith in
+    sym (shows-words (a .f .now) (a .q) (a .b) (a .w) ∙ ap (λ (k : ℕ). anyBelow k (shownIn (a .f .now) (a .q) (a .b))) (sym e) ∙ c .before .loop .inv .1)
 
 pub shown-spec : {M : Type 1} → statement M
 shown-spec =

@@ -1,7 +1,7 @@
 -- `rounds::verdict` meets its contract. Assumes nothing.
-use borrow.Author.Needs.{needs}
 use mathlib.Core.Path.{sym, _∙_}
 use Rattle.rounds.proofs.VerdictLaws.{verdict-is}
+use borrow.Author.Needs.{needs}
 use Rattle.rounds.proofs.verdict.Statement.{statement}
 use Rattle.rounds.proofs.verdict.Tie as tie
 

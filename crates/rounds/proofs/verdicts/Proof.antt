@@ -11,10 +11,10 @@ use Rattle.rounds.proofs.verdicts.Statement.{statement}
 use Rattle.rounds.proofs.verdicts.Tie as tie
 
 abbrev Inv-loop : tie.InvT-loop
-Inv-loop f m n vs₀ k₀ vs k = Telling n (λ k. verdictOf (shows f (m + k) true) (shows f (m + k) false)) vs k
+Inv-loop f w m n vs₀ k₀ vs k = Telling n (λ k. verdictOf (shows w f (m + k) true) (shows w f (m + k) false)) vs k
 
 abbrev μ-loop : tie.MeasureT-loop
-μ-loop f m n vs₀ k₀ vs k = n - k
+μ-loop f w m n vs₀ k₀ vs k = n - k
 
 loop-holds : tie.Need-loop-holds Inv-loop μ-loop
 loop-holds c = telling-none _ _
@@ -35,8 +35,10 @@ loop-less : tie.Need-loop-less Inv-loop μ-loop
 loop-less c = search needs
 
 loop-again : tie.Need-loop-again Inv-loop μ-loop
-loop-again c = telling-more _ _ _ _ _ (c .before .before .loop-test .taken) (c .before .before .before .before .before .pre .1) (c .before .before .before .loop .inv)
-    (c .verdict .ensures ∙ ap (λ (q : ℕ). verdictNo (verdictOf (shows (c .before .before .before .before .before .args .f .now) q true) (shows (c .before .before .before .before .before .args .f .now) q false))) (c .before .output-stream .ensures))
+loop-again c =
+    let a = c .before .before .before .before .before .args in
+    telling-more _ _ _ _ _ (c .before .before .loop-test .taken) (c .before .before .before .before .before .pre .2) (c .before .before .before .loop .inv)
+    (c .verdict .ensures ∙ ap (λ (q : ℕ). verdictNo (verdictOf (shows (a .w) (a .f .now) q true) (shows (a .w) (a .f .now) q false))) (c .before .output-stream .ensures))
 
 returns : tie.Need-returns Inv-loop μ-loop
 returns c = telling-all _ _ _ _ (c .loop-test .left) (c .before .loop .inv)

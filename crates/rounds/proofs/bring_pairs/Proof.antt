@@ -1,0 +1,54 @@
+-- `rounds::bring_pairs` meets its contract. Assumes nothing.
+use native.Mathlib.Omega.{arith}
+use borrow.Author.Needs.{needs}
+use Prim.Native.Nat.{_+_, _^_, _<_, _≤_}
+use Rattle.rounds.proofs.RowLaws.{room-one, room-four}
+use Rattle.rounds.proofs.bring_pairs.Statement.{statement}
+use Rattle.rounds.proofs.bring_pairs.Tie as tie
+
+valuations-requires : tie.Need-valuations-requires
+valuations-requires c κs = search needs
+
+slice-aggregate-bring-rows : tie.Need-slice-aggregate-bring-rows
+slice-aggregate-bring-rows c = search needs
+
+bring-rows-requires : tie.Need-bring-rows-requires
+bring-rows-requires c κs =
+    let a = c .before .before .before .before .before .before .before .args in
+    let h : 2 ^ (a .m + a .n) ≤ 64 = omega (arith, c .before .before .before .valuations .ensures .0) in
+    (c .before .before .before .before .before .before .before .pre .0, (omega (arith, room-one _ h), c .before .before .before .before .before .before .before .pre .1 .0, c .before .before .before .before .before .before .before .pre .1 .1))
+
+same-length : tie.Need-same-length
+same-length c = search needs
+
+returns : tie.Need-returns
+returns c = λ ks. c .before .before .before .bring-rows .ensures ks
+
+slice-aggregate-bring-rows-2 : tie.Need-slice-aggregate-bring-rows-2
+slice-aggregate-bring-rows-2 c = search needs
+
+bring-rows-requires-2 : tie.Need-bring-rows-requires-2
+bring-rows-requires-2 c κs =
+    let a = c .before .before .before .before .before .before .before .args in
+    let h : 64 < 2 ^ (a .m + a .n) = omega (arith, c .before .before .before .valuations .ensures .0) in
+    (c .before .before .before .before .before .before .before .pre .0, (omega (arith, room-four _ h), c .before .before .before .before .before .before .before .pre .1 .0, c .before .before .before .before .before .before .before .pre .1 .1))
+
+same-length-2 : tie.Need-same-length-2
+same-length-2 c = search needs
+
+returns-2 : tie.Need-returns-2
+returns-2 c = λ ks. c .before .before .before .bring-rows2 .ensures ks
+
+pub bring-pairs-spec : {M : Type 1} → statement M
+bring-pairs-spec =
+    tie.close
+    (tie.spec
+    valuations-requires
+    slice-aggregate-bring-rows
+    bring-rows-requires
+    same-length
+    returns
+    slice-aggregate-bring-rows-2
+    bring-rows-requires-2
+    same-length-2
+    returns-2)

@@ -1,7 +1,7 @@
 -- A trace as a list of valuations, and as values by output and round: a list satisfies all equations exactly if its values solve them.
 -- Assumes nothing.
 use mathlib.Core.Path.{_≡_, refl, sym, ap, ap₂, _∙_, subst}
-use Prim.Native.Nat.{ℕ, zero, suc, _+_, _-_, _*_, _/_, _%_, _^_, _≤_, _<_}
+use Prim.Native.Nat.{ℕ, zero, suc, _+_, _-_, _*_, _%_, _^_, _≤_, _<_}
 use native.Mathlib.Nat.{zero-mod}
 use native.Mathlib.Omega.{arith}
 use mathlib.Core.Bool.{Bool, true, false, cond, _&&_, Bool·beq}
@@ -12,7 +12,7 @@ use lib.Seq.{drop-cons}
 use lib.Dec.{leb, ltb, T}
 use borrow.Author.Tests.{ltb-true, ltb-false, leb-true, leb-false, le-leb}
 use Rattle.words.specs.Bits.{bit}
-use Rattle.words.proofs.JoinLaws.{bit-of-low, bit-above, join-mod, join-parts, join-lt}
+use Rattle.words.proofs.JoinLaws.{bit-of-low, bit-above, join-mod, join-lt}
 use Rattle.sheet.specs.Expression.{Expr, constant}
 use Rattle.sheet.specs.RuleSheet.{RuleSheet, outputs, streams}
 use Rattle.sheet.specs.declared.Offset.{Offset}

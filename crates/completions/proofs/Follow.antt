@@ -1,6 +1,5 @@
 -- What `Follows` and `Agrees` say at a place of the list, and lists put together at a place.
-use mathlib.Core.Bool.{Bool, true, false}
-use mathlib.Core.Path.{_≡_, refl, sym, ap, subst, _∙_}
+use mathlib.Core.Path.{_≡_, refl, sym, ap}
 use mathlib.Core.List.{List, [], _∷_, _++_}
 use mathlib.Core.Option.{Option, none, some}
 use Prim.Native.Nat.{ℕ, zero, suc, _≤_}
@@ -9,7 +8,7 @@ use lib.ListN.{length, getElem?, take}
 use native.Mathlib.Omega.{arith}
 use Rattle.sheet.specs.RuleSheet.{RuleSheet}
 use Rattle.lola.specs.Equations.{holds, first}
-use Rattle.completions.specs.Live.{allowed, Follows, Live}
+use Rattle.completions.specs.Live.{Follows, Live}
 use Rattle.completions.proofs.Runs.{Round, Agrees}
 
 pub nothing : {b : ℕ} → none ≡ some b → ⊥

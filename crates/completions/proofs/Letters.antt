@@ -1,21 +1,20 @@
 -- A verdict over completions, which are lists of letters, is the verdict over runs, which are lists of valuations.
-use mathlib.Core.Bool.{Bool, _&&_}
-use mathlib.Core.Path.{_≡_, refl, sym, ap, subst, _∙_}
-use mathlib.Core.Logic.{_↔_}
+use mathlib.Core.Bool.{Bool}
+use mathlib.Core.Path.{refl, sym, ap, _∙_}
 use mathlib.Core.List.{List, [], _∷_, map}
 use mathlib.Core.Option.{Option, none, some}
-use Prim.Native.Nat.{ℕ, _^_, _<_, _≤_}
+use Prim.Native.Nat.{ℕ, _^_}
 use native.Mathlib.Nat.{mod-lt}
 use native.Mathlib.Omega.{arith}
-use lib.Dec.{T, ltb, ltb→lt, lt→ltb}
+use lib.Dec.{ltb, ltb→lt, lt→ltb}
 use lib.ListN.{length, length-map}
 use lib.Pow.{pow-pos}
 use Rattle.refusal.specs.declared.Verdict.{Verdict}
 use Rattle.sheet.specs.RuleSheet.{RuleSheet, streams}
-use Rattle.lola.specs.Equations.{holds, first, output, Satisfies, Letters, letter}
+use Rattle.lola.specs.Equations.{Satisfies, Letters, letter}
 use Rattle.completions.specs.Live.{assumed, allowed, Follows}
 use Rattle.completions.specs.Completion.{LetterSet, Match, Keeps, Completion, Closing}
-use Rattle.completions.specs.Judged.{Judged, inRound, RoundVerdict, ClosingVerdict}
+use Rattle.completions.specs.Judged.{Judged, inRound}
 use Rattle.completions.proofs.Runs.{Round, Agrees, Run, EndedRun}
 use Rattle.completions.proofs.Tests.{and-left, and-right, and-both}
 use Rattle.completions.proofs.Verdicts.{judged-as}

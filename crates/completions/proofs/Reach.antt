@@ -1,17 +1,15 @@
 -- The pairs reached after one round, and after one round more: the two rules that a round of the monitor follows.
-use mathlib.Core.Path.{_≡_, refl, sym, ap, subst, _∙_}
+use mathlib.Core.Path.{_≡_, refl, sym, _∙_}
 use mathlib.Core.Logic.{_↔_}
 use mathlib.Core.List.{List, [], _∷_, _++_}
 use mathlib.Core.Option.{Option, none, some}
-use Prim.Native.Nat.{ℕ, zero, suc, pred, _≤_}
-use lib.Dec.{T}
+use Prim.Native.Nat.{ℕ, zero, suc, _≤_}
 use lib.ListN.{length, getElem?, take}
 use native.Mathlib.Omega.{arith}
 use Rattle.sheet.specs.RuleSheet.{RuleSheet}
-use Rattle.lola.specs.Equations.{holds, first}
-use Rattle.completions.specs.Live.{allowed, Follows, Live}
-use Rattle.completions.proofs.Runs.{Round, Agrees, Run, Reached, StartsAt, StepsTo}
-use Rattle.completions.proofs.Follow.{nothing, same-some, first-is, length-snoc, before, at-first, at-later, live-at, graft, agrees-less, agrees-last, agrees-more, spliced-here, spliced-next}
+use Rattle.completions.specs.Live.{Follows, Live}
+use Rattle.completions.proofs.Runs.{Round, Agrees, Reached, StartsAt, StepsTo}
+use Rattle.completions.proofs.Follow.{first-is, length-snoc, before, at-first, at-later, live-at, graft, agrees-less, agrees-last, agrees-more, spliced-here, spliced-next}
 
 nonempty : (xs : List ℕ) (b : ℕ) (ys : List ℕ) → 1 ≤ length (xs ++ b ∷ ys)
 nonempty [] b ys = omega arith

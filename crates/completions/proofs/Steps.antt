@@ -1,18 +1,15 @@
 -- The monitor's steps on sets keep exactly the reached pairs, whatever the list of rounds.
-use mathlib.Core.Bool.{Bool, true, false, not, _&&_}
-use mathlib.Core.Logic.{_↔_}
-use mathlib.Core.Path.{_≡_, refl, sym, ap, subst, _∙_}
-use mathlib.Core.List.{List, [], _∷_, _++_, append-nil}
-use mathlib.Core.Option.{Option, none, some}
-use Prim.Native.Nat.{ℕ, zero, suc, _^_, _≤_, _<_}
+use mathlib.Core.Bool.{Bool, _&&_}
+use mathlib.Core.List.{List, [], _∷_, _++_}
+use mathlib.Core.Option.{none, some}
+use Prim.Native.Nat.{ℕ, _^_, _≤_, _<_}
 use lib.Dec.{T}
-use lib.Seq.{append-snoc}
 use Rattle.sheet.specs.RuleSheet.{RuleSheet, streams}
-use Rattle.lola.specs.Equations.{holds, output}
+use Rattle.lola.specs.Equations.{holds}
 use Rattle.completions.proofs.Runs.{Round, Reached, StartsAt, StepsTo}
 use Rattle.completions.specs.Live.{Live, Pairs}
 use Rattle.words.specs.Below.{anyBelow}
-use Rattle.completions.specs.Steps.{Within, Represents, startSet, stepSet, pairsVerdict, endsVerdict}
+use Rattle.completions.specs.Steps.{Represents, startSet, stepSet}
 use Rattle.completions.proofs.Tests.{and-left, and-right, and-both}
 use Rattle.completions.proofs.Range.{live-within}
 use Rattle.completions.proofs.Reach.{reached-live, first-rule, next-rule}

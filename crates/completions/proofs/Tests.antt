@@ -44,4 +44,3 @@ not-fails false f = tt
 pub true-of : (b : Bool) → T b → b ≡ true
 true-of true t = refl
 true-of false t = absurd t
-

@@ -1,14 +1,13 @@
 -- One verdict is right on a test of traces, and it is the one that is worked out: from two facts, and from a set of pairs.
 use mathlib.Core.Bool.{Bool, true, false, not, _&&_}
 use mathlib.Core.Logic.{_⊎_, inl, inr, _↔_}
-use mathlib.Core.Path.{_≡_, refl, sym, ap, subst, _∙_}
+use mathlib.Core.Path.{_≡_, refl, sym, ap}
 use mathlib.Core.List.{List, [], _∷_}
 use mathlib.Core.Option.{Option, none, some}
 use Prim.Native.Nat.{ℕ, zero, suc, _^_, _≤_, _<_}
 use lib.Dec.{T}
 use lib.ListN.{length, getElem?, getD}
 use Rattle.sheet.specs.RuleSheet.{RuleSheet, streams}
-use Rattle.lola.specs.Equations.{output}
 use Rattle.completions.proofs.Runs.{Round, Agrees, Run, Reached, EndedRun}
 use Rattle.words.specs.Below.{anyBelow}
 use Rattle.completions.specs.Steps.{anyPair, Within, Represents, verdictOf, pairsVerdict, endsVerdict}

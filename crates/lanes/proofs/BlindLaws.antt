@@ -1,9 +1,9 @@
 -- The equations see of the round before only the streams that some expression reads there. Assumes nothing.
 use mathlib.Core.Path.{_≡_, refl, sym, ap, ap₂, _∙_}
 use mathlib.Core.Bool.{Bool, true, false, cond, not, _&&_, _||_, and-false}
-use mathlib.Core.List.{List, [], _∷_}
+use mathlib.Core.List.{List, []}
 use mathlib.Core.Option.{Option, some}
-use Prim.Native.Nat.{ℕ, zero, suc, _+_, _-_, _*_, _%_, _^_, _≤_, _<_}
+use Prim.Native.Nat.{ℕ, suc, _+_, _-_, _*_, _%_, _^_, _≤_, _<_}
 use native.Mathlib.Omega.{arith}
 use native.Mathlib.Numerals.{add-one}
 use native.Mathlib.Decide.{ℕ-discrete, decLt}
@@ -11,19 +11,17 @@ use lib.Bits.{bitAnd, bitOr}
 use lib.Dec.{eqb, leb, ltb}
 use lib.ListN.{length, getD, drop, drop-of-length-le}
 use lib.Seq.{drop-cons}
-use borrow.Author.Tests.{eq-eqb, ne-eqb, leb-true, ltb-true, le-leb, lt-leb, lt-ltb, le-ltb}
+use borrow.Author.Tests.{eq-eqb, ne-eqb, leb-true, ltb-true, le-leb, lt-ltb}
 use Rattle.words.specs.Bits.{bit}
 use Rattle.words.proofs.BitLaws.{bit-and, bit-or, bit-none, bit-shl}
 use Rattle.sheet.specs.Bytes.{opOf, readsOf, readOf, within}
 use Rattle.sheet.specs.Expression.{Expr, constant, negation, conjunction, disjunction, read, parse, tree}
-use Rattle.sheet.specs.Reading.{treeOf, codeAt, treesOf}
-use Rattle.sheet.specs.declared.StreamNo.{StreamNo}
+use Rattle.sheet.specs.Reading.{treeOf, codeAt}
 use Rattle.sheet.specs.declared.Offset.the-variants.{Earlier, Now, Later}
 use Rattle.sheet.specs.declared.Op.{Op}
-use Rattle.sheet.specs.declared.Op.the-variants.{Const, Not, And, Or, Read, Rejected}
 use Rattle.sheet.proofs.Ops.{is-earlier-false, is-earlier-true}
 use Rattle.lola.specs.Value.{value, near, neighbours}
-use Rattle.lola.specs.Reads.{place, hasRead}
+use Rattle.lola.specs.Reads.{hasRead}
 use Rattle.lola.specs.Equations.{holds}
 use Rattle.lola.specs.ByteReads.{opReads, bytesRead}
 use Rattle.lola.proofs.TreeReads.{tree-reads}

@@ -1,7 +1,7 @@
 // Expressions evaluated in 64 lanes at once, or in four words of 64. What the expressions read is one word, bit byte - 0x40 for the read byte;
 // the reads of one family, one round earlier or one round later, are of the lane's own valuation instead.
 ghost use mathlib.Core.Path.{_≡_};
-ghost use mathlib.Core.Bool.{Bool, true, false, not, Bool·beq, _&&_};
+ghost use mathlib.Core.Bool.{true, false, not, Bool·beq, _&&_};
 ghost use mathlib.Core.List.{List, []};
 ghost use mathlib.Core.Option.{Option, none, some};
 ghost use Prim.Native.Nat.{ℕ, _+_, _*_, _%_, _<_, _≤_};

@@ -11,7 +11,7 @@ use lib.Dec.{eqb, leb}
 use lib.Pow.{pow-pos, pow-mono, mod-mod-pow}
 use borrow.Author.Tests.{eq-eqb, ne-eqb, eqb-true, leb-false}
 use Rattle.words.specs.Bits.{bit}
-use Rattle.words.proofs.BitLaws.{bit-and, bit-high, bits-ext}
+use Rattle.words.proofs.BitLaws.{bit-and, bits-ext}
 use Rattle.completions.specs.Completion.{masked}
 use Rattle.letters.specs.Masks.{badMasks}
 use Rattle.letters.specs.Matching.{agrees, matches}

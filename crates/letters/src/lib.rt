@@ -1,6 +1,6 @@
 // A round's set of letters, made from its masks: bit l of the word is letter l.
 ghost use mathlib.Core.Path.{_≡_};
-ghost use mathlib.Core.Bool.{Bool, _&&_};
+ghost use mathlib.Core.Bool.{_&&_};
 ghost use Prim.Native.Nat.{ℕ, _<_, _≤_};
 ghost use Rattle.words.specs.Bits.{bit};
 ghost use Rattle.letters.specs.Masks.{badMasks};

@@ -3,7 +3,6 @@ use mathlib.Core.Bool.{Bool, cond, _&&_}
 use Prim.Native.Nat.{ℕ, suc, _+_, _-_}
 use lib.Dec.{leb, ltb}
 use Rattle.sheet.specs.Expression.{Expr}
-use Rattle.sheet.specs.declared.Offset.{Offset}
 use Rattle.lola.specs.Value.{Look, value}
 use Rattle.lola.specs.Reads.{place}
 

@@ -5,7 +5,7 @@ use mathlib.Core.Bool.{Bool, true, false, cond, _&&_, _||_}
 use mathlib.Core.List.{List, [], _∷_}
 use lib.Dec.{eqb, ltb}
 use Rattle.sheet.specs.Bytes.{opOf}
-use Rattle.sheet.specs.Expression.{Expr, constant, negation, conjunction, disjunction, read, Next, stack, breaks, Parsed, tree, broken, applyOp, final, go-on, parse}
+use Rattle.sheet.specs.Expression.{Expr, read, Next, stack, breaks, Parsed, tree, broken, applyOp, final, go-on, parse}
 use Rattle.refusal.specs.declared.Refusal.the-variants.{Byte}
 use Rattle.sheet.specs.declared.Op.{Op}
 use Rattle.sheet.specs.declared.Op.the-variants.{Const, Not, And, Or, Read, Rejected}

@@ -1,8 +1,8 @@
 -- An entry's checks: the sheet's own, then the call's.
 use mathlib.Core.Bool.{Bool}
-use mathlib.Core.Path.{_≡_, refl, sym, ap, _∙_, subst}
-use mathlib.Core.List.{List, [], _∷_, _++_, map}
-use Prim.Native.Nat.{ℕ, zero, suc, _+_}
+use mathlib.Core.Path.{_≡_, refl, sym, _∙_, subst}
+use mathlib.Core.List.{List, map}
+use Prim.Native.Nat.{ℕ, zero, suc}
 use native.Mathlib.Omega.{arith}
 use Rattle.refusal.specs.declared.Refusal.{Refusal}
 use Rattle.refusal.specs.declared.Outcome.{Outcome}
@@ -18,7 +18,7 @@ use Rattle.circular.specs.Checks.{AcceptedSheet}
 use Rattle.circular.specs.Checks as sheets
 use Rattle.completions.specs.Live.{Pairs}
 use Rattle.completions.specs.Steps.{startSet, stepSet}
-use Rattle.monitor.specs.Checks.{CallCheck, callRule, Given, CallBroken, EntryCheck, sheet, call, rule, Broken, entryChecks}
+use Rattle.monitor.specs.Checks.{CallCheck, callRule, Given, CallBroken, sheet, call, rule, Broken, entryChecks}
 use Rattle.record.specs.declared.JournalRecord.{JournalRecord}
 use Rattle.monitor.specs.declared.PrepareAnswer.{PrepareAnswer}
 use Rattle.monitor.specs.declared.RoundAnswer.{RoundAnswer}

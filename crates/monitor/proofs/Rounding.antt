@@ -1,26 +1,22 @@
 -- From what a step leaves in the storage to what a round is defined to do.
-use mathlib.Core.Path.{_≡_, refl, sym, ap, ap₂, _∙_, subst, fun-ext}
-use mathlib.Core.Bool.{Bool, true, false, cond, not, _&&_, _||_}
+use mathlib.Core.Path.{_≡_, ap, ap₂, _∙_, fun-ext}
+use mathlib.Core.Bool.{Bool, false, cond, not, _&&_, _||_}
 use mathlib.Core.List.{List}
 use mathlib.Core.Option.{Option, none, some}
-use Prim.Native.Nat.{ℕ, zero, suc, _+_, _*_, _%_, _^_, _<_, _≤_}
+use Prim.Native.Nat.{ℕ, zero, suc, _+_, _%_, _^_, _<_, _≤_}
 use native.Mathlib.Omega.{arith}
-use lib.Dec.{ltb}
-use lib.ListN.{length, getD}
 use borrow.Author.Tests.{lt-ltb}
 use Rattle.words.specs.Bits.{bit}
 use Rattle.words.specs.Below.{anyBelow}
 use Rattle.words.proofs.AnyLaws.{any-cong}
-use Rattle.refusal.specs.declared.Verdict.{Verdict}
-use Rattle.refusal.specs.Numbers.{verdictNo}
-use Rattle.sheet.specs.RuleSheet.{RuleSheet, outputs, streams}
-use Rattle.sheet.specs.Reading.{ruleSheet, Usable}
+use Rattle.sheet.specs.RuleSheet.{RuleSheet, outputs}
+use Rattle.sheet.specs.Reading.{ruleSheet}
 use Rattle.sheet.specs.declared.Sheet.{Sheet}
 use Rattle.sheet.proofs.Sheets.{length-trees}
 use Rattle.lola.specs.Equations.{holds}
 use Rattle.completions.specs.Live.{Pairs}
 use Rattle.completions.specs.Completion.{masked}
-use Rattle.completions.specs.Steps.{Within, startSet, stepSet, anyNext, anyPair, verdictOf, pairsVerdict, endsVerdict}
+use Rattle.completions.specs.Steps.{Within, startSet, stepSet, anyNext, anyPair, verdictOf, pairsVerdict}
 use Rattle.letters.specs.Masks.{badMasks}
 use Rattle.letters.specs.Matching.{matches}
 use Rattle.letters.proofs.Matching.{valid, matches-masked, masked-low}
@@ -30,7 +26,7 @@ use Rattle.pairs.proofs.Sets.{used-below}
 use Rattle.rounds.specs.Rows.{among}
 use Rattle.rounds.specs.Round.{Rounded}
 use Rattle.rounds.specs.Firsts.{Passing}
-use Rattle.monitor.specs.Results.{width, heard, nextSet, within, below}
+use Rattle.monitor.specs.Results.{width, heard, nextSet, within}
 
 -- ---- the sheet's numbers
 

@@ -1,9 +1,9 @@
 // Preparation, rounds and closing of a journal. Each takes the bytes of the sheet, or, with `_read` in its name, the sheet already read, so that
 // a long journal reads it once.
 ghost use mathlib.Core.Path.{_≡_};
-ghost use mathlib.Core.Bool.{true, false};
+ghost use mathlib.Core.Bool.{true};
 ghost use Prim.Native.Nat.{ℕ, _+_, _*_, _^_, _<_, _≤_};
-ghost use lib.ListN.{length, getD, replicate};
+ghost use lib.ListN.{length, replicate};
 ghost use Rattle.refusal.specs.Decided.{Decided};
 ghost use Rattle.record.specs.Record.{Fresh, recordOk};
 ghost use Rattle.monitor.specs.Checks.{callRule, CallBroken, roundChecks, closingChecks};
@@ -11,8 +11,6 @@ ghost use Rattle.monitor.specs.Steps.{given, RoundReady, ClosingReady, S
 ghost use Rattle.sheet.specs.Reading.{whenAccepted};
 ghost use mathlib.Core.List.{List};
 ghost use Rattle.sheet.specs.Reading.{ruleSheet, Usable};
-ghost use Rattle.completions.specs.Steps.{pairsVerdict};
-ghost use Rattle.letters.specs.Masks.{badMasks};
 ghost use Rattle.pairs.specs.Storage.{stored};
 ghost use Rattle.lanes.specs.Coded.{Coded, sheetOf};
 ghost use Rattle.rounds.specs.Rows.{among};

@@ -1,16 +1,16 @@
 // Preparation: finds the live pairs of a sheet, layer by layer backward from the end.
 ghost use mathlib.Core.Path.{_≡_};
-ghost use mathlib.Core.Bool.{Bool, true, false, not, _&&_, _||_};
+ghost use mathlib.Core.Bool.{true, false, not, _&&_};
 ghost use mathlib.Core.List.{List};
 ghost use mathlib.Core.Option.{Option, none, some};
 ghost use lib.Dec.{eqb, ltb};
-ghost use lib.ListN.{length, getD};
+ghost use lib.ListN.{length};
 ghost use Prim.Native.Nat.{ℕ, _+_, _*_, _^_, _<_, _≤_};
 ghost use Rattle.words.specs.Bits.{bit};
 ghost use Rattle.words.specs.Below.{anyBelow};
 ghost use Rattle.sheet.specs.RuleSheet.{requiredOf};
 ghost use Rattle.sheet.specs.Reading.{Below};
-ghost use Rattle.completions.specs.Live.{Pairs, allowed};
+ghost use Rattle.completions.specs.Live.{allowed};
 ghost use Rattle.pairs.specs.Storage.{stored};
 ghost use Rattle.pairs.specs.Changes.{eqNext, rowBit};
 ghost use Rattle.lola.specs.Equations.{holds};

@@ -1,6 +1,6 @@
 -- Laws of the tallies.
-use mathlib.Core.Path.{_≡_, refl, sym, ap, ap₂, _∙_, subst}
-use mathlib.Core.Bool.{Bool, true, false, cond, _&&_, and-false, true≢false, false≢true}
+use mathlib.Core.Path.{_≡_, refl, sym, ap, _∙_, subst}
+use mathlib.Core.Bool.{Bool, true, false, _&&_, and-false, false≢true}
 use mathlib.Core.List.{List}
 use Prim.Native.Nat.{ℕ, zero, suc, _+_, _*_, _/_, _-_, _<_, _≤_}
 use native.Mathlib.Omega.{arith}
@@ -15,7 +15,7 @@ use Rattle.words.specs.Below.{one}
 use Rattle.refusal.specs.declared.Verdict.{Verdict}
 use Rattle.refusal.specs.declared.Verdict.the-variants.{False, True, Open, Broken}
 use Rattle.refusal.specs.Numbers.{verdictNo}
-use Rattle.record.specs.Record.{column, countAt, sumAt, addUp, recordOk, share, Counted}
+use Rattle.record.specs.Record.{column, countAt, sumAt, addUp, recordOk, Counted}
 use Rattle.record.specs.Columns.{columnNo, AreVerdicts, Countable}
 use Rattle.record.specs.declared.JournalRecord.{JournalRecord}
 

@@ -1,8 +1,8 @@
 // The journal record: how many rounds were accepted, whether the journal is closed, and per output how many rounds had each verdict.
 ghost use mathlib.Core.Path.{_≡_};
-ghost use mathlib.Core.Bool.{Bool, true};
-ghost use Prim.Native.Nat.{ℕ, _+_, _*_, _<_, _≤_};
-ghost use lib.ListN.{length, getD};
+ghost use mathlib.Core.Bool.{true};
+ghost use Prim.Native.Nat.{_+_, _*_, _<_, _≤_};
+ghost use lib.ListN.{length};
 ghost use Rattle.record.specs.Record.{Fresh, recordOk, sumAt, Counted, share};
 ghost use Rattle.record.specs.Columns.{columnNo, Countable, AreVerdicts};
 

@@ -7,15 +7,13 @@ use mathlib.Core.Bool.{Bool, true, false, cond}
 use mathlib.Core.List.{List, [], _∷_}
 use lib.ListN.{length, drop, getD}
 use lib.Seq.{drop-cons, drop-length}
-use lib.Dec.{ltb, eqb}
-use borrow.Author.Tests.{lt-ltb, le-ltb, ne-eqb}
-use mathlib.Core.Logic.{_↔_}
+use lib.Dec.{ltb}
+use borrow.Author.Tests.{le-ltb}
 use Rattle.refusal.specs.declared.Outcome.{Outcome}
 use Rattle.refusal.specs.declared.Outcome.the-variants as outcome
 use Rattle.sheet.specs.Bytes.{opOf}
-use Rattle.sheet.specs.Expression.{Expr, Next, stack, breaks, Parsed, tree, broken, applyOp, final, go-on, parse, outcomeOf}
+use Rattle.sheet.specs.Expression.{Expr, Next, stack, breaks, tree, broken, applyOp, final, go-on, parse}
 use Rattle.sheet.specs.Depth.{depthAfter}
-use Rattle.sheet.specs.declared.StreamNo.{StreamNo}
 use Rattle.sheet.specs.declared.Op.{Op}
 use Rattle.sheet.specs.declared.Op.the-variants.{Const, Not, And, Or, Read, Rejected}
 use Rattle.refusal.specs.declared.Refusal.{Refusal}

@@ -4,25 +4,22 @@ use native.Mathlib.Omega.{arith}
 use native.Mathlib.Numerals.{add-one}
 use mathlib.Core.Path.{_≡_, refl, sym, ap, _∙_, subst}
 use mathlib.Core.Logic.{⊎-elim}
-use mathlib.Core.Bool.{Bool, true, false, cond, not, _&&_, _||_, and-false, false≢true}
-use mathlib.Core.List.{List, [], _∷_, _++_, append-assoc, List·Memᴰ, List·Memᴰ·not-nil, List·Memᴰ·cases-cons}
-use lib.ListN.{length, take, drop, getD, length-drop, length-take, drop-of-length-le}
-use lib.Seq.{drop-cons, drop-drop, take-suc, take-all, length-take-le, drop-length, take-length}
+use mathlib.Core.Bool.{Bool, true, false, cond, not, _&&_, _||_, false≢true}
+use mathlib.Core.List.{List, [], _∷_, _++_, append-assoc, List·Memᴰ·not-nil, List·Memᴰ·cases-cons}
+use lib.ListN.{length, take, drop, getD, length-drop, drop-of-length-le}
+use lib.Seq.{drop-cons, drop-drop, take-suc, length-take-le, drop-length, take-length}
 use lib.Dec.{leb, ltb, eqb}
-use borrow.Author.Tests.{le-ltb, lt-ltb, le-leb, lt-leb, eq-eqb, ne-eqb, ltb-true, ltb-false, leb-true, leb-false}
+use borrow.Author.Tests.{le-ltb, lt-ltb, le-leb, lt-leb, ne-eqb, ltb-true, ltb-false, leb-true, leb-false}
 use Rattle.sheet.specs.Bytes.{opOf}
-use Rattle.sheet.specs.Expression.{Expr, Next, stack, Parsed, tree, broken, applyOp, final, go-on, parse}
+use Rattle.sheet.specs.Expression.{Expr, stack, Parsed, tree, broken, applyOp, final, parse}
 use Rattle.sheet.specs.Expression
 use Rattle.sheet.specs.Header.{markOk, versionOf, countsOk, assumedAt, fieldsOf, headerOf}
-use Rattle.sheet.specs.RuleSheet.{RuleSheet, Reading, refused, accepted, Outputs, trees, breaks, lengthOk, after, andThen, readOutputs, withOutputs, withHeader, readSheet}
-use Rattle.sheet.specs.Checks.{Check, short, mark, version, counts, assumption, size, byte, values, end, leftover, rule, inputsOf, outputsOf, placeOf, sizeOf, expressionOf, known, needs, heightFrom, broken?, Broken, byteChecks, outputChecks, checksOf}
-use Rattle.refusal.specs.Decided.{First, Decided}
-use Rattle.sheet.specs.declared.StreamNo.{StreamNo}
+use Rattle.sheet.specs.RuleSheet.{Reading, refused, accepted, Outputs, trees, breaks, lengthOk, after, andThen, readOutputs, withOutputs, withHeader, readSheet}
+use Rattle.sheet.specs.Checks.{Check, size, end, leftover, rule, inputsOf, outputsOf, placeOf, sizeOf, expressionOf, known, needs, heightFrom, broken?, Broken, byteChecks, outputChecks, checksOf}
+use Rattle.refusal.specs.Decided.{Decided}
 use Rattle.sheet.specs.declared.Op.{Op}
 use Rattle.sheet.specs.declared.Op.the-variants.{Const, Not, And, Or, Read, Rejected}
-use Rattle.refusal.specs.declared.Refusal.{Refusal}
 use Rattle.refusal.specs.declared.Refusal.the-variants.{Short, Mark, Version, Counts, Assumption}
-use Rattle.sheet.specs.declared.OutputNo.{OutputNo}
 use Rattle.sheet.specs.declared.Assumed.{Assumed}
 use Rattle.sheet.specs.declared.Assumed.the-variants.{Nothing, Output}
 use Rattle.sheet.specs.declared.AssumedRead.the-variants as assumed

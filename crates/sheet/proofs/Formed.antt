@@ -1,6 +1,6 @@
 -- What holds of every sheet that is read: its counts are in range, and its reads are of its own streams. Assumes nothing.
 use mathlib.Core.Path.{_≡_, refl, sym, ap, _∙_, subst}
-use Prim.Native.Nat.{ℕ, zero, suc, _+_, _≤_, _<_}
+use Prim.Native.Nat.{ℕ, zero, suc, _+_, _<_}
 use native.Mathlib.Omega.{arith}
 use mathlib.Core.Bool.{Bool, true, false, cond}
 use mathlib.Core.List.{List, [], _∷_}
@@ -8,7 +8,7 @@ use lib.ListN.{length, getD, take, drop}
 use Rattle.refusal.specs.declared.Refusal.the-variants.{Length}
 use Rattle.sheet.specs.Expression.{Expr, constant, Parsed, tree, broken, parse}
 use Rattle.sheet.specs.Header.{headerOf}
-use Rattle.sheet.specs.RuleSheet.{RuleSheet, outputs, streams, Reading, refused, accepted, Outputs, trees, breaks, lengthOk, andThen, readOutputs, withOutputs, withHeader, readSheet, requiredOf}
+use Rattle.sheet.specs.RuleSheet.{RuleSheet, outputs, streams, accepted, Outputs, trees, breaks, lengthOk, andThen, readOutputs, withOutputs, withHeader, readSheet, requiredOf}
 use Rattle.sheet.specs.Reading.{ruleSheet, treeOf, codeAt, Usable, Ranges}
 use Rattle.sheet.specs.Postfix.{InSheet}
 use Rattle.sheet.specs.declared.Sheet.{Sheet}

@@ -1,7 +1,7 @@
 -- What a header that reads well tells. Assumes nothing.
-use Prim.Native.Nat.{ℕ, _+_, _≤_, _<_}
+use Prim.Native.Nat.{ℕ, _+_, _≤_}
 use native.Mathlib.Omega.{arith}
-use mathlib.Core.Path.{_≡_, refl, sym, ap, _∙_, subst}
+use mathlib.Core.Path.{_≡_, refl, subst}
 use mathlib.Core.Bool.{Bool, true, false, cond, _&&_}
 use mathlib.Core.List.{List}
 use lib.ListN.{length, getD}
@@ -10,14 +10,11 @@ use borrow.Author.Tests.{leb-true, ltb-true, ltb-false}
 use Rattle.sheet.specs.Header.{markOk, versionOf, countsOk, assumedAt, fieldsOf, headerOf}
 use Rattle.sheet.specs.Reading.{Ranges, Below}
 use Rattle.sheet.proofs.Sheets.{and-split}
-use Rattle.refusal.specs.declared.Refusal.{Refusal}
 use Rattle.refusal.specs.declared.Refusal.the-variants.{Short, Mark, Version, Counts, Assumption}
-use Rattle.sheet.specs.declared.OutputNo.{OutputNo}
 use Rattle.sheet.specs.declared.Assumed.{Assumed}
 use Rattle.sheet.specs.declared.Assumed.the-variants.{Nothing, Output}
 use Rattle.sheet.specs.declared.AssumedRead.{AssumedRead}
 use Rattle.sheet.specs.declared.AssumedRead.the-variants as assumed
-use Rattle.sheet.specs.declared.Header.{Header}
 use Rattle.sheet.specs.declared.Header.the-variants.{Fields, Refused}
 
 pub counts : (m n : ℕ) → countsOk m n ≡ true → Ranges m n

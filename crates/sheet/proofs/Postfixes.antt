@@ -1,15 +1,15 @@
 -- Bytes are read as a tree exactly if they are the tree's writing, and its reads are of the sheet's streams. Assumes nothing.
-use Prim.Native.Nat.{ℕ, zero, suc, _+_, _-_, _≤_, _<_}
+use Prim.Native.Nat.{ℕ, _+_, _-_, _≤_, _<_}
 use native.Mathlib.Omega.{arith}
 use native.Mathlib.Nat.{add-sub-cancel-left}
 use mathlib.Core.Path.{_≡_, refl, sym, ap, _∙_, subst}
 use mathlib.Core.Logic.{_↔_}
-use mathlib.Core.Bool.{Bool, true, false, cond, _&&_}
+use mathlib.Core.Bool.{Bool, true, false, cond}
 use mathlib.Core.List.{List, [], _∷_, _++_, append-assoc, append-nil}
 use lib.Dec.{leb, ltb, eqb}
 use borrow.Author.Tests.{lt-ltb, ltb-true, leb-true, eqb-true}
 use Rattle.sheet.specs.Bytes.{opOf, readsOf, readOf, within}
-use Rattle.sheet.specs.Expression.{Expr, constant, negation, conjunction, disjunction, read, Next, stack, breaks, Parsed, tree, broken, applyOp, final, go-on, parse}
+use Rattle.sheet.specs.Expression.{Expr, constant, negation, conjunction, disjunction, read, stack, breaks, Parsed, tree, broken, applyOp, final, go-on, parse}
 use Rattle.sheet.specs.Postfix.{readByte, written, Kept, InSheet}
 use Rattle.sheet.proofs.Ops.{is-now, is-earlier-false, is-earlier-true, is-later-false, is-later-true}
 use Rattle.sheet.proofs.Sheets.{and-split}

@@ -1,8 +1,7 @@
 -- The meaning of an expression byte (01, "The sheet", the list of expression bytes).
-use Prim.Native.Nat.{ℕ, _+_, _-_}
+use Prim.Native.Nat.{ℕ, _-_}
 use mathlib.Core.Bool.{Bool, true, false, cond, _&&_}
 use lib.Dec.{leb, eqb}
-use Rattle.sheet.specs.declared.StreamNo.{StreamNo}
 use Rattle.sheet.specs.declared.Offset.{Offset}
 use Rattle.sheet.specs.declared.Offset.the-variants.{Earlier, Now, Later}
 use Rattle.sheet.specs.declared.Op.{Op}

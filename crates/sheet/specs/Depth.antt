@@ -2,10 +2,7 @@
 -- no more of a stack of trees.
 use Prim.Native.Nat.{ℕ, _+_, _-_}
 use mathlib.Core.Bool.{cond}
-use mathlib.Core.List.{List, [], _∷_}
-use lib.Dec.{ltb, eqb}
-use Rattle.sheet.specs.Bytes.{opOf}
-use Rattle.sheet.specs.declared.StreamNo.{StreamNo}
+use lib.Dec.{ltb}
 use Rattle.sheet.specs.declared.Op.{Op}
 use Rattle.sheet.specs.declared.Op.the-variants.{Const, Not, And, Or, Read, Rejected}
 use Rattle.sheet.specs.declared.Depth.{Depth}

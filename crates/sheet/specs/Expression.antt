@@ -1,11 +1,10 @@
 -- Expressions as trees, and how postfix bytes are read (01, "The sheet"): a stack of trees, on which each byte works; rules 7 and 8, byte by
 -- byte (01, "What is turned down").
 use Prim.Native.Nat.{ℕ}
-use mathlib.Core.Bool.{Bool, true, false, cond}
+use mathlib.Core.Bool.{Bool, cond}
 use mathlib.Core.List.{List, [], _∷_}
 use lib.Dec.{ltb}
 use Rattle.sheet.specs.Bytes.{opOf}
-use Rattle.sheet.specs.declared.StreamNo.{StreamNo}
 use Rattle.sheet.specs.declared.Offset.{Offset}
 use Rattle.sheet.specs.declared.Op.{Op}
 use Rattle.sheet.specs.declared.Op.the-variants.{Const, Not, And, Or, Read, Rejected}

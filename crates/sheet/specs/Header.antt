@@ -1,13 +1,10 @@
 -- The first 8 bytes of a sheet (01, "The sheet"): rules 1 to 5, in their order (01, "What is turned down").
 use Prim.Native.Nat.{ℕ, _+_, _*_}
-use mathlib.Core.Bool.{Bool, true, false, cond, _&&_}
+use mathlib.Core.Bool.{Bool, cond, _&&_}
 use mathlib.Core.List.{List}
 use lib.ListN.{length, getD}
 use lib.Dec.{leb, ltb, eqb}
-use Rattle.refusal.specs.declared.Refusal.{Refusal}
 use Rattle.refusal.specs.declared.Refusal.the-variants.{Short, Mark, Version, Counts, Assumption}
-use Rattle.sheet.specs.declared.OutputNo.{OutputNo}
-use Rattle.sheet.specs.declared.Assumed.{Assumed}
 use Rattle.sheet.specs.declared.Assumed.the-variants.{Nothing, Output}
 use Rattle.sheet.specs.declared.AssumedRead.{AssumedRead}
 use Rattle.sheet.specs.declared.AssumedRead.the-variants as assumed

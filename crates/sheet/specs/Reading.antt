@@ -4,12 +4,10 @@ use mathlib.Core.Path.{_≡_}
 use mathlib.Core.Bool.{false}
 use mathlib.Core.List.{List, [], _∷_, _++_}
 use lib.ListN.{length, take, drop, getD}
-use Rattle.refusal.specs.declared.Refusal.{Refusal}
 use Rattle.refusal.specs.declared.Outcome.{Outcome}
 use Rattle.refusal.specs.declared.Outcome.the-variants.{Accepted, Refused}
 use Rattle.sheet.specs.Expression.{Expr, constant, Parsed, tree, broken, parse}
 use Rattle.sheet.specs.RuleSheet.{RuleSheet, Reading, refused, accepted, requiredOf}
-use Rattle.sheet.specs.declared.OutputNo.{OutputNo}
 use Rattle.sheet.specs.declared.Assumed.{Assumed}
 use Rattle.sheet.specs.declared.Assumed.the-variants.{Nothing, Output}
 use Rattle.sheet.specs.declared.Sheet.{Sheet}

@@ -9,7 +9,7 @@ use refusal::Refusal;
 use refusal::refusal_number;
 ghost use mathlib.Core.Path.{_≡_};
 ghost use mathlib.Core.List.{_∷_, _++_};
-ghost use Prim.Native.Nat.{ℕ, _+_, _*_, _<_, _≤_};
+ghost use Prim.Native.Nat.{_+_, _*_, _<_, _≤_};
 ghost use lib.ListN.{length};
 ghost use Rattle.refusal.specs.Numbers.{verdictAt, verdictList, refusalNo};
 ghost use Rattle.record.specs.Record.{countAt};

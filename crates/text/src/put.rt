@@ -1,6 +1,6 @@
 // Bytes and numbers put into a buffer from a place on. Each function answers the place after them.
 ghost use mathlib.Core.List.{[], _∷_};
-ghost use Prim.Native.Nat.{ℕ, _+_, _<_, _≤_};
+ghost use Prim.Native.Nat.{_+_, _<_, _≤_};
 ghost use lib.ListN.{length};
 ghost use Rattle.text.specs.Text.{decimal, spaced};
 ghost use Rattle.text.specs.Wrote.{Wrote};

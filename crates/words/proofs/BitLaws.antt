@@ -1,14 +1,14 @@
 -- Laws of a word's digits and bits. Assumes nothing.
 use mathlib.Core.Path.{_≡_, refl, sym, ap, ap₂, _∙_}
 use mathlib.Core.Logic.{_⊎_, inl, inr, ⊎-elim}
-use mathlib.Core.Bool.{Bool, true, false, not, _&&_, _||_, Bool·beq}
+use mathlib.Core.Bool.{Bool, true, false, not, _&&_, _||_}
 use Prim.Native.Nat.{ℕ, zero, suc, _+_, _-_, _*_, _/_, _%_, _^_, _≤_, _<_, min, max}
-use native.Mathlib.Nat.{div-eq-of-lt, div-div-eq-div-mul, pow-suc, mul-comm, zero-div, mod-lt, mod-eq-of-lt, div-one}
+use native.Mathlib.Nat.{div-eq-of-lt, div-div-eq-div-mul, pow-suc, mul-comm, zero-div, div-one}
 use native.Mathlib.Omega.{arith}
 use native.Mathlib.Decide.{ℕ-discrete}
 use borrow.Author.Tests.{eq-eqb, ne-eqb}
 use lib.Dec.{eqb}
-use lib.Bits.{bitAnd, bitOr, bitXor, differ, and-shr, or-shr, xor-shr, and-step, or-step, xor-step}
+use lib.Bits.{bitAnd, bitOr, and-shr, or-shr, and-step, or-step}
 use lib.Pow.{pow-lt, pow-pos, pow-mono, shr-shr}
 use lib.Count.{trailingZeros, under}
 use Rattle.words.specs.Bits.{digit, bit}

@@ -1,15 +1,12 @@
 -- Laws of sums and counts. Assumes nothing.
 use mathlib.Core.Path.{_≡_, refl, sym, ap, ap₂, _∙_}
-use mathlib.Core.Bool.{Bool, true, false}
-use mathlib.Core.List.{List}
-use Prim.Native.Nat.{ℕ, zero, suc, _+_, _-_, _*_, _/_, _%_, _^_, _≤_, _<_}
+use Prim.Native.Nat.{ℕ, zero, suc, _+_, _-_, _*_, _/_, _^_, _<_}
 use native.Mathlib.Nat.{add-suc, add-zero, suc-mul, zero-mul}
 use native.Mathlib.Numerals.{add-one}
 use native.Mathlib.Omega.{arith}
 use lib.Count.{ones, ones-step}
-use lib.ListN.{length, getD}
 use Rattle.words.specs.Bits.{digit, bit}
-use Rattle.words.specs.Below.{one, sumBelow, countBelow}
+use Rattle.words.specs.Below.{sumBelow, countBelow}
 use Rattle.words.proofs.BitLaws.{digit-zero, digit-suc, digit-of}
 
 pub sum-cong : (n : ℕ) (f g : ℕ → ℕ) → ((i : ℕ) → i < n → f i ≡ g i) → sumBelow n f ≡ sumBelow n g

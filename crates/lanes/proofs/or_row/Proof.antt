@@ -1,8 +1,8 @@
 use mathlib.Core.Path.{_≡_}
-use Prim.Native.Nat.{ℕ, _-_, _+_, _*_}
+use Prim.Native.Nat.{_-_, _+_, _*_}
 use borrow.Author.Needs.{needs}
 use Rattle.lanes.proofs.RowLaws.{Writing, writing-none, writing-by, four-of}
-use lib.ListN.{getD, length}
+use lib.ListN.{getD}
 use lib.Bits.{bitOr}
 use Rattle.lanes.proofs.or_row.Statement.{statement}
 use Rattle.lanes.proofs.or_row.Tie as tie

@@ -1,13 +1,13 @@
-use Prim.Native.Nat.{ℕ, _+_, _*_, _-_, _≤_, _<_}
-use mathlib.Core.Path.{_≡_, refl, sym, _∙_, ap}
-use mathlib.Core.List.{List, [], _∷_}
+use Prim.Native.Nat.{_-_}
+use mathlib.Core.Path.{sym, _∙_}
+use mathlib.Core.List.{[], _∷_}
 use native.Mathlib.Omega.{arith}
 use borrow.Author.Tests.{not-true, not-false}
 use Rattle.refusal.specs.declared.Outcome.the-variants.{Accepted, Refused}
-use Rattle.refusal.specs.declared.Refusal.the-variants.{Letter, Closed, Full, NoRound, Storage, Record}
-use Rattle.monitor.specs.Checks.{storage, tallies, closed, masks, full, noRound}
+use Rattle.refusal.specs.declared.Refusal.the-variants.{Letter, Closed, Full, Record}
+use Rattle.monitor.specs.Checks.{tallies, closed, masks, full}
 use Rattle.monitor.specs.Steps.{given}
-use Rattle.monitor.proofs.Checking.{short-storage, past-storage, wrong-record, past-record, is-closed, past-closed, wrong-masks, past-masks, is-full, not-full, no-round, some-round}
+use Rattle.monitor.proofs.Checking.{short-storage, past-storage, wrong-record, past-record, is-closed, past-closed, wrong-masks, past-masks, is-full, not-full}
 use borrow.Author.Needs.{needs}
 use Rattle.monitor.proofs.check_round.Statement.{statement}
 use Rattle.monitor.proofs.check_round.Tie as tie

@@ -1,16 +1,6 @@
-use Prim.Native.Nat.{ℕ, _+_, _*_, _-_, _≤_, _<_, _^_}
-use mathlib.Core.Path.{_≡_, refl, sym, _∙_, ap, subst}
-use mathlib.Core.Bool.{Bool, true, false}
-use mathlib.Core.List.{List, [], _∷_}
+use Prim.Native.Nat.{_+_, _-_, _^_}
+use mathlib.Core.Path.{sym, subst}
 use denote.Ref.{now}
-use lib.ListN.{length, getD}
-use native.Mathlib.Omega.{arith}
-use Rattle.refusal.specs.declared.Outcome.the-variants.{Accepted, Refused}
-use Rattle.sheet.specs.RuleSheet.{RuleSheet}
-use Rattle.sheet.specs.Reading.{ruleSheet}
-use Rattle.monitor.specs.Checks.{roundChecks, closingChecks}
-use Rattle.monitor.specs.Results.{OfSheet, RoundDone, ClosingDone}
-use Rattle.monitor.specs.Steps.{given}
 use Rattle.lanes.specs.Coded.{sheetOf}
 use Rattle.completions.specs.Live.{Pairs}
 use Rattle.pairs.specs.Storage.{stored}

@@ -1,4 +1,3 @@
-use native.Mathlib.Omega.{arith}
 use Rattle.pairs.proofs.Sets.{has-bit}
 use borrow.Author.Needs.{needs}
 use Rattle.pairs.proofs.has.Statement.{statement}

@@ -1,5 +1,5 @@
 use native.Mathlib.Omega.{arith}
-use mathlib.Core.Option.{some, none}
+use mathlib.Core.Option.{none}
 use Rattle.pairs.specs.Storage.{place, slot}
 use Rattle.pairs.proofs.Sets.{inserted}
 use borrow.Author.Needs.{needs}

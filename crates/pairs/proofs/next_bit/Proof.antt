@@ -1,6 +1,6 @@
 use native.Mathlib.Omega.{arith}
 use borrow.Author.Needs.{needs}
-use Prim.Native.Nat.{ℕ, _+_, _*_, _/_, _%_, _^_, _<_, _≤_}
+use Prim.Native.Nat.{_+_, _/_, _%_, _^_}
 use lib.Count.{trailing-le}
 use lib.ListN.{getD}
 use Rattle.pairs.proofs.BitSearch.{row-over, found-here, row-spent, row-found}

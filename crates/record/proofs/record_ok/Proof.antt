@@ -1,11 +1,9 @@
 use borrow.Author.Needs.{needs}
-use Prim.Native.Nat.{ℕ, _+_, _*_, _-_, _≤_, _<_}
+use Prim.Native.Nat.{_-_, _≤_}
 use mathlib.Core.Path.{_≡_, refl, sym, _∙_, ap}
-use mathlib.Core.Bool.{Bool, true, false}
-use denote.Ref.{now}
-use lib.ListN.{length, getD, length-set}
+use mathlib.Core.Bool.{true, false}
 use native.Mathlib.Omega.{arith}
-use Rattle.record.specs.Record.{addUp, sumAt}
+use Rattle.record.specs.Record.{addUp}
 use Rattle.record.proofs.Tallies.{add-up-more, add-up-not, too-many, by-counts}
 use Rattle.record.proofs.record_ok.Statement.{statement}
 use Rattle.record.proofs.record_ok.Tie as tie

@@ -1,9 +1,6 @@
-use Prim.Native.Nat.{ℕ, _+_, _-_, _≤_, _<_}
-use mathlib.Core.Path.{_≡_, refl, sym, _∙_, ap}
-use denote.Ref.{now}
-use lib.ListN.{length, getD, length-set}
+use Prim.Native.Nat.{_+_, _-_, _≤_}
+use lib.ListN.{length, length-set}
 use native.Mathlib.Omega.{arith}
-use Rattle.sheet.specs.Answer.{Put}
 use Rattle.sheet.proofs.Packing.{PutSoFar, put-none, put-more, put-all}
 use Rattle.sheet.proofs.put.Statement.{statement}
 use Rattle.sheet.proofs.put.Tie as tie

@@ -1,6 +1,6 @@
 -- The search for the next bit that is set.
 use mathlib.Core.Path.{_≡_, sym, ap, ap₂, _∙_, subst}
-use mathlib.Core.Bool.{Bool, true, false}
+use mathlib.Core.Bool.{Bool, true, false, _||_}
 use mathlib.Core.List.{List}
 use Prim.Native.Nat.{ℕ, _+_, _-_, _*_, _/_, _%_, _^_, _≤_, _<_}
 use native.Mathlib.Omega.{arith}
@@ -9,6 +9,8 @@ use lib.ListN.{getD}
 use lib.Count.{trailingZeros}
 use lib.Pow.{shr-le}
 use Rattle.words.specs.Bits.{bit}
+use Rattle.words.specs.Below.{anyBelow}
+use Rattle.words.proofs.AnyLaws.{any-add, none-any}
 use Rattle.words.proofs.BitLaws.{bit-shr, bit-high, bit-none, Lowest, lowest}
 use Rattle.pairs.specs.Changes.{rowBit, NextWord, NextBit}
 
@@ -108,3 +110,10 @@ module _ (s : List ℕ) (at n from r : ℕ) (h : from < 64 * n) (fit : getD s (a
       let same : getD s (at + 64 * r / 64) 0 / 2 ^ (64 * r % 64) ≡ getD s (at + r) 0 = ap₂ (λ (x y : ℕ). getD s (at + x) 0 / 2 ^ y) p o ∙ one in
       subst (λ (x : ℕ). NextBit s at n from (64 * r + trailingZeros 64 x)) same
       (found-at s at n from (64 * r) (omega (arith, q .onward)) (omega arith) none-below (subst (λ (k : ℕ). getD s (at + k) 0 < 2 ^ 64) (sym p) small) (λ e. q .found l (sym same ∙ e)))
+
+-- numbers that are passed over
+pub any-skip : (c c′ : ℕ) (p : ℕ → Bool) → c ≤ c′ → ((x : ℕ) → c ≤ x → x < c′ → p x ≡ false) → anyBelow c p ≡ anyBelow c′ p
+any-skip c c′ p l h =
+    let e : c′ ≡ c + (c′ - c) = omega arith in
+    sym (ap (λ (k : ℕ). anyBelow k p) e ∙ any-add c (c′ - c) p
+    ∙ ap (λ (u : Bool). u || anyBelow c p) (none-any (c′ - c) (λ i. p (c + i)) (λ i g. h (c + i) (omega arith) (omega arith))))

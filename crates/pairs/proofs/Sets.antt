@@ -16,7 +16,7 @@ use Rattle.words.proofs.BitLaws.{bit-and, bit-or, bit-not, bit-shl, bit-none, b
 use Rattle.completions.specs.Live.{Pairs}
 use Rattle.completions.specs.Steps.{Within}
 use Rattle.pairs.specs.Storage.{place, slot, stored, used}
-use Rattle.pairs.specs.Changes.{eqNext, inWord, Adds, rowBit, Zeroed, RowsCleared, Cleared, RowTaken}
+use Rattle.pairs.specs.Changes.{eqNext, inWord, Adds, rowBit, Zeroed, RowsCleared, Cleared, RowTaken, Noted}
 use Rattle.pairs.proofs.Bools.{and-true, and-false, or-false, or-assoc}
 
 pub place-lt : (x : ℕ) (y : Option ℕ) → x < 256 → Within 256 y → place x y < 1028
@@ -314,3 +314,27 @@ set-ext s t base base′ hs ht same k h = bits-ext 64 (getD s (base + k) 0) (get
         let e : k ≡ 1024 + (k - 1024) = omega arith in
         ap (λ (m : ℕ). bit i (getD s (base + m) 0)) e ∙ lane-end s base (k - 1024) i l ∙ same (64 * (k - 1024) + i) none (omega arith) tt
         ∙ sym (ap (λ (m : ℕ). bit i (getD t (base′ + m) 0)) e ∙ lane-end t base′ (k - 1024) i l)
+
+-- ---- a row with one valuation more
+
+pub noted : (row : List ℕ) (a : ℕ) → a < 256 → length row ≡ 4 → Noted a row (set row (a / 64) (bitOr (getD row (a / 64) 0) (1 * 2 ^ (a % 64) % 2 ^ 64)))
+unfolding rowBit
+noted row a ha l = record { same-length = length-set row (a / 64) v; gains = λ x hx. go x hx (ℕ-discrete (x / 64) (a / 64)) (ℕ-discrete x a) }
+  where
+    v : ℕ
+    v = bitOr (getD row (a / 64) 0) (1 * 2 ^ (a % 64) % 2 ^ 64)
+
+    go : (x : ℕ) → x < 256 → Dec (x / 64 ≡ a / 64) → Dec (x ≡ a) → bit (x % 64) (getD (set row (a / 64) v) (0 + x / 64) 0) ≡ (bit (x % 64) (getD row (0 + x / 64) 0) || eqb x a)
+    go x hx (yes d) e =
+        let q : 0 + x / 64 ≡ a / 64 = omega arith in
+        ap (λ (i : ℕ). bit (x % 64) (getD (set row (a / 64) v) i 0)) q
+        ∙ ap (bit (x % 64)) (getD-set-same row (a / 64) v 0 (omega arith))
+        ∙ bit-or (x % 64) (getD row (a / 64) 0) (1 * 2 ^ (a % 64) % 2 ^ 64)
+        ∙ ap₂ _||_ (ap (λ (i : ℕ). bit (x % 64) (getD row i 0)) (sym q)) (bit-shl (x % 64) (a % 64) (omega arith) ∙ same e)
+      where
+        same : Dec (x ≡ a) → eqb (x % 64) (a % 64) ≡ eqb x a
+        same (yes e) = eq-eqb (x % 64) (a % 64) (omega arith) ∙ sym (eq-eqb x a e)
+        same (no e) = ne-eqb (x % 64) (a % 64) (λ r. e (omega arith)) ∙ sym (ne-eqb x a e)
+    go x hx (no d) e =
+        ap (bit (x % 64)) (getD-set-other row (a / 64) (0 + x / 64) v 0 (omega arith))
+        ∙ sym (ap (λ (u : Bool). bit (x % 64) (getD row (0 + x / 64) 0) || u) (ne-eqb x a (λ r. d (omega arith))) ∙ or-false (bit (x % 64) (getD row (0 + x / 64) 0)))

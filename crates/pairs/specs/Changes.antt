@@ -34,6 +34,11 @@ pub record Adds (base : ℕ) (s t : List ℕ) (P : Pairs) : Type 0 where
 unfoldable pub rowBit : List ℕ → ℕ → ℕ → Bool
 rowBit s at x = bit (x % 64) (getD s (at + x / 64) 0)
 
+-- a row of words has gained a
+pub record Noted (a : ℕ) (s t : List ℕ) : Type 0 where
+  pub same-length : length t ≡ length s
+  pub gains : (x : ℕ) → x < 256 → rowBit t 0 x ≡ (rowBit s 0 x || eqb x a)
+
 -- r is the first word from j on that is not 0 among n words from `at` on, or n if there is none
 pub record NextWord (s : List ℕ) (at n j r : ℕ) : Type 0 where
   pub onward : j ≤ r

@@ -7,7 +7,7 @@ ghost use lib.ListN.{length};
 ghost use Prim.Native.Nat.{_+_, _*_, _<_, _≤_};
 ghost use Rattle.completions.specs.Live.{countPairs};
 ghost use Rattle.pairs.specs.Storage.{stored};
-ghost use Rattle.pairs.specs.Changes.{eqNext, inWord, Adds, NextWord, NextBit, Zeroed, RowsCleared, Cleared, RowTaken};
+ghost use Rattle.pairs.specs.Changes.{eqNext, inWord, Adds, NextWord, NextBit, Zeroed, RowsCleared, Cleared, RowTaken, Noted};
 
 // Whether (a, b) is in the set at base.
 pub fn has(s: &[u64], base: usize, a: usize, b: usize) -> bool
@@ -50,6 +50,15 @@ pub fn insert_word(s: &mut [u64], base: usize, a: usize, j: usize, x: u64)
 {
     let k = base + (4 * a + j);
     s[k] = s[k] | x;
+}
+
+// Puts a into the row.
+pub fn note(row: &mut [u64], a: usize)
+    requires { ⌜ (a < 256) × (length (now row) ≡ 4) ⌝ }
+    ensures { λ r. ⌜ Noted a (now (row .entry)) (now (row .exit)) ⌝ }
+{
+    let j = a / 64;
+    row[j] = row[j] | 1 << (a % 64);
 }
 
 // The first of the w words from `at` on, from number j on, that is not 0, or w if there is none.

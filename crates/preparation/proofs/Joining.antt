@@ -16,10 +16,10 @@ use Rattle.lola.specs.Equations.{holds}
 use Rattle.completions.specs.Steps.{Within, anyNext}
 use Rattle.words.proofs.AnyLaws.{none-any}
 use Rattle.pairs.specs.Storage.{stored}
-use Rattle.pairs.specs.Changes.{eqNext, Adds, rowBit, NextBit, RowTaken}
+use Rattle.pairs.specs.Changes.{eqNext, Adds, rowBit, NextBit, RowTaken, Noted}
 use Rattle.pairs.proofs.Bools.{and-true, and-false, or-false, or-assoc}
 use Rattle.pairs.proofs.Sets.{stored-eq, adds-before, adds-beyond}
-use Rattle.preparation.specs.Search.{meets, joining, joinersAt, joiners, newcomers, enders, Joins, Row, Noted, Occupied, Apart, Swept}
+use Rattle.preparation.specs.Search.{meets, joining, joinersAt, joiners, newcomers, enders, Joins, Row, Occupied, Apart, Swept}
 use Rattle.preparation.proofs.Layers.{joining-same, wider}
 
 -- ---- numbers below a bound

@@ -5,14 +5,14 @@ use mathlib.Core.List.{List, []}
 use Prim.Native.Nat.{ℕ, _+_, _-_, _*_, _/_, _%_, _^_, _≤_, _<_}
 use native.Mathlib.Omega.{arith}
 use native.Mathlib.Decide.{ℕ-discrete, decLt}
-use borrow.Author.Tests.{eq-eqb, ne-eqb, lt-ltb, le-ltb}
-use lib.Bits.{bitAnd, bitOr}
-use lib.Dec.{eqb, ltb}
+use borrow.Author.Tests.{eq-eqb, lt-ltb, le-ltb}
+use lib.Bits.{bitAnd}
+use lib.Dec.{ltb}
 use lib.ListN.{length, getD, set, length-set}
 use lib.Pow.{pow-pos, pow-mono, pow-lt}
 use lib.Seq.{getD-set-same, getD-set-other}
 use Rattle.words.specs.Bits.{bit}
-use Rattle.words.proofs.BitLaws.{bit-all, bit-and, bit-not, bit-none, bit-or, bit-high, one-shl, bit-shl}
+use Rattle.words.proofs.BitLaws.{bit-all, bit-and, bit-not, bit-none, bit-high, one-shl, bit-shl}
 use Rattle.sheet.specs.RuleSheet.{requiredOf}
 use Rattle.sheet.specs.Reading.{Below}
 use Rattle.sheet.specs.declared.OutputNo.{OutputNo}
@@ -22,8 +22,8 @@ use Rattle.sheet.proofs.Sheets.{length-trees}
 use Rattle.lanes.specs.Coded.{sheetOf}
 use Rattle.completions.specs.Live.{allowed, allTrue}
 use Rattle.pairs.specs.Changes.{rowBit}
-use Rattle.pairs.proofs.Bools.{and-true, or-false}
-use Rattle.preparation.specs.Search.{Row, Noted, United}
+use Rattle.pairs.proofs.Bools.{and-true}
+use Rattle.preparation.specs.Search.{Row, United}
 
 -- ---- the lanes below a bound
 
@@ -134,30 +134,6 @@ row-lane row j i h =
     let p : i ≡ (64 * j + i) % 64 = omega arith in
     let q : j ≡ 0 + (64 * j + i) / 64 = omega arith in
     ap₂ (λ (u v : ℕ). bit u (getD row v 0)) p q
-
--- ---- a row with one valuation more
-
-pub noted : (row : List ℕ) (a : ℕ) → a < 256 → length row ≡ 4 → Noted a row (set row (a / 64) (bitOr (getD row (a / 64) 0) (1 * 2 ^ (a % 64) % 2 ^ 64)))
-unfolding rowBit
-noted row a ha l = record { same-length = length-set row (a / 64) v; gains = λ x hx. go x hx (ℕ-discrete (x / 64) (a / 64)) (ℕ-discrete x a) }
-  where
-    v : ℕ
-    v = bitOr (getD row (a / 64) 0) (1 * 2 ^ (a % 64) % 2 ^ 64)
-
-    go : (x : ℕ) → x < 256 → Dec (x / 64 ≡ a / 64) → Dec (x ≡ a) → bit (x % 64) (getD (set row (a / 64) v) (0 + x / 64) 0) ≡ (bit (x % 64) (getD row (0 + x / 64) 0) || eqb x a)
-    go x hx (yes d) e =
-        let q : 0 + x / 64 ≡ a / 64 = omega arith in
-        ap (λ (i : ℕ). bit (x % 64) (getD (set row (a / 64) v) i 0)) q
-        ∙ ap (bit (x % 64)) (getD-set-same row (a / 64) v 0 (omega arith))
-        ∙ bit-or (x % 64) (getD row (a / 64) 0) (1 * 2 ^ (a % 64) % 2 ^ 64)
-        ∙ ap₂ _||_ (ap (λ (i : ℕ). bit (x % 64) (getD row i 0)) (sym q)) (bit-shl (x % 64) (a % 64) (omega arith) ∙ same e)
-      where
-        same : Dec (x ≡ a) → eqb (x % 64) (a % 64) ≡ eqb x a
-        same (yes e) = eq-eqb (x % 64) (a % 64) (omega arith) ∙ sym (eq-eqb x a e)
-        same (no e) = ne-eqb (x % 64) (a % 64) (λ r. e (omega arith)) ∙ sym (ne-eqb x a e)
-    go x hx (no d) e =
-        ap (bit (x % 64)) (getD-set-other row (a / 64) (0 + x / 64) v 0 (omega arith))
-        ∙ sym (ap (λ (u : Bool). bit (x % 64) (getD row (0 + x / 64) 0) || u) (ne-eqb x a (λ r. d (omega arith))) ∙ or-false (bit (x % 64) (getD row (0 + x / 64) 0)))
 
 -- ---- a row that covers another
 

@@ -9,7 +9,7 @@ use lib.ListN.{getD, replicate}
 use Rattle.words.specs.Bits.{bit}
 use Rattle.words.proofs.BitLaws.{bit-none}
 use Rattle.words.specs.Below.{anyBelow}
-use Rattle.words.proofs.AnyLaws.{any-one, any-add, none-any}
+use Rattle.words.proofs.AnyLaws.{any-one}
 use Rattle.sheet.specs.RuleSheet.{RuleSheet}
 use Rattle.lola.specs.Equations.{holds}
 use Rattle.completions.specs.Live.{allowed}
@@ -17,6 +17,7 @@ use Rattle.completions.specs.Steps.{anyNext}
 use Rattle.pairs.specs.Storage.{stored}
 use Rattle.pairs.specs.Changes.{rowBit, NextBit}
 use Rattle.pairs.proofs.Bools.{and-false, or-false, or-assoc, or-comm}
+use Rattle.pairs.proofs.BitSearch.{any-skip}
 use Rattle.pairs.proofs.Sets.{row-bit}
 use Rattle.preparation.specs.Search.{meets, Row, United}
 
@@ -47,12 +48,6 @@ pub united-as : (w : ℕ) (s t : List ℕ) (f h : ℕ → Bool) → United w s t
 united-as w s t f h p e = record { same-length = p .same-length; gains = λ a l. p .gains a l ∙ ap (λ (v : Bool). rowBit s 0 a || v) (e a l) }
 
 -- ---- the valuations of a row of the layer; c is the next, or the bound
-
-any-skip : (c c′ : ℕ) (p : ℕ → Bool) → c ≤ c′ → ((x : ℕ) → c ≤ x → x < c′ → p x ≡ false) → anyBelow c p ≡ anyBelow c′ p
-any-skip c c′ p l h =
-    let e : c′ ≡ c + (c′ - c) = omega arith in
-    sym (ap (λ (k : ℕ). anyBelow k p) e ∙ any-add c (c′ - c) p
-    ∙ ap (λ (u : Bool). u || anyBelow c p) (none-any (c′ - c) (λ i. p (c + i)) (λ i g. h (c + i) (omega arith) (omega arith))))
 
 and-or : (o u v : Bool) → ((o && u) || (o && v)) ≡ (o && (v || u))
 and-or true u v = or-comm u v

@@ -59,11 +59,6 @@ pub record United (w : ℕ) (s t : List ℕ) (f : ℕ → Bool) : Type 0 where
   pub same-length : length t ≡ length s
   pub gains : (a : ℕ) → a < 64 * w → rowBit t 0 a ≡ (rowBit s 0 a || f a)
 
--- a row of words has gained a
-pub record Noted (a : ℕ) (s t : List ℕ) : Type 0 where
-  pub same-length : length t ≡ length s
-  pub gains : (x : ℕ) → x < 256 → rowBit t 0 x ≡ (rowBit s 0 x || eqb x a)
-
 -- the rows of the set at `base` that have a pair are below 64 w, and they are the bits of the w words
 pub record Occupied (w : ℕ) (rows s : List ℕ) (base : ℕ) : Type 0 where
   pub none-there : (x : ℕ) (y : Option ℕ) → x < 256 → Within 256 y → (x < 64 * w → rowBit rows 0 x ≡ false) → stored s base x y ≡ false

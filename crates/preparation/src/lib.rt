@@ -16,7 +16,7 @@ ghost use Rattle.pairs.specs.Changes.{eqNext, rowBit};
 ghost use Rattle.lola.specs.Equations.{holds};
 ghost use Rattle.lanes.specs.Around.{Ahead, unless};
 ghost use Rattle.lanes.specs.Coded.{Coded, sheetOf};
-ghost use Rattle.preparation.specs.Search.{meets, joinersAt, newcomers, enders, Joins, Row, United, Noted, Occupied, Apart, Started, Swept};
+ghost use Rattle.preparation.specs.Search.{meets, joinersAt, newcomers, enders, Joins, Row, United, Occupied, Apart, Started, Swept};
 ghost use Rattle.preparation.specs.Prepared.{Prepared, Reach};
 use sheet::Assumed;
 
@@ -189,15 +189,6 @@ fn unite_row(
     unite(row, st, ok, code, len, m, n, w, b, true, 0);
 }
 
-// Puts a into the row.
-fn note(row: &mut [u64], a: usize)
-    requires { ⌜ (a < 256) × (length (now row) ≡ 4) ⌝ }
-    ensures { λ r. ⌜ Noted a (now (row .entry)) (now (row .exit)) ⌝ }
-{
-    let j = a / 64;
-    row[j] = row[j] | 1 << (a % 64);
-}
-
 // (a, b) joins the live set and the next layer, unless it is live. `rows` are the next layer's rows.
 fn join(s: &mut [u64], rows: &mut [u64], next: usize, a: usize, b: usize)
     requires { ⌜ (a < 256) × (b < 256) × (1028 ≤ next) × (next ≤ 2056) × (length (now rows) ≡ 4) × (3084 ≤ length (now s)) ⌝ }
@@ -209,7 +200,7 @@ fn join(s: &mut [u64], rows: &mut [u64], next: usize, a: usize, b: usize)
     }
     pairs::insert(s, 0, a, b);
     pairs::insert(s, next, a, b);
-    note(rows, a);
+    pairs::note(rows, a);
 }
 
 // Each a of the row joins with b.

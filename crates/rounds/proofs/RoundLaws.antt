@@ -11,8 +11,7 @@ use lib.Bits.{bitAnd, and-le-l}
 use lib.Dec.{eqb, ltb}
 use lib.Pow.{pow-pos, pow-mono}
 use Rattle.words.specs.Below.{anyBelow}
-use Rattle.words.specs.Bits.{bit}
-use Rattle.words.proofs.BitLaws.{one-shl, bit-and, bits-ext}
+use Rattle.words.proofs.BitLaws.{one-shl}
 use Rattle.words.proofs.AnyLaws.{any-cong, none-any, some-any}
 use Rattle.sheet.specs.RuleSheet.{RuleSheet}
 use Rattle.lola.specs.Equations.{holds}
@@ -140,30 +139,13 @@ group-low S r mask n v g c h =
     none-any v _
     (λ a ha. ap (λ (u : Bool). u && heardIn S r n a c) (ne-eqb g (bitAnd a mask) (λ e. let l : bitAnd a mask ≤ a = and-le-l a mask in omega arith)))
 
-and-twice : (a mask : ℕ) → a < 256 → bitAnd (bitAnd a mask) mask ≡ bitAnd a mask
-and-twice a mask h =
-    let l : bitAnd a mask ≤ a = and-le-l a mask in
-    let l′ : bitAnd (bitAnd a mask) mask ≤ bitAnd a mask = and-le-l (bitAnd a mask) mask in
-    bits-ext 8 (bitAnd (bitAnd a mask) mask) (bitAnd a mask) (omega arith) (omega arith)
-    (λ i g. bit-and i (bitAnd a mask) mask ∙ ap (λ (u : Bool). u && bit i mask) (bit-and i a mask) ∙ again (bit i a) (bit i mask) ∙ sym (bit-and i a mask))
-  where
-    again : (u v : Bool) → ((u && v) && v) ≡ (u && v)
-    again true true = refl
-    again true false = refl
-    again false v = refl
+-- a scratch set that was cleared is sparse, and clearing another set leaves it so
+pub cleared-sparse : (v : ℕ) (groups s s₁ : List ℕ) → v ≤ 256 → RowsCleared 2056 v s s₁ → Sparse v groups (stored s₁ 2056)
+cleared-sparse v groups s s₁ hv a g hg e k hk =
+    a .emptied g (some k) (omega arith) hk ∙ ap (λ (u : Bool). cond u false (stored s 2056 g (some k))) (used-below v g (some k) hg)
 
--- only rows of groups hold anything
-pub groups-sparse : (r : ℕ → Bool) (mask n v w : ℕ) (s s₁ s₂ s₃ : List ℕ) → v ≡ w → v ≤ 256 → RowsCleared 2056 v s s₁ → Adds 2056 s₁ s₂ (grouped (stored s₁ 1028) r mask n v) → RowsCleared 1028 v s₂ s₃
-    → Sparse w mask (stored s₃ 2056)
-unfolding grouped
-groups-sparse r mask n v w s s₁ s₂ s₃ is hv a b c g hg ne k hk =
-    let hg′ : g < 256 = omega arith in
-    rows-beyond 1028 v s₂ s₃ c 2056 g (some k) hg′ hk (omega arith)
-    ∙ b .adds g (some k) hg′ hk
-    ∙ ap₂ _||_ (a .emptied g (some k) hg′ hk ∙ ap (λ (u : Bool). cond u false (stored s 2056 g (some k))) (used-below v g (some k) (omega arith)))
-    (none-any v _
-    (λ i hi. ap (λ (u : Bool). u && heardIn (stored s₁ 1028) r n i (some k))
-    (ne-eqb g (bitAnd i mask) (λ e. ne (ap (λ (z : ℕ). bitAnd z mask) e ∙ and-twice i mask (omega arith) ∙ sym e)))))
+pub sparse-kept : (v w : ℕ) (groups s t : List ℕ) → v ≡ w → v ≤ 256 → RowsCleared 1028 v s t → Sparse v groups (stored s 2056) → Sparse w groups (stored t 2056)
+sparse-kept v w groups s t is hv c f g hg e k hk = rows-beyond 1028 v s t c 2056 g (some k) (omega arith) hk (omega arith) ∙ f g (omega arith) e k hk
 
 module _ (x : RuleSheet) (mask : ℕ) (blind : Blind x mask) (w n : ℕ) (r : ℕ → Bool) (hw : w ≤ 256) (hn : w ≤ 64 * n) where
   -- the storage: at first, cleared scratch, grouped, cleared reached, brought, cleared scratch

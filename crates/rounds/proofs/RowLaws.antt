@@ -3,11 +3,10 @@ use mathlib.Core.Path.{_≡_, refl, sym, ap, ap₂, _∙_, subst}
 use mathlib.Core.Bool.{Bool, true, false, cond, _&&_, _||_}
 use mathlib.Core.List.{List}
 use mathlib.Core.Option.{Option, none, some}
-use Prim.Native.Nat.{ℕ, _+_, _*_, _/_, _≤_, _<_}
+use Prim.Native.Nat.{ℕ, _+_, _*_, _/_, _≤_, _<_, min}
 use native.Mathlib.Omega.{arith}
-use native.Mathlib.Decide.{ℕ-discrete, decLt}
+use native.Mathlib.Decide.{ℕ-discrete}
 use borrow.Author.Tests.{eq-eqb, ne-eqb, lt-ltb, le-ltb}
-use lib.Bits.{bitAnd}
 use lib.Dec.{eqb, ltb}
 use Rattle.words.specs.Below.{anyBelow}
 use Rattle.words.proofs.AnyLaws.{any-one}
@@ -16,8 +15,9 @@ use Rattle.lola.specs.Equations.{holds}
 use Rattle.completions.specs.Live.{Pairs}
 use Rattle.completions.specs.Steps.{Within}
 use Rattle.pairs.specs.Storage.{stored}
-use Rattle.pairs.specs.Changes.{eqNext, Adds, rowBit, NextBit}
+use Rattle.pairs.specs.Changes.{eqNext, Adds, rowBit, NextBit, Noted}
 use Rattle.pairs.proofs.Bools.{and-true, and-false, or-false, or-comm, and-assoc}
+use Rattle.pairs.proofs.BitSearch.{any-skip}
 use Rattle.pairs.proofs.Sets.{adds-none, adds-as, adds-then, adds-before, adds-beyond, row-bit}
 use Rattle.rounds.specs.Rows.{room, below, cut, gains, inRow, brought, Sparse}
 use Rattle.rounds.proofs.Bools.{merge, merge-under, merge-both, below-one, words-one, below-none, below-within, below-wider}
@@ -31,9 +31,17 @@ pub room-four : (v : ℕ) → 64 < v → room v ≡ 256
 unfolding room
 room-four v h = ap (λ (u : Bool). cond u 256 64) (lt-ltb 64 v h)
 
--- the rows of another set stay
-pub sparse-same : (s t : List ℕ) (P : Pairs) (w mask : ℕ) → w ≤ 256 → Adds 1028 s t P → Sparse w mask (stored s 2056) → Sparse w mask (stored t 2056)
-sparse-same s t P w mask hw a f g hg ne b hb = adds-beyond 1028 s t P a 2056 g (some b) (omega arith) hb (omega arith) ∙ f g hg ne b hb
+-- a row that is noted may have gained something
+pub sparse-noted : (s t : List ℕ) (P : Option ℕ → Bool) (g : ℕ) (groups groups′ : List ℕ) → Adds 2056 s t (λ x y. eqb x g && P y) → Noted g groups groups′
+    → (v : ℕ) → v ≤ 256 → Sparse v groups (stored s 2056) → Sparse v groups′ (stored t 2056)
+sparse-noted s t P g groups groups′ a n v hv f h hh e b hb =
+    let hh′ : h < 256 = omega arith in
+    let o = or-none (rowBit groups 0 h) (eqb h g) (sym (n .gains h hh′) ∙ e) in
+    a .adds h (some b) hh′ hb ∙ ap₂ (λ (u w : Bool). u || (w && P (some b))) (f h hh (o .0) b hb) (o .1)
+  where
+    or-none : (u w : Bool) → (u || w) ≡ false → (u ≡ false) × (w ≡ false)
+    or-none false w p = (refl, p)
+    or-none true w p = absurd (let z : _≡_ {A = ℕ} 0 1 = cc in omega arith)
 
 module _ (x : RuleSheet) where
   lump : (B : ℕ → Bool) (C : Option ℕ → Bool) (L : Pairs) (p : Option ℕ) (b : ℕ) (c : Option ℕ) → gains x B C L p b c ≡ ((B b && C c) && (L b c && holds x p b c))
@@ -236,16 +244,6 @@ module _ (x : RuleSheet) where
         (λ a c ha hc. ap (λ (u : Bool). u && below w c)
         (sym (and-assoc (ltb a b) (ltb a w) (stored s 2056 g (some a))) ∙ ap (λ (u : Bool). u && stored s 2056 g (some a)) (below-within a w b h)))
 
-  -- a row that is no group's
-  pub no-group : (s : List ℕ) (w mask g : ℕ) → w ≤ 256 → g < w → Sparse w mask (stored s 2056) → (bitAnd g mask ≡ g → ⊥)
-      → Adds 1028 s s (gains x (inRow (stored s 2056) w g) (below w) (stored s 0) (some g))
-  no-group s w mask g hw hg f ne =
-      gains-none s (inRow (stored s 2056) w g) (below w) (stored s 0) (some g) (λ b c. ap (λ (u : Bool). u && below w c) (go b (decLt b w)))
-    where
-      go : (b : ℕ) → Dec (b < w) → inRow (stored s 2056) w g b ≡ false
-      go b (yes d) = ap (λ (u : Bool). ltb b w && u) (f g hg ne b (omega arith)) ∙ and-false (ltb b w)
-      go b (no d) = ap (λ (u : Bool). u && stored s 2056 g (some b)) (le-ltb b w (omega arith))
-
   -- ---- all rows of G
 
   pub brought-none : (s : List ℕ) (G L : Pairs) (w : ℕ) → Adds 1028 s s (brought x G w L 0)
@@ -265,5 +263,29 @@ module _ (x : RuleSheet) where
       (adds-before 1028 s t (brought x (stored s 2056) w (stored s 0) g) f 0 b c hb hc (omega arith)))
       ∙ sym (any-one g (λ a. gains x (inRow (stored s 2056) w a) (below w) (stored s 0) (some a) b c)))
 
-  pub brought-all : (s t : List ℕ) (G L : Pairs) (w g v : ℕ) → g ≤ v → v ≤ g → v ≡ w → Adds 1028 s t (brought x G w L g) → Adds 1028 s t (brought x G w L w)
-  brought-all s t G L w g v h l q f = let e : g ≡ w = omega arith in subst (λ (k : ℕ). Adds 1028 s t (brought x G w L k)) e f
+  -- rows that are not among the groups bring nothing
+  module _ (s : List ℕ) (w : ℕ) (hw : w ≤ 256) (groups : List ℕ) (f : Sparse w groups (stored s 2056)) where
+    abbrev Upto : ℕ → Pairs
+    Upto k = brought x (stored s 2056) w (stored s 0) k
+
+    skip : (t : List ℕ) (k k′ : ℕ) → k ≤ k′ → k′ ≤ w → ((a : ℕ) → k ≤ a → a < k′ → rowBit groups 0 a ≡ false) → Adds 1028 s t (Upto k) → Adds 1028 s t (Upto k′)
+    unfolding brought gains
+    skip t k k′ l h absent q =
+        adds-as 1028 s t (Upto k) (Upto k′) q
+        (λ b c hb hc. ap (λ (u : Bool). stored s 1028 b c || u)
+        (any-skip k k′ (λ a. gains x (inRow (stored s 2056) w a) (below w) (stored s 0) (some a) b c) l
+        (λ a d e. ap (λ (u : Bool). (ltb b w && u) && (below w c && (stored s 0 b c && holds x (some a) b c))) (f a (omega arith) (absent a d e) b hb)
+        ∙ ap (λ (u : Bool). u && (below w c && (stored s 0 b c && holds x (some a) b c))) (and-false (ltb b w)))))
+
+    pub groups-first : (n g : ℕ) → NextBit groups 0 n 0 g → Adds 1028 s s (Upto (min g w))
+    groups-first n g z = skip s 0 (min g w) (omega arith) (omega arith) (λ a d e. z .skipped a d (omega arith)) (brought-none s (stored s 2056) (stored s 0) w)
+
+    pub groups-more : (t u : List ℕ) (n g g′ : ℕ) → g < w → Adds 1028 s t (Upto (min g w))
+        → Adds 1028 t u (gains x (inRow (stored t 2056) w g) (below w) (stored t 0) (some g)) → NextBit groups 0 n (g + 1) g′ → Adds 1028 s u (Upto (min g′ w))
+    groups-more t u n g g′ h q r z =
+        let e : min g w ≡ g = omega arith in
+        skip u (g + 1) (min g′ w) (omega (arith, z .onward)) (omega arith) (λ a d e. z .skipped a d (omega arith))
+        (brought-more s t u w g (omega arith) (subst (λ (k : ℕ). Adds 1028 s t (Upto k)) e q) r)
+
+    pub groups-all : (t : List ℕ) (g : ℕ) → w ≤ g → Adds 1028 s t (Upto (min g w)) → Adds 1028 s t (Upto w)
+    groups-all t g h q = let e : min g w ≡ w = omega arith in subst (λ (k : ℕ). Adds 1028 s t (Upto k)) e q

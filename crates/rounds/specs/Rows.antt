@@ -1,6 +1,7 @@
 -- For the contracts of private functions: the pairs that a set gains, row by row.
 use mathlib.Core.Path.{_≡_}
 use mathlib.Core.Bool.{Bool, true, false, not, cond, _&&_}
+use mathlib.Core.List.{List}
 use mathlib.Core.Option.{Option, none, some}
 use Prim.Native.Nat.{ℕ, _*_, _%_, _<_, _≤_}
 use lib.Bits.{bitAnd}
@@ -10,6 +11,7 @@ use Rattle.words.specs.Below.{anyBelow}
 use Rattle.sheet.specs.RuleSheet.{RuleSheet}
 use Rattle.lola.specs.Equations.{holds}
 use Rattle.completions.specs.Live.{Pairs}
+use Rattle.pairs.specs.Changes.{rowBit}
 use Rattle.lanes.specs.Around.{Before}
 
 -- v was heard, as its lane of the round's letters tells: the inputs, at most 6, are the low bits of the lane's number too
@@ -67,6 +69,6 @@ heardIn S r w a = cut (λ b. ltb b w && (S a (some b) && r b))
 unfoldable pub grouped : Pairs → (ℕ → Bool) → ℕ → ℕ → ℕ → Pairs
 grouped S r mask w k g c = anyBelow k (λ a. eqb g (bitAnd a mask) && heardIn S r w a c)
 
--- of the rows below w, those that the mask does not leave as they are have no valuation
-abbrev pub Sparse : ℕ → ℕ → Pairs → Type 0
-Sparse w mask G = (g : ℕ) → g < w → (bitAnd g mask ≡ g → ⊥) → (b : ℕ) → b < 256 → G g (some b) ≡ false
+-- of the rows below w, those that are not in the row of words have no valuation
+abbrev pub Sparse : ℕ → List ℕ → Pairs → Type 0
+Sparse w groups G = (g : ℕ) → g < w → rowBit groups 0 g ≡ false → (b : ℕ) → b < 256 → G g (some b) ≡ false

@@ -282,13 +282,10 @@ pub fn first_round(s: &mut [u64], code: &[u8], len: &[usize], m: usize, n: usize
 // ---- A later round
 
 // Row a of the reached set, what was heard of its w words, joins row g of the scratch set.
-fn group_row(s: &mut [u64], w: usize, letters: u64, a: usize, g: usize)
-    requires { ⌜ (1 ≤ w) × (w ≤ 4) × (w ≡ 3 → ⊥) × (a < 256) × (g < 256) × (3084 ≤ length (now s)) ⌝ }
+fn join_row(s: &mut [u64], w: usize, letters: u64, a: usize, g: usize)
+    requires { ⌜ (w ≤ 4) × (a < 256) × (g < 256) × (3084 ≤ length (now s)) ⌝ }
     ensures { λ r. ⌜ Adds 2056 (now (s .entry)) (now (s .exit)) (λ x y. eqb x g && heardIn (stored (now (s .entry)) 1028) (among letters) (64 * w) a y) ⌝ }
 {
-    if row_lanes(s, 1028, w, a) & letters == 0 {
-        return;
-    }
     let mut j: usize = 0;
     while j < w {
         let x = s[1028 + (4 * a + j)];
@@ -297,14 +294,28 @@ fn group_row(s: &mut [u64], w: usize, letters: u64, a: usize, g: usize)
     }
 }
 
+// The same; where anything was heard, g is noted among the groups.
+fn group_row(s: &mut [u64], groups: &mut [u64], w: usize, letters: u64, a: usize, g: usize)
+    requires { ⌜ (1 ≤ w) × (w ≤ 4) × (w ≡ 3 → ⊥) × (a < 256) × (g < 256) × (length (now groups) ≡ 4) × (3084 ≤ length (now s)) ⌝ }
+    ensures joined { λ r. ⌜ Adds 2056 (now (s .entry)) (now (s .exit)) (λ x y. eqb x g && heardIn (stored (now (s .entry)) 1028) (among letters) (64 * w) a y) ⌝ }
+    ensures sparse { λ r. ⌜ ((v : ℕ) → v ≤ 256 → Sparse v (now (groups .entry)) (stored (now (s .entry)) 2056) → Sparse v (now (groups .exit)) (stored (now (s .exit)) 2056)) ⌝ }
+{
+    if row_lanes(s, 1028, w, a) & letters == 0 {
+        return;
+    }
+    join_row(s, w, letters, a, g);
+    pairs::note(groups, g);
+}
+
 // Each row below v of the reached set joins the row of its group: rows that agree in the streams of the mask.
-fn group_rows(s: &mut [u64], v: usize, w: usize, letters: u64, mask: usize)
-    requires { ⌜ (v ≤ 256) × (1 ≤ w) × (w ≤ 4) × (w ≡ 3 → ⊥) × (3084 ≤ length (now s)) ⌝ }
-    ensures { λ r. ⌜ Adds 2056 (now (s .entry)) (now (s .exit)) (grouped (stored (now (s .entry)) 1028) (among letters) mask (64 * w) v) ⌝ }
+fn group_rows(s: &mut [u64], groups: &mut [u64], v: usize, w: usize, letters: u64, mask: usize)
+    requires { ⌜ (v ≤ 256) × (1 ≤ w) × (w ≤ 4) × (w ≡ 3 → ⊥) × (length (now groups) ≡ 4) × (3084 ≤ length (now s)) ⌝ }
+    ensures joined { λ r. ⌜ Adds 2056 (now (s .entry)) (now (s .exit)) (grouped (stored (now (s .entry)) 1028) (among letters) mask (64 * w) v) ⌝ }
+    ensures sparse { λ r. ⌜ (Sparse v (now (groups .entry)) (stored (now (s .entry)) 2056) → Sparse v (now (groups .exit)) (stored (now (s .exit)) 2056)) ⌝ }
 {
     let mut a: usize = 0;
     while a < v {
-        group_row(s, w, letters, a, a & mask);
+        group_row(s, groups, w, letters, a, a & mask);
         a += 1;
     }
 }
@@ -334,61 +345,42 @@ fn bring_row(
     }
 }
 
-// The same, where rows that the mask does not leave as they are have nothing to bring.
-fn bring_group(
-    s: &mut [u64],
-    st: &mut [u64],
-    code: &[u8],
-    len: &[usize],
-    m: usize,
-    n: usize,
-    mask: usize,
-    g: usize,
-)
-    requires { ⌜ Coded m n (now code) (now len) ⌝ }
-    requires { ⌜ (room (2 ^ (m + n)) ≤ length (now st)) × (3084 ≤ length (now s)) × (g < 2 ^ (m + n)) × (2 ^ (m + n) ≤ 256) × Sparse (2 ^ (m + n)) mask (stored (now s) 2056) ⌝ }
-    ensures { λ r. ⌜ ((ks : List ℕ) → Adds 1028 (now (s .entry)) (now (s .exit)) (gains (sheetOf m n (now (code .entry)) (now (len .entry)) ks) (inRow (stored (now (s .entry)) 2056) (2 ^ (m + n)) g) (below (2 ^ (m + n))) (stored (now (s .entry)) 0) (some g))) ⌝ }
-{
-    if g & mask == g {
-        bring_row(s, st, code, len, m, n, g);
-    }
-}
-
-// The pairs that the scratch set brings; its rows are groups by the mask, and st is room to work in.
+// The pairs that the scratch set brings; only rows of the groups have any, and st is room to work in.
 fn bring_rows(
     s: &mut [u64],
     st: &mut [u64],
+    groups: &[u64],
     code: &[u8],
     len: &[usize],
     m: usize,
     n: usize,
-    mask: usize,
 )
     requires { ⌜ Coded m n (now code) (now len) ⌝ }
-    requires { ⌜ (room (2 ^ (m + n)) ≤ length (now st)) × (3084 ≤ length (now s)) × Sparse (2 ^ (m + n)) mask (stored (now s) 2056) ⌝ }
+    requires { ⌜ (room (2 ^ (m + n)) ≤ length (now st)) × (length (now groups) ≡ 4) × (3084 ≤ length (now s)) × Sparse (2 ^ (m + n)) (now groups) (stored (now s) 2056) ⌝ }
     ensures { λ r. ⌜ ((ks : List ℕ) → Adds 1028 (now (s .entry)) (now (s .exit)) (brought (sheetOf m n (now (code .entry)) (now (len .entry)) ks) (stored (now (s .entry)) 2056) (2 ^ (m + n)) (stored (now (s .entry)) 0) (2 ^ (m + n)))) ⌝ }
 {
     let v = valuations(m, n);
-    let mut g: usize = 0;
+    let w = row_words(m, n);
+    let mut g = pairs::next_bit(groups, 0, w, 0);
     while g < v {
-        bring_group(s, st, code, len, m, n, mask, g);
-        g += 1;
+        bring_row(s, st, code, len, m, n, g);
+        g = pairs::next_bit(groups, 0, w, g + 1);
     }
 }
 
 // The same, with as much room as the valuations want.
-fn bring_pairs(s: &mut [u64], code: &[u8], len: &[usize], m: usize, n: usize, mask: usize)
+fn bring_pairs(s: &mut [u64], groups: &[u64], code: &[u8], len: &[usize], m: usize, n: usize)
     requires { ⌜ Coded m n (now code) (now len) ⌝ }
-    requires { ⌜ (3084 ≤ length (now s)) × Sparse (2 ^ (m + n)) mask (stored (now s) 2056) ⌝ }
+    requires { ⌜ (length (now groups) ≡ 4) × (3084 ≤ length (now s)) × Sparse (2 ^ (m + n)) (now groups) (stored (now s) 2056) ⌝ }
     ensures { λ r. ⌜ ((ks : List ℕ) → Adds 1028 (now (s .entry)) (now (s .exit)) (brought (sheetOf m n (now (code .entry)) (now (len .entry)) ks) (stored (now (s .entry)) 2056) (2 ^ (m + n)) (stored (now (s .entry)) 0) (2 ^ (m + n)))) ⌝ }
 {
     if valuations(m, n) <= 64 {
         let mut st = [0u64; 64];
-        bring_rows(s, &mut st, code, len, m, n, mask);
+        bring_rows(s, &mut st, groups, code, len, m, n);
         return;
     }
     let mut st = [0u64; 256];
-    bring_rows(s, &mut st, code, len, m, n, mask);
+    bring_rows(s, &mut st, groups, code, len, m, n);
 }
 
 // A later round. Pairs (a, b) and (a', b) whose first parts agree in every stream that is read one round earlier have the same
@@ -401,9 +393,10 @@ pub fn later_round(s: &mut [u64], code: &[u8], len: &[usize], m: usize, n: usize
     let v = valuations(m, n);
     let mask = lanes::earlier_mask(code, len, m, n);
     pairs::clear_rows(s, 2056, v);
-    group_rows(s, v, row_words(m, n), letters, mask);
+    let mut groups = [0u64; 4];
+    group_rows(s, &mut groups, v, row_words(m, n), letters, mask);
     pairs::clear_rows(s, 1028, v);
-    bring_pairs(s, code, len, m, n, mask);
+    bring_pairs(s, &groups, code, len, m, n);
     pairs::clear_rows(s, 2056, v);
 }
 

@@ -6,12 +6,6 @@ use Rattle.monitor.proofs.Done.{told-are, heard-firsts, round-done}
 use borrow.Author.Needs.{needs}
 use Rattle.monitor.proofs.accepted_round.Statement.{statement}
 use Rattle.monitor.proofs.accepted_round.Tie as tie
-use Rattle.monitor.proofs.accepted_round.Reads as reads
-use Rattle.monitor.proofs.accepted_round.Lts as lts
-use Rattle.letters.proofs.letters_of.Reads as letters-of-reads
-use Rattle.monitor.proofs.step.Reads as step-reads
-use Rattle.record.proofs.with_round.Reads as with-round-reads
-use Rattle.rounds.proofs.round_verdicts.Reads as round-verdicts-reads
 
 cast-m : tie.Need-cast-m
 cast-m c = search needs

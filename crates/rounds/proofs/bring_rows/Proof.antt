@@ -1,49 +1,60 @@
--- `rounds::bring_rows` meets its contract: the rows below g are done. Assumes nothing.
+-- `rounds::bring_rows` meets its contract: the groups below g are done, and rows between them have nothing. Assumes nothing.
 use native.Mathlib.Omega.{arith}
 use borrow.Author.Needs.{needs}
 use mathlib.Core.Path.{_≡_, refl}
-use Prim.Native.Nat.{ℕ, _+_, _-_, _^_, _≤_}
+use mathlib.Core.List.{List}
+use Prim.Native.Nat.{ℕ, _+_, _-_, _*_, _^_, _≤_, min}
 use lib.ListN.{length}
-use mathlib.Core.List.{List, []}
 use Rattle.pairs.specs.Storage.{stored}
 use Rattle.pairs.specs.Changes.{Adds}
 use Rattle.lanes.specs.Coded.{sheetOf}
 use Rattle.rounds.specs.Rows.{brought}
-use Rattle.rounds.proofs.RowLaws.{brought-none, brought-more, brought-all, sparse-same}
+use Rattle.rounds.proofs.RowLaws.{groups-first, groups-more, groups-all}
 use Rattle.rounds.proofs.bring_rows.Statement.{statement}
 use Rattle.rounds.proofs.bring_rows.Tie as tie
+use Rattle.rounds.proofs.bring_rows.Reads as reads
+use Rattle.rounds.proofs.bring_rows.Lts as lts
+use Rattle.pairs.proofs.next_bit.Reads as next-bit-reads
+use Rattle.rounds.proofs.bring_row.Reads as bring-row-reads
+use Rattle.rounds.proofs.row_words.Reads as row-words-reads
+use Rattle.rounds.proofs.valuations.Reads as valuations-reads
 
 abbrev Inv-loop : tie.InvT-loop
-Inv-loop s₀ st₀ code len m n mask v g₀ s st g =
-    (g ≤ v)
+Inv-loop s₀ st₀ groups code len m n v w g₀ s st g =
+    (g ≤ 64 * w)
     × (length s ≡ length s₀)
     × (length st ≡ length st₀)
-    × ((ks : List ℕ) → Adds 1028 s₀ s (brought (sheetOf m n code len ks) (stored s₀ 2056) (2 ^ (m + n)) (stored s₀ 0) g))
+    × ((ks : List ℕ) → Adds 1028 s₀ s (brought (sheetOf m n code len ks) (stored s₀ 2056) (2 ^ (m + n)) (stored s₀ 0) (min g (2 ^ (m + n)))))
 
 abbrev μ-loop : tie.MeasureT-loop
-μ-loop s₀ st₀ code len m n mask v g₀ s st g = v - g
+μ-loop s₀ st₀ groups code len m n v w g₀ s st g = 64 * w - g
 
 valuations-requires : tie.Need-valuations-requires Inv-loop μ-loop
-valuations-requires c κs = c .before .before .before .before .pre .0 .ranges .streams
+valuations-requires c κs = c .before .before .before .before .before .pre .0 .ranges .streams
+
+row-words-requires : tie.Need-row-words-requires Inv-loop μ-loop
+row-words-requires c κs = c .before .before .before .before .before .before .pre .0 .ranges .streams
+
+next-bit-requires : tie.Need-next-bit-requires Inv-loop μ-loop
+next-bit-requires c κs = let r = c .row-words .ensures in (omega arith, r .most, omega arith, omega (arith, r .most, c .before .before .before .before .before .before .before .pre .1 .1))
 
 loop-holds : tie.Need-loop-holds Inv-loop μ-loop
-loop-holds c = (omega arith, refl, refl, λ ks. brought-none _ _ _ _ _)
+loop-holds c = let r = c .before .before .valuations .ensures in (c .next-bit .ensures .inside, refl, refl, λ ks. groups-first _ _ _ (omega (arith, r)) _ (c .before .before .before .before .before .before .before .before .pre .1 .3) _ _ (c .next-bit .ensures))
 
-bring-group-requires : tie.Need-bring-group-requires Inv-loop μ-loop
-bring-group-requires c κs =
-    let q = c .before .before .before .before .before .before .before .before .before .pre in
-    let l = c .before .before .before .loop .inv in
-    let v = c .before .before .before .before .valuations .ensures in
-    (q .0, (omega (arith, l .2, q .1 .0), omega (arith, l .1, q .1 .1), omega (arith, v), omega (arith, v), sparse-same _ _ _ _ _ (omega (arith, v)) (l .3 []) (q .1 .2)))
+bring-row-requires : tie.Need-bring-row-requires Inv-loop μ-loop
+bring-row-requires c κs = let p = c .before .before .before .before .before .before .before .before .before .before .before .before .pre in (p .0, (omega (arith, c .before .before .before .loop .inv .2, p .1 .0), omega (arith, c .before .before .before .loop .inv .1, p .1 .2), omega (arith, c .before .before .before .before .before .before .valuations .ensures)))
 
-add-g : tie.Need-add-g Inv-loop μ-loop
-add-g c = search needs
+add-next-bit : tie.Need-add-next-bit Inv-loop μ-loop
+add-next-bit c = omega (arith, c .before .before .before .before .before .before .before .before .before .before .row-words .ensures .most)
+
+next-bit-requires-2 : tie.Need-next-bit-requires-2 Inv-loop μ-loop
+next-bit-requires-2 c κs = let r = c .before .before .before .before .before .before .before .before .before .before .row-words .ensures in (omega (arith, r .under, c .before .before .before .before .before .before .before .before .before .before .before .valuations .ensures), r .most, omega arith, omega (arith, r .most, c .before .before .before .before .before .before .before .before .before .before .before .before .before .before .before .before .before .pre .1 .1))
 
 loop-less : tie.Need-loop-less Inv-loop μ-loop
-loop-less c = search needs
+loop-less c = omega (arith, c .next-bit2 .ensures .onward, c .next-bit2 .ensures .inside)
 
 loop-again : tie.Need-loop-again Inv-loop μ-loop
-loop-again c = (omega arith, omega arith, omega arith, λ ks. brought-more _ _ _ _ _ _ (omega (arith, c .before .before .before .before .before .before .before .before .before .valuations .ensures)) (c .before .before .before .before .before .before .before .before .loop .inv .3 ks) (c .before .before .before .before .bring-group .ensures ks))
+loop-again c = let r = c .before .before .before .before .before .before .before .before .before .before .before .before .valuations .ensures in (c .next-bit2 .ensures .inside, omega arith, omega arith, λ ks. groups-more _ _ _ (omega (arith, r)) _ (c .before .before .before .before .before .before .before .before .before .before .before .before .before .before .before .before .before .before .pre .1 .3) _ _ _ _ _ (omega (arith, r)) (c .before .before .before .before .before .before .before .before .before .loop .inv .3 ks) (c .before .before .before .before .before .bring-row .ensures ks) (c .next-bit2 .ensures))
 
 same-length : tie.Need-same-length Inv-loop μ-loop
 same-length c = search needs
@@ -52,7 +63,7 @@ same-length-2 : tie.Need-same-length-2 Inv-loop μ-loop
 same-length-2 c = search needs
 
 returns : tie.Need-returns Inv-loop μ-loop
-returns c = λ ks. brought-all _ _ _ _ _ _ _ _ (c .before .loop .inv .0) (c .loop-test .left) (c .before .before .valuations .ensures .0) (c .before .loop .inv .3 ks)
+returns c = λ ks. let r = c .before .before .before .before .valuations .ensures in groups-all _ _ _ (omega (arith, r)) _ (c .before .before .before .before .before .before .before .before .before .before .pre .1 .3) _ _ (omega (arith, r)) (c .before .loop .inv .3 ks)
 
 pub bring-rows-spec : {M : Type 1} → statement M
 bring-rows-spec =
@@ -61,9 +72,12 @@ bring-rows-spec =
     Inv-loop
     μ-loop
     valuations-requires
+    row-words-requires
+    next-bit-requires
     loop-holds
-    bring-group-requires
-    add-g
+    bring-row-requires
+    add-next-bit
+    next-bit-requires-2
     loop-less
     loop-again
     same-length

@@ -1,83 +1,49 @@
--- `rounds::group_row` meets its contract: the words below j have joined. Assumes nothing.
+-- `rounds::group_row` meets its contract: where nothing was heard, nothing is left to join. Assumes nothing.
 use native.Mathlib.Omega.{arith}
 use borrow.Author.Needs.{needs}
-use mathlib.Core.Path.{_≡_, refl}
-use Prim.Native.Nat.{_-_, _*_, _≤_}
-use lib.ListN.{length}
-use Rattle.pairs.specs.Changes.{Adds}
-use Rattle.rounds.proofs.WordLaws.{Joined, unheard-row, joined-none, joined-more, joined-all}
+use Rattle.rounds.proofs.RowLaws.{sparse-noted}
+use Rattle.rounds.proofs.WordLaws.{unheard-row}
 use Rattle.rounds.proofs.group_row.Statement.{statement}
 use Rattle.rounds.proofs.group_row.Tie as tie
+use Rattle.rounds.proofs.group_row.Reads as reads
+use Rattle.rounds.proofs.group_row.Lts as lts
+use Rattle.pairs.proofs.note.Reads as note-reads
+use Rattle.rounds.proofs.join_row.Reads as join-row-reads
+use Rattle.rounds.proofs.row_lanes.Reads as row-lanes-reads
 
-abbrev Inv-loop : tie.InvT-loop
-Inv-loop s₀ w letters a g j₀ s j = (j ≤ w) × (length s ≡ length s₀) × Adds 2056 s₀ s (Joined s₀ letters a g (64 * j))
+row-lanes-requires : tie.Need-row-lanes-requires
+row-lanes-requires c κs = let p = c .before .before .before .pre in (p .0, p .1, p .2, p .3, omega arith, p .6)
 
-abbrev μ-loop : tie.MeasureT-loop
-μ-loop s₀ w letters a g j₀ s j = w - j
-
-row-lanes-requires : tie.Need-row-lanes-requires Inv-loop μ-loop
-row-lanes-requires c κs = let p = c .before .before .pre in (p .0, p .1, p .2, p .3, omega arith, p .5)
-
-same-length : tie.Need-same-length Inv-loop μ-loop
+same-length : tie.Need-same-length
 same-length c = search needs
 
-returns : tie.Need-returns Inv-loop μ-loop
-returns c = unheard-row _ _ _ _ (c .before .before .before .before .pre .3) _ _ (c .before .row-lanes .ensures) (c .if1 .taken)
+returns : tie.Need-returns
+returns c = (unheard-row _ _ _ _ (c .before .before .before .before .before .pre .3) _ _ (c .before .row-lanes .ensures) (c .if1 .taken), λ v h f. f)
 
-loop-holds : tie.Need-loop-holds Inv-loop μ-loop
-loop-holds c = (omega arith, refl, joined-none _ _ _ _ (c .before .before .before .before .pre .3))
+join-row-requires : tie.Need-join-row-requires
+join-row-requires c κs = search needs
 
-mul-x : tie.Need-mul-x Inv-loop μ-loop
-mul-x c = search needs
+note-requires : tie.Need-note-requires
+note-requires c κs = search needs
 
-add-x : tie.Need-add-x Inv-loop μ-loop
-add-x c = search needs
-
-add-x-2 : tie.Need-add-x-2 Inv-loop μ-loop
-add-x-2 c = search needs
-
-mul-x-2 : tie.Need-mul-x-2 Inv-loop μ-loop
-mul-x-2 c = search needs
-
-slice-read-x : tie.Need-slice-read-x Inv-loop μ-loop
-slice-read-x c = search needs
-
-insert-word-requires : tie.Need-insert-word-requires Inv-loop μ-loop
-insert-word-requires c κs = search needs
-
-add-j : tie.Need-add-j Inv-loop μ-loop
-add-j c = search needs
-
-loop-less : tie.Need-loop-less Inv-loop μ-loop
-loop-less c = search needs
-
-loop-again : tie.Need-loop-again Inv-loop μ-loop
-loop-again c = (omega arith, omega arith, joined-more _ _ _ _ (c .before .before .before .before .before .before .before .before .before .before .before .pre .3) _ _ _ (omega arith) (c .before .before .before .before .before .before .loop .inv .2) (c .before .before .insert-word .ensures))
-
-same-length-2 : tie.Need-same-length-2 Inv-loop μ-loop
+same-length-2 : tie.Need-same-length-2
 same-length-2 c = search needs
 
-returns-2 : tie.Need-returns-2 Inv-loop μ-loop
-returns-2 c = joined-all _ _ _ _ (c .before .before .before .before .before .before .pre .3) _ _ _ (c .before .loop .inv .0) (c .loop-test .left) (c .before .loop .inv .2)
+same-length-3 : tie.Need-same-length-3
+same-length-3 c = search needs
+
+returns-2 : tie.Need-returns-2
+returns-2 c = (c .before .before .before .before .before .before .join-row .ensures, sparse-noted _ _ _ _ _ _ (c .before .before .before .before .before .before .join-row .ensures) (c .before .before .note .ensures))
 
 pub group-row-spec : {M : Type 1} → statement M
 group-row-spec =
     tie.close
     (tie.spec
-    Inv-loop
-    μ-loop
     row-lanes-requires
     same-length
     returns
-    loop-holds
-    mul-x
-    add-x
-    add-x-2
-    mul-x-2
-    slice-read-x
-    insert-word-requires
-    add-j
-    loop-less
-    loop-again
+    join-row-requires
+    note-requires
     same-length-2
+    same-length-3
     returns-2)

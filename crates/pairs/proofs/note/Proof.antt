@@ -1,8 +1,8 @@
 use native.Mathlib.Omega.{arith}
-use Rattle.preparation.proofs.Rows.{noted}
+use Rattle.pairs.proofs.Sets.{noted}
 use borrow.Author.Needs.{needs}
-use Rattle.preparation.proofs.note.Statement.{statement}
-use Rattle.preparation.proofs.note.Tie as tie
+use Rattle.pairs.proofs.note.Statement.{statement}
+use Rattle.pairs.proofs.note.Tie as tie
 
 mul-row : tie.Need-mul-row
 mul-row c = search needs

@@ -1,4 +1,5 @@
 -- Rules 1 to 10 of a sheet, in their order (01, "What is turned down"): first those of reading it, last rule 10.
+-- Manual: "Refusals".
 use mathlib.Core.Path.{_≡_}
 use mathlib.Core.List.{List, [], _∷_, _++_, map}
 use Prim.Native.Nat.{ℕ}

@@ -1,5 +1,6 @@
 -- Circular sheets (01, "Circular sheets"), first for n outputs and any table of reads: `E s q o` tells whether output s reads output q at
 -- the offset o, where 0 is one round earlier, 1 the same round, 2 one round later.
+-- Manual: "The language".
 use mathlib.Core.Path.{_≡_}
 use mathlib.Core.Bool.{Bool, true, false}
 use Prim.Native.Nat.{ℕ, _+_, _≤_, _<_}

@@ -1,4 +1,5 @@
 -- The only values that satisfy all equations (01, "Whole traces").
+-- Manual: "The language".
 use mathlib.Core.Path.{_≡_}
 use mathlib.Core.List.{List, map}
 use mathlib.Core.Option.{none}

@@ -2,6 +2,7 @@
 use mathlib.Core.Path.{subst}
 use mathlib.Core.List.{List}
 use Prim.Native.Nat.{ℕ}
+use lib.ListN.{length}
 use Rattle.refusal.specs.declared.Outcome.{Outcome}
 use Rattle.refusal.specs.Decided.{Decided}
 use Rattle.sheet.specs.RuleSheet.{RuleSheet}
@@ -10,13 +11,13 @@ use Rattle.sheet.specs.declared.Sheet.{Sheet}
 use Rattle.form.specs.Form.{formOf}
 use Rattle.form.proofs.FormLaws.{usable-form}
 use Rattle.record.specs.declared.JournalRecord.{JournalRecord}
-use Rattle.monitor.specs.Checks.{Given, CallCheck, CallBroken, callRule, Broken, rule, entryChecks, prepareChecks, roundChecks, closingChecks}
+use Rattle.monitor.specs.Checks.{given, Given, CallCheck, CallBroken, callRule, Broken, rule, entryChecks, prepareChecks, roundChecks, closingChecks}
 use Rattle.monitor.specs.Results.{OfSheet, AfterForm, Prepared, RoundDone, ClosingDone}
 use Rattle.monitor.specs.declared.PrepareAnswer.{PrepareAnswer}
 use Rattle.monitor.specs.declared.RoundAnswer.{RoundAnswer}
 use Rattle.monitor.specs.declared.ClosingAnswer.{ClosingAnswer}
 use Rattle.monitor.proofs.Entries.{sheet-accepted, prepare-of, round-of, closing-of}
-use Rattle.claims.specs.ReadSheet.{given, Accepts, PreparedRead, PreparedBytes, RoundRead, RoundBytes, ClosingRead, ClosingBytes, ReadAsBytes}
+use Rattle.claims.specs.ReadSheet.{Accepts, PreparedRead, PreparedBytes, RoundRead, RoundBytes, ClosingRead, ClosingBytes, ReadAsBytes}
 
 module _ (bs : List ℕ) (x : Sheet) (ok : Accepts bs x) where
   -- the form is right, so the call's checks decide
@@ -29,19 +30,19 @@ module _ (bs : List ℕ) (x : Sheet) (ok : Accepts bs x) where
 
   pub prepared-bytes : (s t : List ℕ) (a : PrepareAnswer) → PreparedRead x s t a → PreparedBytes bs s t a
   prepared-bytes s t a (d, r) = (
-    (λ z. decided-bytes prepareChecks (given s z 0 0) (a .outcome) (d z)),
+    (λ z. decided-bytes prepareChecks (given (length s) z 0 0) (a .outcome) (d z)),
     prepare-of (Prepared (ruleSheet x) s t a) (OfSheet bs (λ (y : RuleSheet). Prepared y s t a)) s t a (a .outcome) (λ p. (ruleSheet x, ok .read .reads, p)) r,
   )
 
   pub round-bytes : (s t : List ℕ) (r : JournalRecord) (known val : ℕ) (a : RoundAnswer) → RoundRead x s t r known val a → RoundBytes bs s t r known val a
   round-bytes s t r known val a (d, z) = (
-    decided-bytes roundChecks (given s r known val) (a .outcome) d,
+    decided-bytes roundChecks (given (length s) r known val) (a .outcome) d,
     round-of (RoundDone (ruleSheet x) s t r known val a) (OfSheet bs (λ (y : RuleSheet). RoundDone y s t r known val a)) s t r a (a .outcome) (λ p. (ruleSheet x, ok .read .reads, p)) z,
   )
 
   pub closing-bytes : (s : List ℕ) (r : JournalRecord) (a : ClosingAnswer) → ClosingRead x s r a → ClosingBytes bs s r a
   closing-bytes s r a (d, z) = (
-    decided-bytes closingChecks (given s r 0 0) (a .outcome) d,
+    decided-bytes closingChecks (given (length s) r 0 0) (a .outcome) d,
     closing-of (ClosingDone (ruleSheet x) s r a) (OfSheet bs (λ (y : RuleSheet). ClosingDone y s r a)) r a (a .outcome) (λ p. (ruleSheet x, ok .read .reads, p)) z,
   )
 

@@ -1,5 +1,6 @@
 -- The book (01, "Completions and verdicts", the book of the third demand): what each call of a journal is answered, said by completions
 -- alone. It is fed the sheet and the calls, and nothing else.
+-- Manual: "Completions and verdicts".
 use mathlib.Core.Bool.{Bool, true, false, cond}
 use mathlib.Core.Path.{_≡_}
 use mathlib.Core.List.{List, [], _∷_, _++_}

@@ -1,4 +1,5 @@
 -- The demands as types; their proofs are in proofs/.
+-- Manual: "Completions and verdicts".
 use mathlib.Core.Path.{_≡_}
 use mathlib.Core.List.{List}
 use Prim.Native.Nat.{ℕ}
@@ -30,7 +31,7 @@ SecondDemand =
 
 -- what preparation is handed: the storage lent; it takes no record and no masks, so these may be any
 abbrev pub lent : List ℕ → JournalRecord → checks.Given
-lent s r = record { lent = length s; before = r; known = 0; val = 0 }
+lent s r = checks.given (length s) r 0 0
 
 -- The third demand (01, "Completions and verdicts"): after one accepted preparation with the sheet bs, whatever the storage s held, for
 -- every list of rounds and closings with that sheet, refused ones included, the answers are the book's, and the record afterwards is the

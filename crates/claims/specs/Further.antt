@@ -1,4 +1,5 @@
 -- Further sentences of 01, "The sheet", "Completions and verdicts" and "Tallies", as types.
+-- Manual: "Completions and verdicts".
 use mathlib.Core.Path.{_≡_}
 use mathlib.Core.Bool.{false}
 use mathlib.Core.List.{List, [], _∷_, _++_}

@@ -1,5 +1,6 @@
 -- Lists of calls after one accepted preparation (01, "Completions and verdicts"): each call is handed the record and the storage that
 -- the call before left.
+-- Manual: "Completions and verdicts".
 use mathlib.Core.Path.{_≡_}
 use mathlib.Core.List.{List, [], _∷_}
 use Prim.Native.Nat.{ℕ, zero, suc, _<_}
@@ -40,7 +41,7 @@ closingSays n a (Refused r) = refused r
 
 -- what a call is handed
 abbrev pub handed : Held → ℕ → ℕ → checks.Given
-handed h known val = record { lent = length (h .storage); before = h .journal; known = known; val = val }
+handed h known val = checks.given (length (h .storage)) (h .journal) known val
 
 -- one call with the sheet bs, as the contracts of `round` and `close` have it: what is held before, the call, its answer, what is held after
 pub data SessionStep (bs : List ℕ) (h : Held) : Call → Answer → Held → Type 0 where

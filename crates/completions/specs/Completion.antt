@@ -1,4 +1,5 @@
 -- Completions (01, "Completions and verdicts"): lists of letters that match what was heard and keep the assumption to their end.
+-- Manual: "Completions and verdicts".
 use mathlib.Core.Bool.{Bool}
 use mathlib.Core.Path.{_≡_}
 use mathlib.Core.List.{List, [], _∷_, map}

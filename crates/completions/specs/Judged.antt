@@ -1,4 +1,5 @@
 -- The four verdicts (01, "Completions and verdicts").
+-- Manual: "Completions and verdicts".
 use mathlib.Core.Bool.{Bool, not}
 use mathlib.Core.List.{List}
 use Prim.Native.Nat.{ℕ, pred}

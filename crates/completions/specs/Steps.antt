@@ -1,5 +1,6 @@
 -- The steps of the monitor on sets of pairs, and the verdicts read off a set. On the sets that preparation made they give the verdicts
 -- over completions; on any other sets they say what the entries do with them (01, "Completions and verdicts").
+-- Manual: "Completions and verdicts".
 use mathlib.Core.Bool.{Bool, true, false, not, _&&_, _||_}
 use mathlib.Core.Logic.{_↔_}
 use mathlib.Core.Option.{Option, none, some}

@@ -1,5 +1,6 @@
 -- A sheet of 463 bytes, the most that a sheet can have (01, "The sheet"): one input, seven outputs of 64 bytes each, which read the input and
 -- negate it 63 times.
+-- Manual: "The sheet".
 use mathlib.Core.Path.{_≡_}
 use mathlib.Core.List.{List, [], _∷_, _++_}
 use Prim.Native.Nat.{ℕ, zero, suc}

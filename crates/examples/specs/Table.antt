@@ -1,4 +1,5 @@
 -- The marked examples a to l (01, "Marked examples of the language"): sheet bytes in, answers out.
+-- Manual: "Worked examples".
 use mathlib.Core.Path.{_≡_}
 use mathlib.Core.List.{List, [], _∷_}
 use mathlib.Core.Option.{none, some}

@@ -1,5 +1,6 @@
 -- What a sheet handed over in its read form is refused with (01, "What is turned down"): rules 4 to 8, those of the bytes that it holds, in
 -- the order of the table. A sheet that the reader accepted breaks none.
+-- Manual: "Refusals".
 use mathlib.Core.Bool.{Bool, true, cond, _&&_}
 use mathlib.Core.List.{List, []}
 use Prim.Native.Nat.{ℕ, zero, suc, _+_}

@@ -1,5 +1,6 @@
 -- What the exported functions of preparation, rounds and closing give and leave: what `prepare`, `round` and `close` do with the record that the
 -- slice holds, its number, and for an accepted call the new record and the answer in their slices (01, "What is turned down").
+-- Manual: "Calling it".
 use mathlib.Core.Path.{_≡_}
 use mathlib.Core.Bool.{Bool, true, false}
 use mathlib.Core.List.{List, _∷_, []}

@@ -1,4 +1,5 @@
 -- What the exported functions give: the number of the outcome that the entry's definition has (01, "What is turned down").
+-- Manual: "Calling it".
 use mathlib.Core.Path.{_≡_}
 use mathlib.Core.List.{List}
 use Prim.Native.Nat.{ℕ}

@@ -1,4 +1,5 @@
 -- The journal record and the answers as the exported functions take them: slices of 32-bit numbers (docs/LAYOUT.md).
+-- Manual: "Calling it".
 use mathlib.Core.Bool.{Bool, cond, _&&_}
 use mathlib.Core.List.{List, _∷_}
 use Prim.Native.Nat.{ℕ}

@@ -1,4 +1,5 @@
 -- Rule 11 for the masks of a round (01, "What is turned down").
+-- Manual: "Refusals".
 use mathlib.Core.Bool.{Bool, not, _||_}
 use Prim.Native.Nat.{ℕ, _^_}
 use lib.Bits.{bitAnd}

@@ -16,7 +16,7 @@ use Rattle.sheet.specs.declared.Sheet.{Sheet}
 use Rattle.sheet.proofs.Formed.{counts-of}
 use Rattle.record.specs.declared.JournalRecord.{JournalRecord}
 use Rattle.form.specs.Form.{formOf}
-use Rattle.monitor.specs.Checks.{Given, callRule, CallBroken, closed, closingChecks, prepareChecks, Broken, rule, entryChecks}
+use Rattle.monitor.specs.Checks.{given, Given, callRule, CallBroken, closed, closingChecks, prepareChecks, Broken, rule, entryChecks}
 use Rattle.monitor.specs.Results.{OfSheet, AfterForm, Prepared, RoundDone, ClosingDone, PrepareResult, RoundResult, ClosingResult}
 use Rattle.monitor.specs.declared.PrepareAnswer.{PrepareAnswer}
 use Rattle.monitor.specs.declared.RoundAnswer.{RoundAnswer}
@@ -28,7 +28,7 @@ use Rattle.claims.specs.Book.{Call, round, closing, Answer, Book, emptyBook, Bo
 use Rattle.claims.specs.Book as book
 use Rattle.claims.specs.Session.{Held, roundSays, closingSays, SessionStep, a-round, a-closing, Matches}
 use Rattle.claims.specs.Session as session
-use Rattle.claims.specs.ReadSheet.{given, Accepts, PreparedRead, RoundRead, ClosingRead}
+use Rattle.claims.specs.ReadSheet.{Accepts, PreparedRead, RoundRead, ClosingRead}
 use Rattle.claims.proofs.ReadSheet.{prepared-bytes, round-bytes, closing-bytes}
 use Rattle.claims.proofs.BookLaws.{step-unique}
 use Rattle.claims.proofs.ThirdDemand.{third-demand}
@@ -85,7 +85,7 @@ module _ (sheet : List ℕ) (x : Sheet) (o : Accepts sheet x) where
   -- storage that was prepared
   pub serves-prepared : (s t : List ℕ) (p : PrepareAnswer) → 3084 ≤ length s → PreparedRead x s t p → Serves sheet (ruleSheet x) emptyBook (held t (p .record))
   serves-prepared s t p l d cs as′ k ss =
-      let g = given s (p .record) 0 0 in
+      let g = given (length s) (p .record) 0 0 in
       let w = prepared-bytes sheet x o s t p d in
       let fits : Decided (Broken sheet g) rule (entryChecks sheet prepareChecks) Accepted =
       sheet-accepted sheet g x (o .read) (o .decided) prepareChecks Accepted (past-storage (x .inputs) (x .outputs) g [] Accepted l (none-left (x .inputs) (x .outputs) g)) in
@@ -116,7 +116,7 @@ pub closing-kept : (x : Sheet) (s : List ℕ) (r : JournalRecord) (a : ClosingAn
     → whenAccepted (a .outcome) ((r .closed ≡ false) × (a .record .closed ≡ true) × (a .record .counts ≡ r .counts) × (length (a .verdicts) ≡ 7) × (length (a .shares) ≡ 7))
 closing-kept x s r a (d, z) = go (a .outcome) d z
   where
-    go : (o : Outcome) → AfterForm (formOf x) (Decided (CallBroken (x .inputs) (x .outputs) (given s r 0 0)) callRule closingChecks) o → ClosingResult (ClosingDone (ruleSheet x) s r a) r a o
+    go : (o : Outcome) → AfterForm (formOf x) (Decided (CallBroken (x .inputs) (x .outputs) (given (length s) r 0 0)) callRule closingChecks) o → ClosingResult (ClosingDone (ruleSheet x) s r a) r a o
         → whenAccepted o ((r .closed ≡ false) × (a .record .closed ≡ true) × (a .record .counts ≡ r .counts) × (length (a .verdicts) ≡ 7) × (length (a .shares) ≡ 7))
-    go Accepted h w = (open-before x (given s r 0 0) (formOf x) h, w .closed, w .counts, w .verdicts .size, w .sizes)
+    go Accepted h w = (open-before x (given (length s) r 0 0) (formOf x) h, w .closed, w .counts, w .verdicts .size, w .sizes)
     go (Refused e) h w = tt

@@ -1,5 +1,6 @@
 -- Theorems on the journal program as types: whatever chunks its input arrives in, what it writes is what 01, "The journal program", says
 -- of the whole input, and that leaves nothing open. The chunks are fed as the contracts of `start`, `feed` and `finish` have it.
+-- Manual: "The program".
 use mathlib.Core.Path.{_≡_}
 use mathlib.Core.Bool.{true}
 use mathlib.Core.List.{List, [], _∷_, _++_}

@@ -1,4 +1,5 @@
 -- The lines of the program's standard input and what each stands for (01, "The journal program").
+-- Manual: "The program".
 use mathlib.Core.Bool.{Bool, true, false, cond, not, _&&_, _||_}
 use mathlib.Core.List.{List, [], _∷_, _++_}
 use Prim.Native.Nat.{ℕ, _+_, _*_}

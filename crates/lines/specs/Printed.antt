@@ -1,4 +1,5 @@
 -- What the program writes, said by the book (01, "The journal program").
+-- Manual: "The program".
 use mathlib.Core.Path.{_≡_}
 use mathlib.Core.Bool.{cond}
 use mathlib.Core.List.{List, [], _∷_, _++_}

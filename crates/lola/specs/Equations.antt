@@ -1,6 +1,7 @@
 -- The equations of a sheet in one round, and the traces that satisfy them (004, section 2.2; 01, "Whole traces"). A valuation is a
 -- number below 2 ^ (m + n) whose bit q is the value of stream q: the m inputs first, then the n outputs. A trace is the list of its
 -- rounds' valuations, round 1 first.
+-- Manual: "The language".
 use mathlib.Core.Bool.{Bool, true, _&&_, Bool·beq}
 use mathlib.Core.List.{List, [], _∷_}
 use mathlib.Core.Option.{Option, none, some}

@@ -1,4 +1,5 @@
 -- The reads of an expression: one for each read byte, whatever logic makes of it (01, "Circular sheets").
+-- Manual: "The language".
 use mathlib.Core.Bool.{Bool, false, _&&_, _||_}
 use Prim.Native.Nat.{ℕ}
 use lib.Dec.{eqb}

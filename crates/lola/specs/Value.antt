@@ -1,5 +1,6 @@
 -- The value of an expression (004, section 2.2). Its reads are looked up: of stream q, one round earlier, now or one round later, with
 -- the default where there is no such round.
+-- Manual: "The language".
 use mathlib.Core.Bool.{Bool, not, _&&_, _||_}
 use mathlib.Core.Option.{Option, none, some}
 use Prim.Native.Nat.{ℕ}

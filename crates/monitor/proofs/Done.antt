@@ -28,8 +28,9 @@ use Rattle.record.specs.declared.JournalRecord.{JournalRecord}
 use Rattle.rounds.specs.Rows.{among}
 use Rattle.rounds.specs.Round.{Rounded}
 use Rattle.rounds.specs.Firsts.{Passing, Told}
+use Rattle.monitor.specs.Checks.{given}
 use Rattle.monitor.specs.Results.{width, heard, nextSet, within, Verdicts, RoundDone, ClosingDone}
-use Rattle.monitor.specs.Steps.{given, RoundReady, Shares}
+use Rattle.monitor.specs.Steps.{RoundReady, Shares}
 use Rattle.monitor.specs.declared.RoundAnswer.{RoundAnswer}
 use Rattle.monitor.specs.declared.ClosingAnswer.{ClosingAnswer}
 use Rattle.monitor.proofs.Rounding.{sheet-outputs, sheet-width, heard-as, pairs-verdict-as, reached-below, wider, only-heard}

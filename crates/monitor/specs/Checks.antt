@@ -1,4 +1,5 @@
 -- The checks of preparation, rounds and closing, in their order (01, "What is turned down").
+-- Manual: "Refusals".
 use mathlib.Core.Path.{_≡_}
 use mathlib.Core.Bool.{true, false}
 use mathlib.Core.List.{List, [], _∷_, _++_, map}
@@ -35,6 +36,9 @@ pub record Given : Type 0 where
   pub before : JournalRecord
   pub known : ℕ
   pub val : ℕ
+
+abbrev pub given : ℕ → JournalRecord → ℕ → ℕ → Given
+given lent r known val = record { lent = lent; before = r; known = known; val = val }
 
 -- the check is broken, for a sheet of m inputs and n outputs
 abbrev pub CallBroken : ℕ → ℕ → Given → CallCheck → Type 0

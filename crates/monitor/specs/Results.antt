@@ -1,5 +1,6 @@
 -- What preparation, rounds and closing answer, and what they leave in the storage (01, "Completions and verdicts", "Tallies"). On
 -- storage that preparation never filled, rounds and closing follow the same steps on the sets found there.
+-- Manual: "Preparation".
 use mathlib.Core.Path.{_≡_}
 use mathlib.Core.Bool.{Bool, true, false, cond, _&&_}
 use mathlib.Core.List.{List}
@@ -70,8 +71,8 @@ pub record Verdicts (n : ℕ) (f : ℕ → Verdict) (vs : List ℕ) : Type 0 whe
   pub each : (k : ℕ) → k < n → getD vs k 0 ≡ verdictNo (f k)
   pub beyond : (k : ℕ) → n ≤ k → getD vs k 0 ≡ 0
 
--- A round: the reached set makes one step, each output's verdict is read off it and counted. The scratch set is left empty. Words that
--- the sheet's valuations don't use stay as found: 0, where preparation filled the storage.
+-- A round: the reached set makes one step, each output's verdict is read off it and counted. Of the scratch set the words in use are left
+-- empty. Words that the sheet's valuations don't use stay as found: 0, where preparation filled the storage.
 pub record RoundDone (x : RuleSheet) (s t : List ℕ) (r : JournalRecord) (known val : ℕ) (a : RoundAnswer) : Type 0 where
   pub kept : Kept s t
   pub live : (k : ℕ) → k < 1028 → getD t k 0 ≡ getD s k 0

@@ -10,10 +10,6 @@ use Rattle.record.specs.Record.{countAt, share, recordOk}
 use Rattle.record.specs.declared.JournalRecord.{JournalRecord}
 use Rattle.monitor.specs.Checks.{Given}
 
--- what a call is handed
-abbrev pub given : ℕ → JournalRecord → ℕ → ℕ → Given
-given lent r known val = record { lent = lent; before = r; known = known; val = val }
-
 -- no check of a round is broken
 pub record RoundReady (m n : ℕ) (g : Given) : Type 0 where
   pub long : 3084 ≤ g .lent

@@ -2,6 +2,7 @@
 -- docs/LAYOUT). A set takes 1,028 words. Words 4 a to 4 a + 3 are row a: the valuations that follow a. Words 1,024 to 1,027 are the
 -- valuations that the end mark follows. The live set begins at word 0, the reached set at 1,028, the scratch set at 2,056; all three
 -- end with word 3,083.
+-- Manual: "Preparation".
 use mathlib.Core.Bool.{Bool, true}
 use mathlib.Core.Option.{Option, none, some}
 use mathlib.Core.List.{List}

@@ -1,4 +1,5 @@
 -- The journal record and its tallies (01, "Completions and verdicts", "Tallies", rule 18).
+-- Manual: "Tallies".
 use mathlib.Core.Path.{_≡_}
 use mathlib.Core.Bool.{Bool, true, false, _&&_}
 use mathlib.Core.List.{List}

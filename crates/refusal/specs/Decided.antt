@@ -1,5 +1,6 @@
 -- What an entry's refusal means: its checks stand in a fixed order, and it is refused by the first one that is broken
 -- (01, "What is turned down").
+-- Manual: "Refusals".
 use mathlib.Core.Path.{_≡_}
 use mathlib.Core.List.{List, _∷_, _++_, List·Memᴰ}
 use Rattle.refusal.specs.declared.Refusal.{Refusal}

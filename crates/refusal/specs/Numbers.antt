@@ -1,4 +1,5 @@
 -- The numbers of the refusals and the verdicts (01, "What is turned down", the table; "Completions and verdicts").
+-- Manual: "Refusals".
 use mathlib.Core.List.{List, [], _∷_}
 use Prim.Native.Nat.{ℕ, zero, suc}
 use lib.ListN.{getD}

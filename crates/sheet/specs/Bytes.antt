@@ -1,4 +1,5 @@
 -- The meaning of an expression byte (01, "The sheet", the list of expression bytes).
+-- Manual: "The sheet".
 use Prim.Native.Nat.{ℕ, _-_}
 use mathlib.Core.Bool.{Bool, true, false, cond, _&&_}
 use lib.Dec.{leb, eqb}

@@ -1,5 +1,6 @@
 -- The rules of a sheet one by one, each said of the whole sheet, in the order of 01, "What is turned down": 1 to 5; then output by
 -- output 6, byte by byte 7 before 8, 8 for the end; 9. Rule 10 is stated in the crate `circular`.
+-- Manual: "Refusals".
 use Prim.Native.Nat.{ℕ, zero, suc, _+_, _-_}
 use mathlib.Core.Bool.{Bool, true, false, not, _&&_, _||_}
 use mathlib.Core.Path.{_≡_}

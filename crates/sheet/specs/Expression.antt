@@ -1,5 +1,6 @@
 -- Expressions as trees, and how postfix bytes are read (01, "The sheet"): a stack of trees, on which each byte works; rules 7 and 8, byte by
 -- byte (01, "What is turned down").
+-- Manual: "The sheet".
 use Prim.Native.Nat.{ℕ}
 use mathlib.Core.Bool.{Bool, cond}
 use mathlib.Core.List.{List, [], _∷_}

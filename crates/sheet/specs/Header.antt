@@ -1,4 +1,5 @@
 -- The first 8 bytes of a sheet (01, "The sheet"): rules 1 to 5, in their order (01, "What is turned down").
+-- Manual: "The sheet".
 use Prim.Native.Nat.{ℕ, _+_, _*_}
 use mathlib.Core.Bool.{Bool, cond, _&&_}
 use mathlib.Core.List.{List}

@@ -1,6 +1,7 @@
 -- How an expression is written in bytes, from the tree's side (01, "The sheet", the list of expression bytes). An expression's bytes are
 -- read as a tree exactly if they are its writing and its reads are of the sheet's streams (the law `tree-exactly` of
 -- proofs/Postfixes.antt).
+-- Manual: "The sheet".
 use Prim.Native.Nat.{ℕ, _+_, _<_}
 use mathlib.Core.Path.{_≡_}
 use mathlib.Core.Bool.{Bool, true, false}

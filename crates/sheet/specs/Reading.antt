@@ -1,4 +1,5 @@
 -- What the reader's answer means: a refusal, or the rule sheet that the answer holds (01, "The sheet"; "What is turned down").
+-- Manual: "The sheet".
 use Prim.Native.Nat.{ℕ, zero, suc, _+_, _*_, _≤_, _<_}
 use mathlib.Core.Path.{_≡_}
 use mathlib.Core.Bool.{false}

@@ -1,4 +1,5 @@
 -- A rule sheet, and what reading a list of bytes as one gives: the sheet, or the first rule that is broken (01, "The sheet").
+-- Manual: "The sheet".
 use Prim.Native.Nat.{ℕ, zero, suc, _+_}
 use mathlib.Core.Bool.{Bool, cond, _&&_}
 use mathlib.Core.List.{List, [], _∷_, _++_}

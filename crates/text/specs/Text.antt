@@ -1,4 +1,5 @@
 -- What the program prints (01, "The journal program"): verdicts, tallies and refusals as bytes.
+-- Manual: "The program".
 use mathlib.Core.Bool.{cond}
 use mathlib.Core.List.{List, [], _∷_, _++_, map}
 use Prim.Native.Nat.{ℕ, zero, suc, _+_, _/_, _%_}

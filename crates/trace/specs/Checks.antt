@@ -1,4 +1,5 @@
 -- What evaluation is refused by, in its order (01, "What is turned down"): the rules of the sheet, then 16, then 11.
+-- Manual: "Refusals".
 use mathlib.Core.Path.{_≡_}
 use mathlib.Core.Logic.{_⊎_}
 use mathlib.Core.List.{List, [], _∷_, _++_, map}

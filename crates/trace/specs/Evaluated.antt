@@ -1,4 +1,5 @@
 -- What evaluation leaves in the buffer (01, "Whole traces").
+-- Manual: "The language".
 use mathlib.Core.Path.{_≡_}
 use mathlib.Core.List.{List}
 use mathlib.Core.Option.{none}

@@ -1,4 +1,5 @@
 -- Searches, sums and counts over the numbers below a bound (01: the counts of live pairs and of verdicts).
+-- Manual: "Preparation".
 use mathlib.Core.Bool.{Bool, true, false, _||_}
 use Prim.Native.Nat.{ℕ, zero, suc, _+_}
 

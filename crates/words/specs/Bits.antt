@@ -1,4 +1,5 @@
 -- The bits of a number, the lowest first (01: "bit i" of letters, masks, valuations and stored words).
+-- Manual: "The sheet".
 use mathlib.Core.Bool.{Bool}
 use Prim.Native.Nat.{ℕ, _/_, _%_, _^_}
 use lib.Dec.{eqb}

@@ -8,10 +8,10 @@ use lib.Seq.{paste, length-paste}
 use Rattle.refusal.specs.Numbers.{outcomeNo}
 use Rattle.sheet.specs.Checks.{outputsOf}
 use Rattle.record.specs.declared.JournalRecord.{JournalRecord}
-use Rattle.claims.specs.ReadSheet.{given, ClosingBytes}
+use Rattle.claims.specs.ReadSheet.{ClosingBytes}
 use Rattle.jigwaret.specs.Slices.{numbersOf}
 use Rattle.jigwaret.specs.Journal.{slices, ClosingNumbered}
-use Rattle.monitor.specs.Checks.{closingChecks}
+use Rattle.monitor.specs.Checks.{given, closingChecks}
 use Rattle.jigwaret.proofs.JournalLaws.{record-refused, answer-refused, sizes-right, written, not-written, number-of, sheet-long, few-outputs}
 use borrow.Author.Needs.{needs}
 use Rattle.jigwaret.proofs.jigwaret_close.Statement.{statement}
@@ -58,7 +58,7 @@ shared-slice-read-n c =
     let a = c .before .before .before .before .before .before .before .before .before .before .before .before .before .before .before .before .args in
     let p = c .before .before .before .before .before .before .before .close in
     let e = c .before .before .before .before .before .enum-told .given .1 in
-    let long : 8 ≤ length (now (a .sheet)) = sheet-long (now (a .sheet)) (given (now (a .storage)) (c .before .before .before .before .before .before .before .before .load .result) 0 0) closingChecks (rw e at (p .ensures .0)) in
+    let long : 8 ≤ length (now (a .sheet)) = sheet-long (now (a .sheet)) (given (length (now (a .storage))) (c .before .before .before .before .before .before .before .before .load .result) 0 0) closingChecks (rw e at (p .ensures .0)) in
     let few : outputsOf (now (a .sheet)) ≤ 7 = few-outputs (now (a .sheet)) _ (rw e at (p .ensures .1)) in
     omega (arith, long)
 
@@ -67,7 +67,7 @@ cast-n c =
     let a = c .before .before .before .before .before .before .before .before .before .before .before .before .before .before .before .before .args in
     let p = c .before .before .before .before .before .before .before .close in
     let e = c .before .before .before .before .before .enum-told .given .1 in
-    let long : 8 ≤ length (now (a .sheet)) = sheet-long (now (a .sheet)) (given (now (a .storage)) (c .before .before .before .before .before .before .before .before .load .result) 0 0) closingChecks (rw e at (p .ensures .0)) in
+    let long : 8 ≤ length (now (a .sheet)) = sheet-long (now (a .sheet)) (given (length (now (a .storage))) (c .before .before .before .before .before .before .before .before .load .result) 0 0) closingChecks (rw e at (p .ensures .0)) in
     let few : outputsOf (now (a .sheet)) ≤ 7 = few-outputs (now (a .sheet)) _ (rw e at (p .ensures .1)) in
     omega (arith, few)
 
@@ -79,7 +79,7 @@ put-bytes-requires c κs =
     let a = c .before .before .before .before .before .before .before .before .before .before .before .before .before .before .before .before .before .before .before .args in
     let p = c .before .before .before .before .before .before .before .before .before .before .close in
     let e = c .before .before .before .before .before .before .before .before .enum-told .given .1 in
-    let long : 8 ≤ length (now (a .sheet)) = sheet-long (now (a .sheet)) (given (now (a .storage)) (c .before .before .before .before .before .before .before .before .before .before .before .load .result) 0 0) closingChecks (rw e at (p .ensures .0)) in
+    let long : 8 ≤ length (now (a .sheet)) = sheet-long (now (a .sheet)) (given (length (now (a .storage))) (c .before .before .before .before .before .before .before .before .before .before .before .load .result) 0 0) closingChecks (rw e at (p .ensures .0)) in
     let few : outputsOf (now (a .sheet)) ≤ 7 = few-outputs (now (a .sheet)) _ (rw e at (p .ensures .1)) in
     let sizes : length (p .result .verdicts) ≡ 7 = search needs in
     (omega (arith, few, sizes), omega (arith, few, c .before .before .before .before .before .before .before .before .before .before .before .before .before .if2 .left))
@@ -92,7 +92,7 @@ put-numbers-requires c κs =
     let a = c .before .before .before .before .before .before .before .before .before .before .before .before .before .before .before .before .before .before .before .before .before .before .before .before .before .args in
     let p = c .before .before .before .before .before .before .before .before .before .before .before .before .before .before .before .before .close in
     let e = c .before .before .before .before .before .before .before .before .before .before .before .before .before .before .enum-told .given .1 in
-    let long : 8 ≤ length (now (a .sheet)) = sheet-long (now (a .sheet)) (given (now (a .storage)) (c .before .before .before .before .before .before .before .before .before .before .before .before .before .before .before .before .before .load .result) 0 0) closingChecks (rw e at (p .ensures .0)) in
+    let long : 8 ≤ length (now (a .sheet)) = sheet-long (now (a .sheet)) (given (length (now (a .storage))) (c .before .before .before .before .before .before .before .before .before .before .before .before .before .before .before .before .before .load .result) 0 0) closingChecks (rw e at (p .ensures .0)) in
     let few : outputsOf (now (a .sheet)) ≤ 7 = few-outputs (now (a .sheet)) _ (rw e at (p .ensures .1)) in
     let sizes : length (p .result .verdicts) ≡ 7 = search needs in
     let shares : length (p .result .shares) ≡ 7 = search needs in

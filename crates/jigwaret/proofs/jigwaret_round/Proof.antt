@@ -7,10 +7,10 @@ use lib.Seq.{paste}
 use Rattle.refusal.specs.Numbers.{outcomeNo}
 use Rattle.sheet.specs.Checks.{outputsOf}
 use Rattle.record.specs.declared.JournalRecord.{JournalRecord}
-use Rattle.claims.specs.ReadSheet.{given, RoundBytes}
+use Rattle.claims.specs.ReadSheet.{RoundBytes}
 use Rattle.jigwaret.specs.Slices.{numbersOf}
 use Rattle.jigwaret.specs.Journal.{slices, RoundNumbered}
-use Rattle.monitor.specs.Checks.{roundChecks}
+use Rattle.monitor.specs.Checks.{given, roundChecks}
 use Rattle.jigwaret.proofs.JournalLaws.{record-refused, answer-refused, sizes-right, written, not-written, number-of, sheet-long, few-outputs}
 use borrow.Author.Needs.{needs}
 use Rattle.jigwaret.proofs.jigwaret_round.Statement.{statement}
@@ -59,7 +59,7 @@ shared-slice-read-put-bytes c =
     let a = c .before .before .before .before .before .before .before .before .before .before .before .before .before .before .before .before .before .before .before .before .before .before .args in
     let p = c .before .before .before .before .before .before .before .before .before .before .before .before .round in
     let e = c .before .before .before .before .before .before .before .before .enum-told .given .1 in
-    let long : 8 ≤ length (now (a .sheet)) = sheet-long (now (a .sheet)) (given (now (a .storage)) (c .before .before .before .before .before .before .before .before .before .before .before .before .before .before .load .result) (a .known) (a .value)) roundChecks (rw e at (p .ensures .0)) in
+    let long : 8 ≤ length (now (a .sheet)) = sheet-long (now (a .sheet)) (given (length (now (a .storage))) (c .before .before .before .before .before .before .before .before .before .before .before .before .before .before .load .result) (a .known) (a .value)) roundChecks (rw e at (p .ensures .0)) in
     let few : outputsOf (now (a .sheet)) ≤ 7 = few-outputs (now (a .sheet)) _ (rw e at (p .ensures .1)) in
     omega (arith, long)
 
@@ -68,7 +68,7 @@ cast-put-bytes c =
     let a = c .before .before .before .before .before .before .before .before .before .before .before .before .before .before .before .before .before .before .before .before .before .before .args in
     let p = c .before .before .before .before .before .before .before .before .before .before .before .before .round in
     let e = c .before .before .before .before .before .before .before .before .enum-told .given .1 in
-    let long : 8 ≤ length (now (a .sheet)) = sheet-long (now (a .sheet)) (given (now (a .storage)) (c .before .before .before .before .before .before .before .before .before .before .before .before .before .before .load .result) (a .known) (a .value)) roundChecks (rw e at (p .ensures .0)) in
+    let long : 8 ≤ length (now (a .sheet)) = sheet-long (now (a .sheet)) (given (length (now (a .storage))) (c .before .before .before .before .before .before .before .before .before .before .before .before .before .before .load .result) (a .known) (a .value)) roundChecks (rw e at (p .ensures .0)) in
     let few : outputsOf (now (a .sheet)) ≤ 7 = few-outputs (now (a .sheet)) _ (rw e at (p .ensures .1)) in
     omega (arith, few)
 
@@ -77,7 +77,7 @@ put-bytes-requires c κs =
     let a = c .before .before .before .before .before .before .before .before .before .before .before .before .before .before .before .before .before .before .before .before .before .before .args in
     let p = c .before .before .before .before .before .before .before .before .before .before .before .before .round in
     let e = c .before .before .before .before .before .before .before .before .enum-told .given .1 in
-    let long : 8 ≤ length (now (a .sheet)) = sheet-long (now (a .sheet)) (given (now (a .storage)) (c .before .before .before .before .before .before .before .before .before .before .before .before .before .before .load .result) (a .known) (a .value)) roundChecks (rw e at (p .ensures .0)) in
+    let long : 8 ≤ length (now (a .sheet)) = sheet-long (now (a .sheet)) (given (length (now (a .storage))) (c .before .before .before .before .before .before .before .before .before .before .before .before .before .before .load .result) (a .known) (a .value)) roundChecks (rw e at (p .ensures .0)) in
     let few : outputsOf (now (a .sheet)) ≤ 7 = few-outputs (now (a .sheet)) _ (rw e at (p .ensures .1)) in
     let sizes : length (p .result .verdicts) ≡ 7 = search needs in
     (omega (arith, few, sizes), omega (arith, few, c .before .before .before .before .before .before .before .before .before .before .before .before .before .before .before .before .if2 .left))

@@ -5,8 +5,7 @@ use native.Mathlib.Omega.{arith}
 use borrow.Author.Tests.{not-true, not-false}
 use Rattle.refusal.specs.declared.Outcome.the-variants.{Accepted, Refused}
 use Rattle.refusal.specs.declared.Refusal.the-variants.{Closed, NoRound, Record}
-use Rattle.monitor.specs.Checks.{tallies, closed, noRound}
-use Rattle.monitor.specs.Steps.{given}
+use Rattle.monitor.specs.Checks.{given, tallies, closed, noRound}
 use Rattle.monitor.proofs.Checking.{nonzero}
 use Rattle.monitor.proofs.Checking.{short-storage, past-storage, wrong-record, past-record, is-closed, past-closed, no-round, some-round}
 use borrow.Author.Needs.{needs}

@@ -5,8 +5,7 @@ use native.Mathlib.Omega.{arith}
 use borrow.Author.Tests.{not-true, not-false}
 use Rattle.refusal.specs.declared.Outcome.the-variants.{Accepted, Refused}
 use Rattle.refusal.specs.declared.Refusal.the-variants.{Letter, Closed, Full, Record}
-use Rattle.monitor.specs.Checks.{tallies, closed, masks, full}
-use Rattle.monitor.specs.Steps.{given}
+use Rattle.monitor.specs.Checks.{given, tallies, closed, masks, full}
 use Rattle.monitor.proofs.Checking.{short-storage, past-storage, wrong-record, past-record, is-closed, past-closed, wrong-masks, past-masks, is-full, not-full}
 use borrow.Author.Needs.{needs}
 use Rattle.monitor.proofs.check_round.Statement.{statement}

@@ -1,8 +1,8 @@
 use Prim.Native.Nat.{_-_}
 use denote.Ref.{now}
 use Rattle.sheet.specs.Reading.{ruleSheet}
+use Rattle.monitor.specs.Checks.{given}
 use Rattle.monitor.specs.Results.{ClosingDone}
-use Rattle.monitor.specs.Steps.{given}
 use Rattle.monitor.proofs.Entries.{closing-accepted}
 use borrow.Author.Needs.{needs}
 use Rattle.monitor.proofs.closing_on.Statement.{statement}

@@ -3,9 +3,8 @@ use denote.Ref.{now}
 use lib.ListN.{length}
 use Rattle.sheet.specs.RuleSheet.{RuleSheet}
 use Rattle.sheet.specs.Reading.{ruleSheet}
-use Rattle.monitor.specs.Checks.{prepareChecks}
+use Rattle.monitor.specs.Checks.{given, prepareChecks}
 use Rattle.monitor.specs.Results.{OfSheet, Prepared}
-use Rattle.monitor.specs.Steps.{given}
 use Rattle.monitor.proofs.Entries.{sheet-refused, sheet-accepted, prepare-of}
 use borrow.Author.Needs.{needs}
 use Rattle.monitor.proofs.prepare.Statement.{statement}

@@ -4,8 +4,8 @@ use denote.Ref.{now}
 use lib.ListN.{length}
 use Rattle.refusal.specs.declared.Outcome.the-variants.{Accepted}
 use Rattle.sheet.specs.Reading.{ruleSheet}
+use Rattle.monitor.specs.Checks.{given}
 use Rattle.monitor.specs.Results.{Prepared}
-use Rattle.monitor.specs.Steps.{given}
 use Rattle.monitor.proofs.Checking.{short-storage, past-storage, none-left}
 use Rattle.monitor.proofs.Entries.{prepare-accepted}
 use borrow.Author.Needs.{needs}

@@ -2,8 +2,8 @@ use Prim.Native.Nat.{_-_}
 use mathlib.Core.Path.{refl}
 use denote.Ref.{now}
 use Rattle.sheet.specs.Reading.{ruleSheet}
+use Rattle.monitor.specs.Checks.{given}
 use Rattle.monitor.specs.Results.{RoundDone}
-use Rattle.monitor.specs.Steps.{given}
 use Rattle.monitor.proofs.Entries.{round-accepted}
 use borrow.Author.Needs.{needs}
 use Rattle.monitor.proofs.round_on.Statement.{statement}

@@ -4,7 +4,7 @@ ghost use mathlib.Core.Bool.{true, false};
 ghost use Prim.Native.Nat.{ℕ, _<_, _≤_};
 ghost use lib.ListN.{length, getD};
 ghost use Rattle.refusal.specs.Decided.{Decided};
-ghost use Rattle.sheet.specs.Reading.{whenAccepted};
+ghost use Rattle.sheet.specs.Reading.{whenAccepted, blankIfRefused};
 ghost use Rattle.circular.specs.Circular.{Circular};
 ghost use Rattle.circular.specs.Masks.{readsOfCode};
 ghost use Rattle.circular.specs.Checks.{Broken, rule, checksOf, AcceptedSheet};
@@ -24,10 +24,11 @@ fn is_circular<'a>(code: &'a [u8], len: &'a [usize], m: u8, n: usize) -> bool
     table::circular(&reads::all_reads(code, len, n), m, n)
 }
 
-// Reads a sheet and checks it by rules 1 to 10. Where it is refused, the sheet says nothing.
+// Reads a sheet and checks it by rules 1 to 10. Where it is refused, the sheet is blank.
 pub fn accept_sheet(s: &[u8]) -> SheetRead
     ensures decided { λ r. ⌜ Decided (Broken (now (s .entry))) rule (checksOf (now (s .entry))) (r .outcome) ⌝ }
     ensures sheet { λ r. ⌜ whenAccepted (r .outcome) (AcceptedSheet (now (s .entry)) (r .sheet)) ⌝ }
+    ensures refused { λ r. ⌜ blankIfRefused (r .outcome) (r .sheet) ⌝ }
 {
     let got = sheet::read_sheet(s);
     let outcome = got.outcome;

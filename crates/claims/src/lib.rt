@@ -1,4 +1,8 @@
 // The demands, stated and proved: definitions and theorems only.
-pub fn same(x: usize) -> usize {
+ghost use mathlib.Core.Path.{_≡_};
+
+pub fn same(x: usize) -> usize
+    ensures { λ r. ⌜ r ≡ x ⌝ }
+{
     x
 }

@@ -1,4 +1,8 @@
 // The marked examples of the language, as a table and one theorem: definitions and proofs only.
-pub fn same(x: usize) -> usize {
+ghost use mathlib.Core.Path.{_≡_};
+
+pub fn same(x: usize) -> usize
+    ensures { λ r. ⌜ r ≡ x ⌝ }
+{
     x
 }

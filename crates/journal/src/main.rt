@@ -5,6 +5,7 @@ ghost use Rattle.sheet.specs.Reading.{Usable};
 use libc::STDIN_FILENO;
 use libc::STDOUT_FILENO;
 use lines::Progress;
+use record::JournalRecord;
 use refusal::Outcome;
 use sheet::Sheet;
 
@@ -80,7 +81,7 @@ fn read_sheet(sheet: &mut [u8]) -> usize
 fn main() {
     let mut sheet = [0u8; 464];
     let n = read_sheet(&mut sheet);
-    let mut storage = [0u64; 3084];
+    let mut storage = [0u64; JournalRecord::STORAGE_WORDS];
     let mut out = io::buffer();
     let begun = lines::start(&sheet[..n], &mut storage, &mut out);
     let outcome = begun.outcome;

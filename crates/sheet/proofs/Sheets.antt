@@ -14,7 +14,7 @@ use borrow.Author.Count.{below-more}
 use Rattle.sheet.specs.Expression.{Expr, Parsed, tree, broken, parse}
 use Rattle.sheet.specs.RuleSheet.{Outputs, trees, breaks, lengthOk, after, andThen, readOutputs, requiredOf, withOutputs}
 use Rattle.sheet.specs.Answer.{outputAt, outputOf, outputsBy, Put, Held}
-use Rattle.sheet.specs.Reading.{treeOf, codeAt, treesOf, Parses, readingBy, whenAccepted}
+use Rattle.sheet.specs.Reading.{treeOf, codeAt, treesOf, Parses, readingBy}
 use Rattle.sheet.proofs.Packing.{copied, not-touched}
 use Rattle.refusal.specs.declared.Refusal.{Refusal}
 use Rattle.refusal.specs.declared.Refusal.the-variants.{Length, Leftover}
@@ -191,10 +191,6 @@ pub reading-by : (m n : ℕ) (a : Assumed) (o : Outcome) (ts : List Expr) (q : O
     → readingBy o (record { inputs = m; expressions = ts; required = requiredOf a }) ≡ withOutputs m n a q
 reading-by m n a Accepted ts q e = ap (withOutputs m n a) e
 reading-by m n a (outcome.Refused r) ts q e = ap (withOutputs m n a) e
-
-pub when-accepted : (o : Outcome) {X Y : Type 0} → (X → Y) → whenAccepted o X → whenAccepted o Y
-when-accepted Accepted f x = f x
-when-accepted (outcome.Refused r) f x = tt
 
 pub length-trees : (s : ℕ) (code len : List ℕ) (n : ℕ) → length (treesOf s code len n) ≡ n
 unfolding treesOf

@@ -4,7 +4,7 @@ use Prim.Native.Nat.{ℕ, zero, suc, _+_, _*_, _≤_, _<_}
 use mathlib.Core.Path.{_≡_}
 use mathlib.Core.Bool.{false}
 use mathlib.Core.List.{List, [], _∷_, _++_}
-use lib.ListN.{length, take, drop, getD}
+use lib.ListN.{length, take, drop, getD, replicate}
 use Rattle.refusal.specs.declared.Outcome.{Outcome}
 use Rattle.refusal.specs.declared.Outcome.the-variants.{Accepted, Refused}
 use Rattle.sheet.specs.Expression.{Expr, constant, Parsed, tree, broken, parse}
@@ -75,3 +75,11 @@ pub record Usable (x : Sheet) : Type 0 where
 abbrev pub whenAccepted : Outcome → Type 0 → Type 0
 whenAccepted Accepted X = X
 whenAccepted (Refused r) X = Unit {0}
+
+-- the sheet that comes with a refusal: a refusal returns its number alone
+unfoldable pub blank : Sheet
+blank = record { inputs = 0; outputs = 0; assumed = Nothing; len = replicate 7 0; code = replicate 448 0 }
+
+abbrev pub blankIfRefused : Outcome → Sheet → Type 0
+blankIfRefused Accepted x = Unit {0}
+blankIfRefused (Refused r) x = x ≡ blank

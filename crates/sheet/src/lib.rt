@@ -9,7 +9,7 @@ ghost use Rattle.sheet.specs.Depth.{depthAfter};
 ghost use Rattle.sheet.specs.Header.{markOk, versionOf, countsOk, assumedAt, headerOf};
 ghost use Rattle.sheet.specs.RuleSheet.{readSheet, readOutputs};
 ghost use Rattle.sheet.specs.Answer.{outputAt, outputsBy, Put, Held};
-ghost use Rattle.sheet.specs.Reading.{treesOf, readingOf, whenAccepted, Usable};
+ghost use Rattle.sheet.specs.Reading.{treesOf, readingOf, whenAccepted, Usable, blank, blankIfRefused};
 ghost use lib.ListN.{length, drop};
 use refusal::Outcome;
 use refusal::Refusal;
@@ -323,14 +323,14 @@ pub struct Sheet {
     pub code: [u8; 448],
 }
 
-// The answer of the reader. Where it is refused, the sheet says nothing.
+// The answer of the reader. Where it is refused, the sheet is blank.
 pub struct SheetRead {
     pub outcome: Outcome,
     pub sheet: Sheet,
 }
 
 pub fn refused_sheet(r: Refusal) -> SheetRead
-    ensures { λ x. ⌜ x .outcome ≡ Outcome.Refused r ⌝ }
+    ensures { λ x. ⌜ (x .outcome ≡ Outcome.Refused r) × (x .sheet ≡ blank) ⌝ }
 {
     let sheet = Sheet {
         inputs: 0,
@@ -349,6 +349,7 @@ pub fn refused_sheet(r: Refusal) -> SheetRead
 pub fn read_sheet(s: &[u8]) -> SheetRead
     ensures reading { λ r. ⌜ readingOf r ≡ readSheet (now (s .entry)) ⌝ }
     ensures usable { λ r. ⌜ whenAccepted (r .outcome) (Usable (r .sheet)) ⌝ }
+    ensures refused { λ r. ⌜ blankIfRefused (r .outcome) (r .sheet) ⌝ }
 {
     let h = read_header(s);
     match h {
@@ -356,16 +357,21 @@ pub fn read_sheet(s: &[u8]) -> SheetRead
             let mut len = [0usize; 7];
             let mut code = [0u8; 448];
             let outcome = read_outputs(s, m + n, n, &mut len, &mut code);
-            let sheet = Sheet {
-                inputs: m,
-                outputs: n,
-                assumed: a,
-                len: len,
-                code: code,
-            };
-            SheetRead {
-                outcome: outcome,
-                sheet: sheet,
+            match outcome {
+                Outcome::Accepted => {
+                    let sheet = Sheet {
+                        inputs: m,
+                        outputs: n,
+                        assumed: a,
+                        len: len,
+                        code: code,
+                    };
+                    SheetRead {
+                        outcome: Outcome::Accepted,
+                        sheet: sheet,
+                    }
+                }
+                Outcome::Refused(r) => refused_sheet(r),
             }
         }
         Header::Refused(r) => refused_sheet(r),

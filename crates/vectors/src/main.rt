@@ -9,6 +9,7 @@ ghost use Rattle.sheet.specs.Reading.{Usable};
 use libc::STDIN_FILENO;
 use libc::STDOUT_FILENO;
 use lines::Progress;
+use record::JournalRecord;
 use refusal::Outcome;
 use sheet::Sheet;
 
@@ -134,7 +135,7 @@ fn case(sheet: &mut [u8], session: &mut [u8], storage: &mut [u64], out: &mut [u8
 fn main() {
     let mut sheet = [0u8; 464];
     let mut session = io::large_buffer();
-    let mut storage = [0u64; 3084];
+    let mut storage = [0u64; JournalRecord::STORAGE_WORDS];
     let mut out = io::buffer();
     let mut go = true;
     let mut cases = u64::MAX;

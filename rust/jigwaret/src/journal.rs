@@ -65,7 +65,8 @@ impl Journal {
         &self.sheet
     }
 
-    /// How many pairs of neighbouring valuations a completion can have.
+    /// How many live pairs the sheet has: a valuation that the assumption allows, and what may follow it
+    /// in a trace that keeps the assumption to its end.
     pub fn live_pairs(&self) -> usize {
         self.live_pairs
     }

@@ -18,7 +18,7 @@ cast-n c = search needs
 
 is-circular-requires : tie.Need-is-circular-requires
 is-circular-requires c κs =
-    let u = rw (c .before .before .before .before .before .enum-told .given .1) at (c .before .before .before .before .before .before .before .read-sheet .ensures .1) in
+    let u = rw (c .before .before .before .before .before .enum-told .given .1) at (c .before .before .before .before .before .before .before .read-sheet .ensures .1 .0) in
     (u .ranges .inputs, u .ranges .outputs, u .room, u .sizes, u .small)
 
 refused-sheet-requires : tie.Need-refused-sheet-requires
@@ -29,7 +29,7 @@ returns c =
     let r = c .before .before .before .before .before .before .before .before .before .before .read-sheet in
     let t = c .before .before .before .before .before .before .before .before .enum-told .given .1 in
     let x = r .result .sheet in
-    rw (c .refused-sheet .ensures) (round _ (ruleSheet x) (sym (rw t at (r .ensures .0))) (sheet-circular x (rw t at (r .ensures .1)) (c .before .before .is-circular .ensures .0 (c .before .if1 .taken))), tt)
+    rw (c .refused-sheet .ensures .0) (round _ (ruleSheet x) (sym (rw t at (r .ensures .0))) (sheet-circular x (rw t at (r .ensures .1 .0)) (c .before .before .is-circular .ensures .0 (c .before .if1 .taken))), (tt, c .refused-sheet .ensures .1))
 
 enum-told-2 : tie.Need-enum-told-2
 enum-told-2 c = search needs
@@ -40,15 +40,15 @@ returns-2 c =
     let t = c .before .before .before .before .before .before .before .enum-told .given .1 in
     let x = r .result .sheet in
     let e = sym (rw t at (r .ensures .0)) in
-    let u = rw t at (r .ensures .1) in
+    let u = rw t at (r .ensures .1 .0) in
     let n : CircularSheet (ruleSheet x) → ⊥ = λ k. c .before .is-circular .ensures .1 (c .if1 .left) (circular-sheet x u k) in
-    rw t (level _ (ruleSheet x) e n, record { reads = e; usable = u; level = n })
+    rw t (level _ (ruleSheet x) e n, (record { reads = e; usable = u; level = n }, tt))
 
 returns-3 : tie.Need-returns-3
 returns-3 c =
     let r = c .before .before .read-sheet in
     let t = c .enum-told2 .given .1 in
-    rw t (unread _ _ (sym (rw t at (r .ensures .0))), tt)
+    rw t (unread _ _ (sym (rw t at (r .ensures .0))), (tt, rw t at (r .ensures .1 .1)))
 
 pub accept-sheet-spec : {M : Type 1} → statement M
 accept-sheet-spec =

@@ -51,7 +51,7 @@ same-length-2 c = search needs
 returns-2 : tie.Need-returns-2
 returns-2 c =
     let e = c .before .before .before .before .before .enum-told .given .1 in
-    let acc = rw e at (c .before .before .before .before .before .before .before .before .before .accept-sheet .ensures .1) in
+    let acc = rw e at (c .before .before .before .before .before .before .before .before .before .accept-sheet .ensures .1 .0) in
     let bs = now (c .before .before .before .before .before .before .before .before .before .before .before .before .before .args .sheet) in
     let x = c .before .before .before .before .before .before .before .before .before .accept-sheet .result .sheet in
     let o : Accepts bs x = record { decided = rw e at (c .before .before .before .before .before .before .before .before .before .accept-sheet .ensures .0); read = acc } in

@@ -27,7 +27,7 @@ enum-told : tie.Need-enum-told
 enum-told c = search needs
 
 closing-on-requires : tie.Need-closing-on-requires
-closing-on-requires c κs = (rw (c .enum-told .given .1) at (c .before .before .accept-sheet .ensures .1)) .usable
+closing-on-requires c κs = (rw (c .enum-told .given .1) at (c .before .before .accept-sheet .ensures .1 .0)) .usable
 
 returns : tie.Need-returns
 returns c =
@@ -40,7 +40,7 @@ returns-2 c =
     let bs = now (a .sheet) in
     let x = c .before .before .before .accept-sheet .result .sheet in
     let e = c .before .enum-told .given .1 in
-    let acc = rw e at (c .before .before .before .accept-sheet .ensures .1) in
+    let acc = rw e at (c .before .before .before .accept-sheet .ensures .1 .0) in
     let s = now (a .storage) in
     let r = a .before in
     let p = c .closing-on .result in (

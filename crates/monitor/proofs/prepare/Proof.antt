@@ -28,7 +28,7 @@ enum-told : tie.Need-enum-told
 enum-told c = search needs
 
 prepare-on-requires : tie.Need-prepare-on-requires
-prepare-on-requires c κs = (rw (c .before .enum-told .given .1) at (c .before .before .before .accept-sheet .ensures .1)) .usable
+prepare-on-requires c κs = (rw (c .before .enum-told .given .1) at (c .before .before .before .accept-sheet .ensures .1 .0)) .usable
 
 returns : tie.Need-returns
 returns c =
@@ -46,7 +46,7 @@ returns-2 c =
     let a = c .before .before .before .before .before .before .before .before .before .args in
     let x = c .before .before .before .before .before .before .accept-sheet .result .sheet in
     let e = c .before .before .before .before .enum-told .given .1 in
-    let ok = rw e at (c .before .before .before .before .before .before .accept-sheet .ensures .1) in
+    let ok = rw e at (c .before .before .before .before .before .before .accept-sheet .ensures .1 .0) in
     let p = c .before .before .prepare-on in (
       (λ r. sheet-accepted (now (a .sheet)) (given (length (now (a .storage))) r 0 0) x ok (rw e at (c .before .before .before .before .before .before .accept-sheet .ensures .0)) prepareChecks (p .result .outcome) (p .ensures .0 r)),
       prepare-of (Prepared (ruleSheet x) (now (a .storage)) (p .last .1 .0) (p .result)) (OfSheet (now (a .sheet)) (λ (y : RuleSheet). Prepared y (now (a .storage)) (p .last .1 .0) (p .result)))

@@ -28,7 +28,7 @@ enum-told : tie.Need-enum-told
 enum-told c = search needs
 
 round-on-requires : tie.Need-round-on-requires
-round-on-requires c κs = (rw (c .before .enum-told .given .1) at (c .before .before .before .accept-sheet .ensures .1)) .usable
+round-on-requires c κs = (rw (c .before .enum-told .given .1) at (c .before .before .before .accept-sheet .ensures .1 .0)) .usable
 
 returns : tie.Need-returns
 returns c =
@@ -44,7 +44,7 @@ returns-2 c =
     let bs = now (a .sheet) in
     let x = c .before .before .before .before .before .before .accept-sheet .result .sheet in
     let e = c .before .before .before .before .enum-told .given .1 in
-    let acc = rw e at (c .before .before .before .before .before .before .accept-sheet .ensures .1) in
+    let acc = rw e at (c .before .before .before .before .before .before .accept-sheet .ensures .1 .0) in
     let s = now (a .storage) in
     let t = c .before .before .round-on .last .1 .0 in
     let r = a .before in

@@ -4,11 +4,16 @@ use Prim.Native.Nat.{_+_}
 use Rattle.sheet.specs.RuleSheet.{readSheet}
 use Rattle.sheet.specs.Reading.{treesOf}
 use Rattle.sheet.proofs.Headers.{fields}
-use Rattle.sheet.proofs.Sheets.{reading-by, when-accepted}
+use Rattle.sheet.proofs.Sheets.{reading-by}
 use Rattle.sheet.proofs.Packing.{usable}
 use borrow.Author.Needs.{needs}
 use Rattle.sheet.proofs.read_sheet.Statement.{statement}
 use Rattle.sheet.proofs.read_sheet.Tie as tie
+use Rattle.sheet.proofs.read_sheet.Reads as reads
+use Rattle.sheet.proofs.read_sheet.Lts as lts
+use Rattle.sheet.proofs.read_header.Reads as read-header-reads
+use Rattle.sheet.proofs.read_outputs.Reads as read-outputs-reads
+use Rattle.sheet.proofs.refused_sheet.Reads as refused-sheet-reads
 
 read-header-requires : tie.Need-read-header-requires
 read-header-requires c κs = search needs
@@ -28,28 +33,51 @@ slice-aggregate-read-outputs-2 c = search needs
 read-outputs-requires : tie.Need-read-outputs-requires
 read-outputs-requires c κs = let f = fields _ _ _ _ (sym (c .before .before .before .before .before .read-header .ensures) ∙ c .before .before .before .h .given .1) in (f .0, f .1 .outputs, refl, refl)
 
-enum-known-h-2 : tie.Need-enum-known-h-2
-enum-known-h-2 c = search needs
+enum-told : tie.Need-enum-told
+enum-told c = search needs
+
+enum-known-outcome : tie.Need-enum-known-outcome
+enum-known-outcome c = search needs
 
 refused-sheet-requires : tie.Need-refused-sheet-requires
 refused-sheet-requires c κs = search needs
 
+enum-known-h-2 : tie.Need-enum-known-h-2
+enum-known-h-2 c = search needs
+
+refused-sheet-requires-2 : tie.Need-refused-sheet-requires-2
+refused-sheet-requires-2 c κs = search needs
+
 returns : tie.Need-returns
 unfolding readSheet
 returns c =
-    let e = sym (c .before .before .before .before .before .before .before .before .read-header .ensures) ∙ c .before .before .before .before .before .before .h .given .1 in
-    let d = c .before .before .before .before .before .before .h .given .0 in
+    let e = sym (c .before .before .before .before .before .before .before .before .before .before .read-header .ensures) ∙ c .before .before .before .before .before .before .before .before .h .given .1 in
+    let d = c .before .before .before .before .before .before .before .before .h .given .0 in
     let f = fields _ _ _ _ e in
-    let r = c .before .before .read-outputs in (
-      rw e (reading-by (d .0) (d .1 .0) (d .1 .1 .0) (r .result) (treesOf (d .0 + d .1 .0) (r .last .1 .1 .1 .1 .0) (r .last .1 .1 .1 .0) (d .1 .0)) _ (r .ensures .0)),
-      when-accepted (r .result) (usable (d .0) (d .1 .0) (d .1 .1 .0) _ _ (f .1) (f .2)) (r .ensures .1),
+    let r = c .before .before .before .before .read-outputs in
+    let t = c .enum-told .given .1 in (
+      rw e (rw t at (reading-by (d .0) (d .1 .0) (d .1 .1 .0) (r .result) (treesOf (d .0 + d .1 .0) (r .last .1 .1 .1 .1 .0) (r .last .1 .1 .1 .0) (d .1 .0)) _ (r .ensures .0))),
+      (usable (d .0) (d .1 .0) (d .1 .1 .0) _ _ (f .1) (f .2) (rw t at (r .ensures .1)), tt),
     )
 
 returns-2 : tie.Need-returns-2
 unfolding readSheet
 returns-2 c =
+    let e = sym (c .before .before .before .before .before .before .before .before .before .before .before .before .read-header .ensures) ∙ c .before .before .before .before .before .before .before .before .before .before .h .given .1 in
+    let d = c .before .before .before .before .before .before .before .before .before .before .h .given .0 in
+    let r = c .before .before .before .before .before .before .read-outputs in
+    let t = c .before .before .outcome .given .1 in
+    let n = c .refused-sheet .ensures in (
+      rw (n .0, e) (rw t at (reading-by (d .0) (d .1 .0) (d .1 .1 .0) (r .result) (treesOf (d .0 + d .1 .0) (r .last .1 .1 .1 .1 .0) (r .last .1 .1 .1 .0) (d .1 .0)) _ (r .ensures .0))),
+      (rw (n .0) tt, rw (n .0) (n .1)),
+    )
+
+returns-3 : tie.Need-returns-3
+unfolding readSheet
+returns-3 c =
     let e = sym (c .before .before .before .before .read-header .ensures) ∙ c .before .before .h2 .given .1 in
-    (rw (c .refused-sheet .ensures, e), rw (c .refused-sheet .ensures) tt)
+    let n = c .refused-sheet2 .ensures in
+    (rw (n .0, e), (rw (n .0) tt, rw (n .0) (n .1)))
 
 pub read-sheet-spec : {M : Type 1} → statement M
 read-sheet-spec =
@@ -61,7 +89,11 @@ read-sheet-spec =
     slice-aggregate-read-outputs
     slice-aggregate-read-outputs-2
     read-outputs-requires
-    enum-known-h-2
+    enum-told
+    enum-known-outcome
     refused-sheet-requires
+    enum-known-h-2
+    refused-sheet-requires-2
     returns
-    returns-2)
+    returns-2
+    returns-3)

@@ -19,7 +19,7 @@ enum-told c = search needs
 
 run-requires : tie.Need-run-requires
 run-requires c κs =
-    let s = (rw (c .before .enum-told .given .1) at (c .before .before .before .accept-sheet .ensures .1)) in
+    let s = (rw (c .before .enum-told .given .1) at (c .before .before .before .accept-sheet .ensures .1 .0)) in
     (s .usable, s .level)
 
 returns : tie.Need-returns

@@ -29,16 +29,21 @@ use Rattle.claims.specs.Demands.{lent}
 abbrev pub LongestSheet : Type 0
 LongestSheet = (bs : List ℕ) (x : RuleSheet) → readSheet bs ≡ accepted x → length bs ≤ 463
 
+-- the live pairs of a sheet of at most 8 streams, as every sheet that is read, are a set: so they have an exact number, and the bounds below
+-- are of something that there is (01, "Completions and verdicts")
+abbrev pub LiveSet : Type 0
+LiveSet = (x : RuleSheet) → streams x ≤ 8 → (L : Pairs) × Represents 256 L (Live x)
+
 -- no two verdicts fit a round, nor a closing
 abbrev pub OneVerdict : Type 0
 OneVerdict =
     (x : RuleSheet) (rs : List LetterSet) (k : ℕ) (v w : Verdict)
     → (RoundVerdict x rs k v → RoundVerdict x rs k w → v ≡ w) × (ClosingVerdict x rs k v → ClosingVerdict x rs k w → v ≡ w)
 
--- and one does, on every output, whatever was heard: L are the live pairs, as preparation leaves them
+-- and one does, on every output, whatever was heard
 abbrev pub SomeVerdict : Type 0
 SomeVerdict =
-    (x : RuleSheet) → streams x ≤ 8 → (L : Pairs) → Represents 256 L (Live x) → (r : LetterSet) (rs : List LetterSet) (k : ℕ)
+    (x : RuleSheet) → streams x ≤ 8 → (r : LetterSet) (rs : List LetterSet) (k : ℕ)
     → ((v : Verdict) × RoundVerdict x (r ∷ rs) k v) × ((v : Verdict) × ClosingVerdict x (r ∷ rs) k v)
 
 -- once broken, every later round is broken

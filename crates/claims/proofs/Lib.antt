@@ -1,5 +1,6 @@
 pub mod BookLaws
 pub mod Refusals
+pub mod FirstDemand
 pub mod SecondDemand
 pub mod ThirdDemand
 pub mod Further

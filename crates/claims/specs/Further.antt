@@ -29,8 +29,8 @@ use Rattle.claims.specs.Demands.{lent}
 abbrev pub LongestSheet : Type 0
 LongestSheet = (bs : List ℕ) (x : RuleSheet) → readSheet bs ≡ accepted x → length bs ≤ 463
 
--- the live pairs of a sheet of at most 8 streams, as every sheet that is read, are a set: so they have an exact number, and the bounds below
--- are of something that there is (01, "Completions and verdicts")
+-- a sheet of at most 8 streams, and no sheet that is read has more, has a set that holds just its live pairs, so that they can be counted
+-- (01, "Completions and verdicts")
 abbrev pub LiveSet : Type 0
 LiveSet = (x : RuleSheet) → streams x ≤ 8 → (L : Pairs) × Represents 256 L (Live x)
 

@@ -1,4 +1,4 @@
--- The first demand has one answer.
+-- The first demand: no two outcomes fit the same checks.
 use Rattle.refusal.proofs.Decisions.{decided-once}
 use Rattle.claims.specs.Demands.{OneOutcome}
 

@@ -5,5 +5,6 @@ pub mod SecondDemand
 pub mod ThirdDemand
 pub mod Further
 pub mod Tidy
+pub mod Forgotten
 pub mod Longest
 pub mod ReadSheet

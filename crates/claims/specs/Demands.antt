@@ -21,14 +21,13 @@ use Rattle.monitor.specs.declared.PrepareAnswer.{PrepareAnswer}
 use Rattle.claims.specs.Book.{Call, Answer, Book, emptyBook, BookRun}
 use Rattle.claims.specs.Session.{Held, Session, Matches}
 
--- The first demand (01, "What is turned down") has one answer: no two outcomes are decided by the same list of checks, whatever the checks are.
--- Which checks an entry has, in which order, is said by the `Checks.antt` of `circular`, `trace` and `monitor`, and their contracts give an
--- outcome that these decide.
+-- The first demand, that there is one answer (01, "What is turned down"): no two outcomes are decided by the same list of checks, whatever they
+-- are. That there is one is in each entry's contract; its checks and their order are in the `Checks.antt` of `circular`, `trace` and `monitor`.
 abbrev pub OneOutcome : Type 1
 OneOutcome = (C : Type 0) (Broken : C → Type 0) (rule : C → Refusal) (cs : List C) (o o′ : Outcome) → Decided Broken rule cs o → Decided Broken rule cs o′ → o ≡ o′
 
 -- The second demand, for the language (01, "Whole traces"): bytes that rules 1 to 10 accept are a sheet, and for every list of letters exactly
--- one trace satisfies all equations. N is the length of ls: there is no bound on it.
+-- one trace satisfies all equations. N is the length of ls, and there is no bound on it.
 abbrev pub UniqueTraces : Type 0
 UniqueTraces =
     (bs : List ℕ)

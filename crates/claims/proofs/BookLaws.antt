@@ -3,7 +3,7 @@ use mathlib.Core.Bool.{Bool, true, false}
 use mathlib.Core.Path.{_≡_, refl, sym, ap, ap₂, subst, _∙_}
 use mathlib.Core.List.{List, [], _∷_, _++_, map, append-nil, append-assoc}
 use mathlib.Core.Option.{none, some}
-use Prim.Native.Nat.{ℕ, zero, suc, _+_, _^_, _≤_}
+use Prim.Native.Nat.{ℕ, zero, suc, _^_, _≤_}
 use native.Mathlib.Omega.{arith}
 use lib.Dec.{T}
 use lib.ListN.{length, getElem?, length-map}
@@ -22,6 +22,7 @@ use Rattle.completions.proofs.Letters.{onLetter, onLetters, letters-verdict, le
 use Rattle.monitor.specs.Results.{width, nextSet}
 use Rattle.record.specs.Record.{share}
 use Rattle.claims.specs.Book.{Call, closing, Answer, refused, verdicts, closed, Book, counted, refusal, Each, BookStep, refuse, accept, close, BookRun, finish, next}
+use Rattle.claims.specs.Further.{OneBook}
 
 -- ---- lists with an entry for each output
 
@@ -138,3 +139,6 @@ run-unique x (next {b = b} p r) (next {b₂ = d} {cs = cs} {as′ = ys} q t) =
     let e = step-unique x b p q in
     let h = run-unique x r (subst (λ (z : Book). BookRun x z cs ys d) (sym (e .1)) t) in
     (ap₂ (λ (a : Answer) (xs : List Answer). a ∷ xs) (e .0) (h .0), h .1)
+
+pub one-book : OneBook
+one-book x b b₁ b₂ cs as₁ as₂ p q = run-unique x p q

@@ -1,25 +1,24 @@
 -- Proofs of the further sentences.
 use mathlib.Core.List.{List, [], _∷_, _++_, map}
-use Prim.Native.Nat.{ℕ, _+_, _≤_}
+use Prim.Native.Nat.{ℕ, _≤_}
 use native.Mathlib.Omega.{arith}
 use lib.ListN.{length, length-map}
-use lib.Pow.{pow-mono}
 use Rattle.sheet.specs.RuleSheet.{RuleSheet, outputs}
 use Rattle.lola.specs.Equations.{output, letter}
-use Rattle.completions.specs.Live.{Live}
+use Rattle.completions.specs.Live.{Pairs, Live}
 use Rattle.completions.specs.Completion.{LetterSet, Match, Completion, Closing}
 use Rattle.completions.specs.Judged.{Judged, inRound, RoundVerdict, ClosingVerdict}
 use Rattle.completions.specs.Steps.{Represents}
 use Rattle.completions.proofs.Verdicts.{one-verdict}
 use Rattle.completions.proofs.Letters.{onLetter, onLetters, completion-of, run-of}
-use Rattle.completions.proofs.Backward.{prefix-short, small-256}
+use Rattle.completions.proofs.Backward.{liveWithin, settled-exact, settles, prefix-short, small-256}
 use Rattle.monitor.specs.Results.{width}
 use Rattle.monitor.proofs.Rounding.{wider}
 use Rattle.record.proofs.Tallies.{RecordOk, record-is}
 use Rattle.claims.specs.Book.{Book, Call, Answer, emptyBook}
 use Rattle.claims.specs.Session.{Held, Session, finish, next}
 use Rattle.claims.specs.Demands.{lent}
-use Rattle.claims.specs.Further.{OneVerdict, SomeVerdict, StaysBroken, ShortCompletion, StaysInOrder}
+use Rattle.claims.specs.Further.{LiveSet, OneVerdict, SomeVerdict, StaysBroken, ShortCompletion, StaysInOrder}
 use Rattle.claims.proofs.BookLaws.{reached-by, reaches-round, reaches-closing}
 use Rattle.claims.proofs.Refusals.{SheetOk}
 use Rattle.claims.proofs.ThirdDemand.{Tracks, Follows, one-call, prepared-tracks, sheet-accepted, storage-enough}
@@ -31,10 +30,16 @@ one-verdict-fits x rs k v w = (
   one-verdict (Closing x rs) (λ ls c. inRound (length rs) (output x k) (c .complete .trace)) v w,
 )
 
+pub live-set : LiveSet
+live-set x few =
+    let z = settles x 256 (small-256 x few) in
+    (liveWithin x 256 (z .0), settled-exact x 256 (small-256 x few) (z .0) (z .1 .0))
+
 pub some-verdict-fits : SomeVerdict
-some-verdict-fits x few L live r rs k =
-    let small : width x ≤ 256 = pow-mono few in
-    let own : Represents (width x) L (Live x) = λ b c hb hc. live b c (omega arith) (wider (width x) small c hc) in
+some-verdict-fits x few r rs k =
+    let small : width x ≤ 256 = small-256 x few in
+    let L : Pairs = live-set x few .0 in
+    let own : Represents (width x) L (Live x) = λ b c hb hc. live-set x few .1 b c (omega arith) (wider (width x) small c hc) in
     let z = reached-by x L own (r ∷ rs) in
     ((_, reaches-round x L own r rs (z .0) (z .1) k), (_, reaches-closing x L own r rs (z .0) (z .1) k))
 

@@ -1,15 +1,18 @@
--- The second demand: what evaluation writes is the only trace of its letters.
-use mathlib.Core.Path.{_≡_, refl, ap, subst}
+-- The second demand: an accepted sheet has one trace for all letters, and evaluation writes it.
+use mathlib.Core.Path.{_≡_, refl, sym, ap, subst}
 use mathlib.Core.Logic.{inr}
-use mathlib.Core.List.{List, [], _∷_, map, List·Memᴰ, List·Memᴰ·head, List·Memᴰ·tail, Memᴰ·append-right}
+use mathlib.Core.List.{List, [], _∷_, map, List·Memᴰ, List·Memᴰ·head, List·Memᴰ·tail, Memᴰ·append-left, Memᴰ·append-right}
 use Prim.Native.Nat.{ℕ, zero, suc, _+_, _^_, _≤_, _<_}
 use native.Mathlib.Omega.{arith}
 use native.Mathlib.Decide.{decLt}
 use native.Mathlib.Nat.{add-zero, zero-add}
 use lib.ListN.{length, getD, take}
 use lib.Seq.{length-take-le}
-use Rattle.refusal.specs.declared.Outcome.the-variants.{Accepted}
+use Rattle.refusal.specs.declared.Outcome.the-variants.{Accepted, Refused}
 use Rattle.refusal.specs.Decided.{Decided}
+use Rattle.sheet.specs.Checks as reads
+use Rattle.sheet.specs.RuleSheet.{RuleSheet, Reading, refused, accepted, readSheet}
+use Rattle.sheet.proofs.First.{readingOutcome, reading-decided}
 use Rattle.lola.specs.Equations.{Letters, joined}
 use Rattle.circular.specs.Checks as sheets
 use Rattle.circular.specs.Unique.{TraceOf}
@@ -18,8 +21,24 @@ use Rattle.circular.proofs.OneTrace.{accepted-one-trace}
 use Rattle.trace.specs.Checks.{sheet, extent, letter, letterChecks}
 use Rattle.trace.specs.Checks as traces
 use Rattle.trace.proofs.Decided.{inputs-byte}
-use Rattle.claims.specs.Demands.{SecondDemand}
+use Rattle.claims.specs.Demands.{UniqueTraces, SecondDemand}
 use Rattle.claims.proofs.Refusals.{front-holds, mem-map}
+
+-- a sheet that rules 1 to 10 accept is read: where reading refuses it, one of them is broken
+sheet-read : (bs : List ℕ) → Decided (sheets.Broken bs) sheets.rule (sheets.checksOf bs) Accepted → (x : RuleSheet) × (readSheet bs ≡ accepted x)
+sheet-read bs d = go (readSheet bs) refl
+  where
+    go : (r : Reading) → readSheet bs ≡ r → (x : RuleSheet) × (readSheet bs ≡ accepted x)
+    go (accepted x) e = (x, e)
+    go (refused q) e =
+        let f : Decided (reads.Broken bs) reads.rule (reads.checksOf bs) (Refused q) = rw (ap readingOutcome e) at (reading-decided bs) in
+        let m : List·Memᴰ (f .0) (reads.checksOf bs) = subst (List·Memᴰ (f .0)) (sym (f .1 .split)) (Memᴰ·append-right (f .1 .before) (List·Memᴰ·head refl)) in
+        absurd (d (sheets.reading (f .0)) (Memᴰ·append-left (sheets.circular ∷ []) (mem-map sheets.reading (f .0) (reads.checksOf bs) m)) (f .1 .breaks))
+
+pub unique-traces : UniqueTraces
+unique-traces bs d =
+    let z = sheet-read bs d in
+    (z .0, z .1, accepted-one-trace bs (z .0) d (z .1))
 
 mem-letter : (i r k : ℕ) → k < r → List·Memᴰ (letter (i + k)) (letterChecks i r)
 unfolding letterChecks

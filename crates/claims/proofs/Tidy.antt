@@ -45,7 +45,7 @@ none-left false l e = e
 
 -- ---- preparation, a round, any calls
 
-zero-none : (from to : ℕ) (t : List ℕ) → Zero from to t → (base b : ℕ) (c : Option ℕ) → b < 256 → Within 256 c → from ≤ base → base + 1028 ≤ to → stored t base b c ≡ false
+pub zero-none : (from to : ℕ) (t : List ℕ) → Zero from to t → (base b : ℕ) (c : Option ℕ) → b < 256 → Within 256 c → from ≤ base → base + 1028 ≤ to → stored t base b c ≡ false
 unfolding stored
 zero-none from to t z base b c hb hc l g =
     let p : place b c < 1028 = place-lt b c hb hc in

@@ -4,11 +4,14 @@ use mathlib.Core.Path.{_≡_}
 use mathlib.Core.List.{List}
 use Prim.Native.Nat.{ℕ}
 use lib.ListN.{length, take}
+use Rattle.refusal.specs.declared.Refusal.{Refusal}
+use Rattle.refusal.specs.declared.Outcome.{Outcome}
 use Rattle.refusal.specs.declared.Outcome.the-variants.{Accepted}
 use Rattle.refusal.specs.Decided.{Decided}
 use Rattle.sheet.specs.RuleSheet.{RuleSheet, accepted, readSheet}
-use Rattle.lola.specs.Equations.{joined}
-use Rattle.circular.specs.Unique.{TraceOf}
+use Rattle.lola.specs.Equations.{Letters, joined}
+use Rattle.circular.specs.Checks as sheets
+use Rattle.circular.specs.Unique.{TraceOf, OneTrace}
 use Rattle.trace.specs.Checks as traces
 use Rattle.trace.specs.Evaluated.{Evaluated}
 use Rattle.record.specs.declared.JournalRecord.{JournalRecord}
@@ -17,6 +20,20 @@ use Rattle.monitor.specs.Results.{OfSheet, Prepared}
 use Rattle.monitor.specs.declared.PrepareAnswer.{PrepareAnswer}
 use Rattle.claims.specs.Book.{Call, Answer, Book, emptyBook, BookRun}
 use Rattle.claims.specs.Session.{Held, Session, Matches}
+
+-- The first demand, that there is one answer (01, "What is turned down"): no two outcomes are decided by the same list of checks, whatever they
+-- are. That there is one is in each entry's contract; its checks and their order are in the `Checks.antt` of `circular`, `trace` and `monitor`.
+abbrev pub OneOutcome : Type 1
+OneOutcome = (C : Type 0) (Broken : C → Type 0) (rule : C → Refusal) (cs : List C) (o o′ : Outcome) → Decided Broken rule cs o → Decided Broken rule cs o′ → o ≡ o′
+
+-- The second demand, for the language (01, "Whole traces"): bytes that rules 1 to 10 accept are a sheet, and for every list of letters exactly
+-- one trace satisfies all equations. N is the length of ls, and there is no bound on it.
+abbrev pub UniqueTraces : Type 0
+UniqueTraces =
+    (bs : List ℕ)
+    → Decided (sheets.Broken bs) sheets.rule (sheets.checksOf bs) Accepted
+    → (x : RuleSheet) × (readSheet bs ≡ accepted x)
+    × ((ls : List ℕ) → Letters (x .inputs) ls → OneTrace x ls)
 
 -- The second demand, for evaluation (01, "Whole traces"): what an accepted evaluation of the letters ls writes makes with them a trace of the
 -- sheet, and there is no other. Which sheets are circular is said by `circular/specs/Circular.antt` and decided by rule 10.

@@ -21,7 +21,7 @@ use Rattle.record.specs.declared.JournalRecord.{JournalRecord}
 use Rattle.monitor.specs.Checks as checks
 use Rattle.monitor.specs.Results.{width, within, OfSheet, Prepared}
 use Rattle.monitor.specs.declared.PrepareAnswer.{PrepareAnswer}
-use Rattle.claims.specs.Book.{Call, Answer}
+use Rattle.claims.specs.Book.{Call, Answer, Book, BookRun}
 use Rattle.claims.specs.Session.{Held, Session}
 use Rattle.claims.specs.Demands.{lent}
 
@@ -29,27 +29,51 @@ use Rattle.claims.specs.Demands.{lent}
 abbrev pub LongestSheet : Type 0
 LongestSheet = (bs : List ℕ) (x : RuleSheet) → readSheet bs ≡ accepted x → length bs ≤ 463
 
+-- every sheet of at most 8 streams (01, "The sheet", allows no more) has a set of just its live pairs, so that they have an exact number (01,
+-- "Completions and verdicts")
+abbrev pub LiveSet : Type 0
+LiveSet = (x : RuleSheet) → streams x ≤ 8 → (L : Pairs) × Represents 256 L (Live x)
+
 -- no two verdicts fit a round, nor a closing
 abbrev pub OneVerdict : Type 0
 OneVerdict =
     (x : RuleSheet) (rs : List LetterSet) (k : ℕ) (v w : Verdict)
     → (RoundVerdict x rs k v → RoundVerdict x rs k w → v ≡ w) × (ClosingVerdict x rs k v → ClosingVerdict x rs k w → v ≡ w)
 
--- and one does, on every output, whatever was heard: L are the live pairs, as preparation leaves them
+-- and one does, on every output, whatever was heard
 abbrev pub SomeVerdict : Type 0
 SomeVerdict =
-    (x : RuleSheet) → streams x ≤ 8 → (L : Pairs) → Represents 256 L (Live x) → (r : LetterSet) (rs : List LetterSet) (k : ℕ)
+    (x : RuleSheet) → streams x ≤ 8 → (r : LetterSet) (rs : List LetterSet) (k : ℕ)
     → ((v : Verdict) × RoundVerdict x (r ∷ rs) k v) × ((v : Verdict) × ClosingVerdict x (r ∷ rs) k v)
 
 -- once broken, every later round is broken
 abbrev pub StaysBroken : Type 0
 StaysBroken = (x : RuleSheet) (rs : List LetterSet) (r : LetterSet) (k j : ℕ) → RoundVerdict x rs k Broken → RoundVerdict x (rs ++ r ∷ []) j Broken
 
--- a prefix of one or more rounds that has a completion has one with fewer further rounds than there are live pairs
+-- the book of the third demand leaves nothing open: no two lists of answers and no two books after it fit a list of calls
+abbrev pub OneBook : Type 0
+OneBook =
+    (x : RuleSheet) (b b₁ b₂ : Book) (cs : List Call) (as₁ as₂ : List Answer)
+    → BookRun x b cs as₁ b₁ → BookRun x b cs as₂ b₂ → (as₁ ≡ as₂) × (b₁ ≡ b₂)
+
+-- a prefix of one or more rounds that has a completion has one with fewer further rounds than there are live pairs, which are those of L
 abbrev pub ShortCompletion : Type 0
 ShortCompletion =
     (x : RuleSheet) → streams x ≤ 8 → (L : Pairs) → Represents 256 L (Live x) → (r : LetterSet) (rs : List LetterSet) (ls : List ℕ) → Completion x (r ∷ rs) ls
     → (ms : List ℕ) × Completion x (r ∷ rs) ms × (length ms < length (r ∷ rs) + countPairs 256 L)
+
+-- two storages hold the same pairs in each of the three sets: the live set, the reached set and the scratch set
+pub record SameSets (t t′ : List ℕ) : Type 0 where
+  pub live : (b : ℕ) (c : Option ℕ) → b < 256 → Within 256 c → stored t 0 b c ≡ stored t′ 0 b c
+  pub reached : (b : ℕ) (c : Option ℕ) → b < 256 → Within 256 c → stored t 1028 b c ≡ stored t′ 1028 b c
+  pub scratch : (b : ℕ) (c : Option ℕ) → b < 256 → Within 256 c → stored t 2056 b c ≡ stored t′ 2056 b c
+
+-- nothing hangs on what the storage held before preparation (01, "Completions and verdicts"): two preparations of a sheet, on any storages s and
+-- s′, leave the same sets and answer with the same number of live pairs and the same record
+abbrev pub StorageForgotten : Type 0
+StorageForgotten =
+    (x : RuleSheet) (s s′ t t′ : List ℕ) (a a′ : PrepareAnswer) → Prepared x s t a → Prepared x s′ t′ a′
+    → SameSets t t′ × (a .live ≡ a′ .live) × (a .record ≡ a′ .record)
 
 -- after an accepted preparation and any calls, the four counts of each output add up to the rounds, of which there are at most 1,000,000, and
 -- the storage is as long as it was: rules 15 and 18 are never met

@@ -17,6 +17,7 @@ use Rattle.sheet.specs.Bytes.{opOf, readsOf}
 use Rattle.sheet.specs.Expression.{applyOp, final, parse}
 use Rattle.sheet.specs.Header.{markOk, versionOf, countsOk, assumedAt, headerOf}
 use Rattle.sheet.specs.RuleSheet.{RuleSheet, outputs, streams, Reading, refused, accepted, readOutputs, readSheet}
+use Rattle.sheet.proofs.Formed.{read-formed}
 use Rattle.lola.specs.Value.{value, near}
 use Rattle.lola.specs.Equations.{equations, holds, first, Satisfies, joined, output}
 use Rattle.lola.specs.Reads.{hasRead}
@@ -31,6 +32,7 @@ use Rattle.completions.proofs.Tests.{and-left, and-right, true-of}
 use Rattle.completions.proofs.Backward.{endSet, backSet, liveWithin, layer, settled-exact, live-count}
 use Rattle.completions.proofs.Letters.{onLetter}
 use Rattle.completions.proofs.Steps.{start-exact}
+use Rattle.claims.proofs.Further.{live-set}
 use Rattle.claims.proofs.BookLaws.{round-right, reaches-closing}
 use Rattle.claims.proofs.ThirdDemand.{verdict-back}
 use Rattle.monitor.specs.Results.{width}
@@ -168,7 +170,9 @@ holds-case (lives bs n) t = go (readSheet bs) refl t
   where
     go : (r : Reading) → readSheet bs ≡ r → T (ofReading r (λ x. livesTest x n)) → Holds (lives bs n)
     go (refused r) e t = absurd t
-    go (accepted x) e t = (x, e, lives-is x n t)
+    go (accepted x) e t =
+        let z = live-set x (read-formed bs x e .ranges .streams) in
+        (x, e, z .0, z .1, lives-is x n t (z .0) (z .1))
 holds-case (values bs ls os) t = go (readSheet bs) refl t
   where
     go : (r : Reading) → readSheet bs ≡ r → T (ofReading r (λ x. satisfied x none (joined (x .inputs) ls os))) → Holds (values bs ls os)

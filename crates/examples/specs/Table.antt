@@ -36,7 +36,7 @@ Holds (judged bs vs ws) =
     × ((k : ℕ) (v : Verdict) → getElem? vs k ≡ some v → RoundVerdict x (unheard ∷ []) k v)
     × ((k : ℕ) (v : Verdict) → getElem? ws k ≡ some v → ClosingVerdict x (unheard ∷ []) k v)
 Holds (circular bs) = (x : RuleSheet) × (readSheet bs ≡ accepted x) × CircularSheet x
-Holds (lives bs n) = (x : RuleSheet) × (readSheet bs ≡ accepted x) × ((L : Pairs) → Represents 256 L (Live x) → countPairs 256 L ≡ n)
+Holds (lives bs n) = (x : RuleSheet) × (readSheet bs ≡ accepted x) × (L : Pairs) × Represents 256 L (Live x) × (countPairs 256 L ≡ n)
 Holds (values bs ls os) = (x : RuleSheet) × (readSheet bs ≡ accepted x) × Satisfies x none (joined (x .inputs) ls os)
 
 -- a sheet of one input: the number of outputs, the assumption's byte, and the outputs with their lengths

@@ -1,5 +1,5 @@
 -- The demands as types; their proofs are in proofs/.
--- Manual: "Completions and verdicts".
+-- Manual: "Refusals", "The language", "Completions and verdicts".
 use mathlib.Core.Path.{_≡_}
 use mathlib.Core.List.{List}
 use Prim.Native.Nat.{ℕ}

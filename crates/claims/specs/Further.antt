@@ -1,5 +1,5 @@
 -- Further sentences of 01, "The sheet", "Completions and verdicts" and "Tallies", as types.
--- Manual: "Completions and verdicts".
+-- Manual: "The sheet", "Completions and verdicts", "Preparation", "Tallies".
 use mathlib.Core.Path.{_≡_}
 use mathlib.Core.Bool.{false}
 use mathlib.Core.List.{List, [], _∷_, _++_}

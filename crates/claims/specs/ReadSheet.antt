@@ -1,6 +1,6 @@
 -- The entries that take the sheet already read (01, "Completions and verdicts", each entry's definition): on a sheet that was accepted, what
 -- fits their contracts fits those of the entries that take its bytes.
--- Manual: "Preparation".
+-- Manual: "Calling it".
 use mathlib.Core.List.{List}
 use Prim.Native.Nat.{ℕ}
 use lib.ListN.{length}

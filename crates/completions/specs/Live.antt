@@ -1,5 +1,5 @@
 -- Live pairs (01, "Completions and verdicts"): a valuation with a valuation or the end mark (none).
--- Manual: "Completions and verdicts".
+-- Manual: "Preparation".
 use mathlib.Core.Bool.{Bool, true, _&&_}
 use mathlib.Core.Path.{_≡_}
 use mathlib.Core.List.{List, [], _∷_}

@@ -4,4 +4,5 @@ pub mod StepLaws
 pub mod ParseLaws
 pub mod AroundLaws
 pub mod CodeLaws
+pub mod EquationLaws
 pub mod BlindLaws

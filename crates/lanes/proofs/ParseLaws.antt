@@ -21,7 +21,7 @@ use Rattle.refusal.specs.declared.Refusal.the-variants.{Byte, Values}
 use Rattle.lola.specs.Value.{Look, value}
 use Rattle.lanes.specs.Machine.{negTop, andTop, orTop, stepped}
 use Rattle.words.proofs.BitLaws.{bit-none}
-use Rattle.lanes.specs.Around.{slot, readAt, laneLook, below, laneStack, Stepped, RowStepped}
+use Rattle.lanes.specs.Around.{slot, readAt, laneLook, below, laneStack, Stepped}
 use Rattle.lanes.proofs.StackLaws.{byte-read, byte-const, byte-not, byte-and, byte-or}
 
 -- the values of a stack of trees, which lie on r
@@ -147,58 +147,29 @@ lane-all env r e k v vs l d s x p = ap head (last (reads env) r s x (v ∷ vs) (
     head [] = false
     head (u ∷ us) = u
 
--- ---- in all lanes of a word
+-- ---- in all lanes of w words, where the row r was there at first
 
-pub record Done (env f : ℕ) (e st : List ℕ) (top used k : ℕ) : Type 0 where
+pub record Done (w env f : ℕ) (e r st top : List ℕ) (used k : ℕ) : Type 0 where
   pub inside : k ≤ length e
   pub room : used ≤ k
-  pub follows : (i : ℕ) → i < 64 → LaneDone (readAt env f i) (false ∷ []) e k (laneStack (bit i top) (λ j. bit i (getD st j 0)) used)
+  pub follows : (j i : ℕ) → j < w → i < 64
+      → LaneDone (readAt env f (64 * j + i)) (bit i (getD r j 0) ∷ []) e k (laneStack (bit i (getD top j 0)) (λ n. bit i (getD st (w * n + j) 0)) used)
 
-module _ (env f : ℕ) (e : List ℕ) where
-  pub none-done : (st : List ℕ) → Done env f e st 0 0 0
+module _ (w env f : ℕ) (e r : List ℕ) where
+  pub none-done : (st : List ℕ) → Done w env f e r st r 0 0
   unfolding values below
-  none-done st = record {
+  none-done st = record { inside = omega arith; room = omega arith; follows = λ j i g l s x h. record { trees = []; left = h; same = refl } }
+
+  pub one-done : (st top : List ℕ) (used k : ℕ) (st′ top′ : List ℕ) (used′ : ℕ) → k < length e → Done w env f e r st top used k
+      → Stepped w env f (getD e k 0) st top used st′ top′ used′ → Done w env f e r st′ top′ used′ (k + 1)
+  one-done st top used k st′ top′ used′ h d z = record {
     inside = omega arith;
-    room = omega arith;
-    follows = λ i l s x h. record { trees = []; left = h; same = ap (λ (u : Bool). u ∷ []) (bit-none i) };
+    room = omega (arith, z .room, d .room);
+    follows = λ j i g l. lane-more (readAt env f (64 * j + i)) (bit i (getD r j 0) ∷ []) e k _ _ h (d .follows j i g l) (z .lanes j i g l);
   }
 
-  pub one-done : (st : List ℕ) (top used k : ℕ) (st′ : List ℕ) (top′ used′ : ℕ) → k < length e → Done env f e st top used k
-      → Stepped env f (getD e k 0) st top used st′ top′ used′ → Done env f e st′ top′ used′ (k + 1)
-  one-done st top used k st′ top′ used′ h d w = record {
-    inside = omega arith;
-    room = omega (arith, w .room, d .room);
-    follows = λ i l. lane-more (readAt env f i) (false ∷ []) e k _ _ h (d .follows i l) (w .lanes i l);
-  }
-
-  pub all-done : (st : List ℕ) (top used k : ℕ) → Done env f e st top used k → length e ≤ k → (s : ℕ) (x : Expr) → parse s [] e ≡ tree x → (i : ℕ) → i < 64
-      → bit i top ≡ value (laneLook env f i) x
-  all-done st top used k d l s x p i h =
-      lane-all (readAt env f i) (false ∷ []) e k (bit i top) (below (λ j. bit i (getD st j 0)) used) l (d .follows i h) s x p
-
--- ---- in all lanes of four words, where the row r was there at first
-
-pub record RowDone (env f : ℕ) (e r st top : List ℕ) (used k : ℕ) : Type 0 where
-  pub inside : k ≤ length e
-  pub room : used ≤ k
-  pub follows : (j i : ℕ) → j < 4 → i < 64
-      → LaneDone (readAt env f (64 * j + i)) (bit i (getD r j 0) ∷ []) e k (laneStack (bit i (getD top j 0)) (λ n. bit i (getD st (4 * n + j) 0)) used)
-
-module _ (env f : ℕ) (e r : List ℕ) where
-  pub row-none-done : (st : List ℕ) → RowDone env f e r st r 0 0
-  unfolding values below
-  row-none-done st = record { inside = omega arith; room = omega arith; follows = λ j i g l s x h. record { trees = []; left = h; same = refl } }
-
-  pub row-one-done : (st top : List ℕ) (used k : ℕ) (st′ top′ : List ℕ) (used′ : ℕ) → k < length e → RowDone env f e r st top used k
-      → RowStepped env f (getD e k 0) st top used st′ top′ used′ → RowDone env f e r st′ top′ used′ (k + 1)
-  row-one-done st top used k st′ top′ used′ h d w = record {
-    inside = omega arith;
-    room = omega (arith, w .room, d .room);
-    follows = λ j i g l. lane-more (readAt env f (64 * j + i)) (bit i (getD r j 0) ∷ []) e k _ _ h (d .follows j i g l) (w .lanes j i g l);
-  }
-
-  pub row-all-done : (st top : List ℕ) (used k : ℕ) → RowDone env f e r st top used k → length e ≤ k → (s : ℕ) (x : Expr) → parse s [] e ≡ tree x
-      → (j i : ℕ) → j < 4 → i < 64 → bit i (getD top j 0) ≡ value (laneLook env f (64 * j + i)) x
-  row-all-done st top used k d l s x p j i g h =
-      lane-all (readAt env f (64 * j + i)) (bit i (getD r j 0) ∷ []) e k (bit i (getD top j 0)) (below (λ n. bit i (getD st (4 * n + j) 0)) used) l
+  pub all-done : (st top : List ℕ) (used k : ℕ) → Done w env f e r st top used k → length e ≤ k → (s : ℕ) (x : Expr) → parse s [] e ≡ tree x
+      → (j i : ℕ) → j < w → i < 64 → bit i (getD top j 0) ≡ value (laneLook env f (64 * j + i)) x
+  all-done st top used k d l s x p j i g h =
+      lane-all (readAt env f (64 * j + i)) (bit i (getD r j 0) ∷ []) e k (bit i (getD top j 0)) (below (λ n. bit i (getD st (w * n + j) 0)) used) l
       (d .follows j i g h) s x p

@@ -38,30 +38,25 @@ below E (suc n) = E n ∷ below E n
 abbrev pub laneStack : Bool → (ℕ → Bool) → ℕ → List Bool
 laneStack x E n = x ∷ below E n
 
--- a step of a stack of words, 64 lanes: `used` of them lie below the top
-pub record Stepped (env f e : ℕ) (st : List ℕ) (top used : ℕ) (st′ : List ℕ) (top′ used′ : ℕ) : Type 0 where
+-- a step of a stack of rows of w words, 64 * w lanes: `used` of them lie below the top, row k of these from w * k on
+pub record Stepped (w env f e : ℕ) (st top : List ℕ) (used : ℕ) (st′ top′ : List ℕ) (used′ : ℕ) : Type 0 where
   pub room : used′ ≤ used + 1
-  pub lanes : (i : ℕ) → i < 64
-      → laneStack (bit i top′) (λ k. bit i (getD st′ k 0)) used′
-      ≡ stepped (readAt env f i) e (laneStack (bit i top) (λ k. bit i (getD st k 0)) used)
+  pub lanes : (j i : ℕ) → j < w → i < 64
+      → laneStack (bit i (getD top′ j 0)) (λ k. bit i (getD st′ (w * k + j) 0)) used′
+      ≡ stepped (readAt env f (64 * j + i)) e (laneStack (bit i (getD top j 0)) (λ k. bit i (getD st (w * k + j) 0)) used)
 
--- a step of a stack of rows of four words, 256 lanes
-pub record RowStepped (env f e : ℕ) (st top : List ℕ) (used : ℕ) (st′ top′ : List ℕ) (used′ : ℕ) : Type 0 where
-  pub room : used′ ≤ used + 1
-  pub lanes : (j i : ℕ) → j < 4 → i < 64
-      → laneStack (bit i (getD top′ j 0)) (λ k. bit i (getD st′ (4 * k + j) 0)) used′
-      ≡ stepped (readAt env f (64 * j + i)) e (laneStack (bit i (getD top j 0)) (λ k. bit i (getD st (4 * k + j) 0)) used)
+-- the w words of a row are F 0 to F (w - 1)
+abbrev pub Filled : ℕ → (ℕ → ℕ) → List ℕ → Type 0
+Filled w F row = (j : ℕ) → j < w → getD row j 0 ≡ F j
 
--- four words are F 0 to F 3
-pub record Four (F : ℕ → ℕ) (t t′ : List ℕ) : Type 0 where
-  pub size : length t′ ≡ length t
-  pub words : (j : ℕ) → j < 4 → getD t′ j 0 ≡ F j
+-- row k of the stack is now the row, and no word before it is changed
+pub record Stored (w k : ℕ) (row t t′ : List ℕ) : Type 0 where
+  pub words : (j : ℕ) → j < w → getD t′ (w * k + j) 0 ≡ getD row j 0
+  pub others : (i : ℕ) → i < w * k → getD t′ i 0 ≡ getD t i 0
 
--- four words from 4 k on are those of the row, and no word before them is changed
-pub record Stored (k : ℕ) (row t t′ : List ℕ) : Type 0 where
-  pub size : length t′ ≡ length t
-  pub words : (j : ℕ) → j < 4 → getD t′ (4 * k + j) 0 ≡ getD row j 0
-  pub others : (i : ℕ) → i < 4 * k → getD t′ i 0 ≡ getD t i 0
+-- the words that a stack of rows of w words may take: of two words each where that is enough, else of four
+unfoldable pub room : ℕ → ℕ
+room w = cond (leb w 2) 128 256
 
 -- the reads of a neighbouring round, with the default false and with the default true
 pub record Beside (w : ℕ) (v : Option ℕ) : Type 0 where

@@ -2,13 +2,14 @@
 use mathlib.Core.Bool.{Bool, true, _&&_, Bool·beq}
 use mathlib.Core.Path.{_≡_}
 use mathlib.Core.List.{List, [], _∷_}
-use Prim.Native.Nat.{ℕ, suc, _+_, _≤_, _<_}
+use Prim.Native.Nat.{ℕ, suc, _+_, _*_, _≤_, _<_}
 use lib.ListN.{length, getD}
 use Rattle.words.specs.Bits.{bit}
-use Rattle.sheet.specs.Expression.{Expr}
+use Rattle.sheet.specs.Expression.{Expr, parse, tree}
 use Rattle.sheet.specs.RuleSheet.{RuleSheet}
 use Rattle.sheet.specs.Reading.{Ranges, Parses, codeAt, treesOf}
 use Rattle.lola.specs.Value.{Look, value}
+use Rattle.lanes.specs.Around.{laneLook}
 
 -- m inputs, n outputs, and their expressions, which parse
 pub record Coded (m n : ℕ) (code len : List ℕ) : Type 0 where
@@ -26,3 +27,11 @@ sheetOf m n code len ks = record { inputs = m; expressions = treesOf (m + n) cod
 unfoldable pub agreed : Look → List Expr → ℕ → ℕ → Bool
 agreed look [] q v = true
 agreed look (e ∷ es) q v = Bool·beq (bit q v) (value look e) && agreed look es (suc q) v
+
+-- the w words of a row have the values of the expression with these bytes, lane by lane
+pub record Values (w env f : ℕ) (bytes row : List ℕ) : Type 0 where
+  pub lanes : (s : ℕ) (x : Expr) → parse s [] bytes ≡ tree x → (j i : ℕ) → j < w → i < 64 → bit i (getD row j 0) ≡ value (laneLook env f (64 * j + i)) x
+
+-- the w words of a row have the lanes in which the first k equations agree with the valuation b
+pub record Agree (w env f m n : ℕ) (code len : List ℕ) (b : ℕ) (row : List ℕ) (k : ℕ) : Type 0 where
+  pub lanes : (j i : ℕ) → j < w → i < 64 → bit i (getD row j 0) ≡ agreed (laneLook env f (64 * j + i)) (treesOf (m + n) code len k) m b

@@ -1,5 +1,5 @@
-// Expressions evaluated in 64 lanes at once, or in four words of 64. What the expressions read is one word, bit byte - 0x40 for the read byte;
-// the reads of one family, one round earlier or one round later, are of the lane's own valuation instead.
+// Expressions evaluated in a row of words at once, 64 lanes each: two words for up to 128 valuations, else four. What the expressions read is one
+// word, bit byte - 0x40 for the read byte; the reads of one family, one round earlier or one round later, are of the lane's own valuation instead.
 ghost use mathlib.Core.Path.{_≡_};
 ghost use mathlib.Core.Bool.{true, false, not, Bool·beq, _&&_};
 ghost use mathlib.Core.List.{List, []};
@@ -14,8 +14,8 @@ ghost use Rattle.lola.specs.Value.{value};
 ghost use Rattle.lola.specs.Slots.{slots};
 ghost use Rattle.lola.specs.Reads.{hasRead};
 ghost use Rattle.lola.specs.Equations.{holds};
-ghost use Rattle.lanes.specs.Around.{readAt, laneLook, Stepped, RowStepped, Four, Stored, Beside, Before, Seen, Ahead, unless, earlierByte};
-ghost use Rattle.lanes.specs.Coded.{Coded, sheetOf, agreed};
+ghost use Rattle.lanes.specs.Around.{readAt, laneLook, Stepped, Filled, Stored, room, Beside, Before, Seen, Ahead, unless, earlierByte};
+ghost use Rattle.lanes.specs.Coded.{Coded, sheetOf, agreed, Values, Agree};
 use sheet::OutputNo;
 
 // The families of reads that may be of the lane's valuation.
@@ -23,7 +23,7 @@ const EARLIER: u8 = 1;
 
 const LATER: u8 = 2;
 
-// ---- One word
+// ---- Rows
 
 // The value of the read byte e in the lanes of the valuations from 64 * j on.
 fn read_word(env: u64, f: u8, j: usize, e: u8) -> u64
@@ -37,178 +37,161 @@ fn read_word(env: u64, f: u8, j: usize, e: u8) -> u64
     words::spread((env >> k) % 2 == 1)
 }
 
-// A stack of words: its top, and how many lie below it.
-struct WordStack {
-    top: u64,
-    used: usize,
-}
-
-// One expression byte; what lies below the top is in st.
-fn word_step(st: &mut [u64], s: WordStack, env: u64, f: u8, e: u8) -> WordStack
-    requires { ⌜ s .used < length (now st) ⌝ }
-    ensures { λ r. ⌜ Stepped env f e (now (st .entry)) (s .top) (s .used) (now (st .exit)) (r .top) (r .used) ⌝ }
-{
-    let top = s.top;
-    let used = s.used;
-    if 0x40 <= e {
-        st[used] = top;
-        return WordStack {
-            top: read_word(env, f, 0, e),
-            used: used + 1,
-        };
-    }
-    if e == 2 {
-        return WordStack {
-            top: !top,
-            used: used,
-        };
-    }
-    if e < 2 {
-        st[used] = top;
-        return WordStack {
-            top: words::spread(e == 1),
-            used: used + 1,
-        };
-    }
-    if used == 0 {
-        return s;
-    }
-    let below = st[used - 1];
-    if e == 3 {
-        return WordStack {
-            top: below & top,
-            used: used - 1,
-        };
-    }
-    WordStack {
-        top: below | top,
-        used: used - 1,
-    }
-}
-
-// The value of an expression in each lane; st is room to work in.
-fn value_word(st: &mut [u64], env: u64, f: u8, expr: &[u8]) -> u64
-    requires { ⌜ (length (now expr) ≤ 64) × (64 ≤ length (now st)) ⌝ }
-    ensures { λ r. ⌜ ((s : ℕ) (x : Expr) → parse s [] (now (expr .entry)) ≡ tree x → (i : ℕ) → i < 64 → bit i r ≡ value (laneLook env f i) x) ⌝ }
-{
-    let mut s = WordStack { top: 0, used: 0 };
-    let mut k: usize = 0;
-    while k < expr.len() {
-        s = word_step(st, s, env, f, expr[k]);
-        k += 1;
-    }
-    s.top
-}
-
-// ---- Four words
-
-fn fill_row(row: &mut [u64], x: u64)
-    requires { ⌜ length (now row) ≡ 4 ⌝ }
-    ensures { λ r. ⌜ Four (λ j. x) (now (row .entry)) (now (row .exit)) ⌝ }
+// From here on, a row is its first w words.
+fn fill_row(row: &mut [u64], w: usize, x: u64)
+    requires { ⌜ (w ≤ 4) × (length (now row) ≡ 4) ⌝ }
+    ensures { λ r. ⌜ Filled w (λ j. x) (now (row .exit)) ⌝ }
 {
     let mut j: usize = 0;
-    while j < 4 {
+    while j < w {
         row[j] = x;
         j += 1;
     }
 }
 
-fn not_row(row: &mut [u64])
-    requires { ⌜ length (now row) ≡ 4 ⌝ }
-    ensures { λ r. ⌜ (length (now (row .exit)) ≡ 4) × ((j i : ℕ) → j < 4 → i < 64 → bit i (getD (now (row .exit)) j 0) ≡ not (bit i (getD (now (row .entry)) j 0))) ⌝ }
+fn not_row(row: &mut [u64], w: usize)
+    requires { ⌜ (w ≤ 4) × (length (now row) ≡ 4) ⌝ }
+    ensures { λ r. ⌜ ((j i : ℕ) → j < w → i < 64 → bit i (getD (now (row .exit)) j 0) ≡ not (bit i (getD (now (row .entry)) j 0))) ⌝ }
 {
     let mut j: usize = 0;
-    while j < 4 {
+    while j < w {
         row[j] = !row[j];
         j += 1;
     }
 }
 
 // Row k of the stack and the row, or either of them.
-fn and_row(row: &mut [u64], st: &[u64], k: usize)
-    requires { ⌜ (length (now row) ≡ 4) × (4 * k + 4 ≤ length (now st)) ⌝ }
-    ensures { λ r. ⌜ Four (λ j. bitAnd (getD (now (st .entry)) (4 * k + j) 0) (getD (now (row .entry)) j 0)) (now (row .entry)) (now (row .exit)) ⌝ }
+fn and_row(row: &mut [u64], w: usize, st: &[u64], k: usize)
+    requires { ⌜ (w ≤ 4) × (length (now row) ≡ 4) × (w * k + w ≤ length (now st)) ⌝ }
+    ensures { λ r. ⌜ Filled w (λ j. bitAnd (getD (now (st .entry)) (w * k + j) 0) (getD (now (row .entry)) j 0)) (now (row .exit)) ⌝ }
 {
     let mut j: usize = 0;
-    while j < 4 {
-        row[j] = st[4 * k + j] & row[j];
+    while j < w {
+        row[j] = st[w * k + j] & row[j];
         j += 1;
     }
 }
 
-fn or_row(row: &mut [u64], st: &[u64], k: usize)
-    requires { ⌜ (length (now row) ≡ 4) × (4 * k + 4 ≤ length (now st)) ⌝ }
-    ensures { λ r. ⌜ Four (λ j. bitOr (getD (now (st .entry)) (4 * k + j) 0) (getD (now (row .entry)) j 0)) (now (row .entry)) (now (row .exit)) ⌝ }
+fn or_row(row: &mut [u64], w: usize, st: &[u64], k: usize)
+    requires { ⌜ (w ≤ 4) × (length (now row) ≡ 4) × (w * k + w ≤ length (now st)) ⌝ }
+    ensures { λ r. ⌜ Filled w (λ j. bitOr (getD (now (st .entry)) (w * k + j) 0) (getD (now (row .entry)) j 0)) (now (row .exit)) ⌝ }
 {
     let mut j: usize = 0;
-    while j < 4 {
-        row[j] = st[4 * k + j] | row[j];
+    while j < w {
+        row[j] = st[w * k + j] | row[j];
         j += 1;
     }
 }
 
 // Puts the row into the stack as row k.
-fn store_row(st: &mut [u64], k: usize, row: &[u64])
-    requires { ⌜ (length (now row) ≡ 4) × (4 * k + 4 ≤ length (now st)) ⌝ }
-    ensures { λ r. ⌜ Stored k (now (row .entry)) (now (st .entry)) (now (st .exit)) ⌝ }
+fn store_row(st: &mut [u64], w: usize, k: usize, row: &[u64])
+    requires { ⌜ (w ≤ 4) × (length (now row) ≡ 4) × (w * k + w ≤ length (now st)) ⌝ }
+    ensures { λ r. ⌜ Stored w k (now (row .entry)) (now (st .entry)) (now (st .exit)) ⌝ }
 {
     let mut j: usize = 0;
-    while j < 4 {
-        st[4 * k + j] = row[j];
+    while j < w {
+        st[w * k + j] = row[j];
         j += 1;
     }
 }
 
-fn read_row(row: &mut [u64], env: u64, f: u8, e: u8)
-    requires { ⌜ length (now row) ≡ 4 ⌝ }
-    ensures { λ r. ⌜ (length (now (row .exit)) ≡ 4) × ((j i : ℕ) → j < 4 → i < 64 → bit i (getD (now (row .exit)) j 0) ≡ readAt env f (64 * j + i) (e % 64)) ⌝ }
+fn read_row(row: &mut [u64], w: usize, env: u64, f: u8, e: u8)
+    requires { ⌜ (w ≤ 4) × (length (now row) ≡ 4) ⌝ }
+    ensures { λ r. ⌜ ((j i : ℕ) → j < w → i < 64 → bit i (getD (now (row .exit)) j 0) ≡ readAt env f (64 * j + i) (e % 64)) ⌝ }
 {
     let mut j: usize = 0;
-    while j < 4 {
+    while j < w {
         row[j] = read_word(env, f, j, e);
         j += 1;
     }
 }
 
-// One expression byte on a stack of rows: the top is in `top`, what lies below it, `used` rows, in st. Returns how many then do.
-fn row_step(st: &mut [u64], top: &mut [u64], used: usize, env: u64, f: u8, e: u8) -> usize
-    requires { ⌜ (length (now top) ≡ 4) × (4 * used + 4 ≤ length (now st)) ⌝ }
-    ensures { λ r. ⌜ RowStepped env f e (now (st .entry)) (now (top .entry)) used (now (st .exit)) (now (top .exit)) r ⌝ }
+// ---- Two words
+
+// One expression byte on a stack of rows of two words: the top is in `top`, what lies below it, `used` rows, in st. Returns how many then do.
+fn two_step(st: &mut [u64], top: &mut [u64], used: usize, env: u64, f: u8, e: u8) -> usize
+    requires { ⌜ (length (now top) ≡ 4) × (2 * used + 2 ≤ length (now st)) ⌝ }
+    ensures { λ r. ⌜ Stepped 2 env f e (now (st .entry)) (now (top .entry)) used (now (st .exit)) (now (top .exit)) r ⌝ }
 {
     if 0x40 <= e {
-        store_row(st, used, top);
-        read_row(top, env, f, e);
+        store_row(st, 2, used, top);
+        read_row(top, 2, env, f, e);
         return used + 1;
     }
     if e == 2 {
-        not_row(top);
+        not_row(top, 2);
         return used;
     }
     if e < 2 {
-        store_row(st, used, top);
-        fill_row(top, words::spread(e == 1));
+        store_row(st, 2, used, top);
+        fill_row(top, 2, words::spread(e == 1));
         return used + 1;
     }
     if used == 0 {
         return 0;
     }
     if e == 3 {
-        and_row(top, st, used - 1);
+        and_row(top, 2, st, used - 1);
         return used - 1;
     }
-    or_row(top, st, used - 1);
+    or_row(top, 2, st, used - 1);
     used - 1
 }
 
-// The value of an expression in each lane, left in `top`; st is room to work in.
-fn value_row(st: &mut [u64], top: &mut [u64], env: u64, f: u8, expr: &[u8])
-    requires { ⌜ (length (now expr) ≤ 64) × (256 ≤ length (now st)) × (length (now top) ≡ 4) ⌝ }
-    ensures { λ r. ⌜ ((s : ℕ) (x : Expr) → parse s [] (now (expr .entry)) ≡ tree x → (j i : ℕ) → j < 4 → i < 64 → bit i (getD (now (top .exit)) j 0) ≡ value (laneLook env f (64 * j + i)) x) ⌝ }
+// The value of an expression in each lane of two words, left in `top`; st is room to work in.
+fn two_value(st: &mut [u64], top: &mut [u64], env: u64, f: u8, expr: &[u8])
+    requires { ⌜ (length (now expr) ≤ 64) × (128 ≤ length (now st)) × (length (now top) ≡ 4) ⌝ }
+    ensures { λ r. ⌜ Values 2 env f (now (expr .entry)) (now (top .exit)) ⌝ }
 {
     let mut used: usize = 0;
     let mut k: usize = 0;
     while k < expr.len() {
-        used = row_step(st, top, used, env, f, expr[k]);
+        used = two_step(st, top, used, env, f, expr[k]);
+        k += 1;
+    }
+}
+
+// ---- Four words
+
+// One expression byte on a stack of rows of four words: the top is in `top`, what lies below it, `used` rows, in st. Returns how many then do.
+fn four_step(st: &mut [u64], top: &mut [u64], used: usize, env: u64, f: u8, e: u8) -> usize
+    requires { ⌜ (length (now top) ≡ 4) × (4 * used + 4 ≤ length (now st)) ⌝ }
+    ensures { λ r. ⌜ Stepped 4 env f e (now (st .entry)) (now (top .entry)) used (now (st .exit)) (now (top .exit)) r ⌝ }
+{
+    if 0x40 <= e {
+        store_row(st, 4, used, top);
+        read_row(top, 4, env, f, e);
+        return used + 1;
+    }
+    if e == 2 {
+        not_row(top, 4);
+        return used;
+    }
+    if e < 2 {
+        store_row(st, 4, used, top);
+        fill_row(top, 4, words::spread(e == 1));
+        return used + 1;
+    }
+    if used == 0 {
+        return 0;
+    }
+    if e == 3 {
+        and_row(top, 4, st, used - 1);
+        return used - 1;
+    }
+    or_row(top, 4, st, used - 1);
+    used - 1
+}
+
+// The value of an expression in each lane of four words, left in `top`; st is room to work in.
+fn four_value(st: &mut [u64], top: &mut [u64], env: u64, f: u8, expr: &[u8])
+    requires { ⌜ (length (now expr) ≤ 64) × (256 ≤ length (now st)) × (length (now top) ≡ 4) ⌝ }
+    ensures { λ r. ⌜ Values 4 env f (now (expr .entry)) (now (top .exit)) ⌝ }
+{
+    let mut used: usize = 0;
+    let mut k: usize = 0;
+    while k < expr.len() {
+        used = four_step(st, top, used, env, f, expr[k]);
         k += 1;
     }
 }
@@ -233,8 +216,35 @@ fn output_value(b: usize, m: usize, k: usize) -> bool
     (b >> q) % 2 == 1
 }
 
-// The lanes in which the n outputs, streams m on of b, have the values of their expressions.
-fn equations_word(
+// The lanes of acc in which x is v.
+fn keep_row(acc: &mut [u64], w: usize, x: &[u64], v: bool)
+    requires { ⌜ (w ≤ 4) × (length (now acc) ≡ 4) × (length (now x) ≡ 4) ⌝ }
+    ensures { λ r. ⌜ ((j i : ℕ) → j < w → i < 64 → bit i (getD (now (acc .exit)) j 0) ≡ (bit i (getD (now (acc .entry)) j 0) && Bool·beq (bit i (getD (now (x .entry)) j 0)) v)) ⌝ }
+{
+    let mut j: usize = 0;
+    while j < w {
+        acc[j] = acc[j] & words::agree(x[j], v);
+        j += 1;
+    }
+}
+
+fn is_empty(row: &[u64], w: usize) -> bool
+    requires { ⌜ (w ≤ 4) × (length (now row) ≡ 4) ⌝ }
+    ensures { λ r. ⌜ (r ≡ true → (j i : ℕ) → j < w → bit i (getD (now (row .entry)) j 0) ≡ false) ⌝ }
+{
+    let mut j: usize = 0;
+    while j < w {
+        if row[j] != 0 {
+            return false;
+        }
+        j += 1;
+    }
+    true
+}
+
+// The lanes of two words in which the n outputs, streams m on of b, have the values of their expressions, left in acc.
+fn two_equations(
+    acc: &mut [u64],
     st: &mut [u64],
     env: u64,
     f: u8,
@@ -243,47 +253,28 @@ fn equations_word(
     m: usize,
     n: usize,
     b: usize,
-) -> u64
+)
     requires { ⌜ Coded m n (now code) (now len) ⌝ }
-    requires { ⌜ 64 ≤ length (now st) ⌝ }
-    ensures { λ r. ⌜ ((i : ℕ) → i < 64 → bit i r ≡ agreed (laneLook env f i) (treesOf (m + n) (now (code .entry)) (now (len .entry)) n) m b) ⌝ }
+    requires { ⌜ (length (now acc) ≡ 4) × (128 ≤ length (now st)) ⌝ }
+    ensures { λ r. ⌜ Agree 2 env f m n (now (code .entry)) (now (len .entry)) b (now (acc .exit)) n ⌝ }
 {
-    let mut acc: u64 = 0xffff_ffff_ffff_ffff;
+    let mut x = [0u64; 4];
+    fill_row(acc, 2, 0xffff_ffff_ffff_ffff);
     let mut k: usize = 0;
     while k < n {
         let from = 64 * k;
         let to = from + len[k];
-        let x = value_word(st, env, f, &code[from..to]);
-        acc = acc & words::agree(x, output_value(b, m, k));
-        if acc == 0 {
-            return 0;
+        two_value(st, &mut x, env, f, &code[from..to]);
+        keep_row(acc, 2, &x, output_value(b, m, k));
+        if is_empty(acc, 2) {
+            return;
         }
         k += 1;
     }
-    acc
 }
 
-// The lanes of acc in which x is v.
-fn keep_row(acc: &mut [u64], x: &[u64], v: bool)
-    requires { ⌜ (length (now acc) ≡ 4) × (length (now x) ≡ 4) ⌝ }
-    ensures { λ r. ⌜ (length (now (acc .exit)) ≡ 4) × ((j i : ℕ) → j < 4 → i < 64 → bit i (getD (now (acc .exit)) j 0) ≡ (bit i (getD (now (acc .entry)) j 0) && Bool·beq (bit i (getD (now (x .entry)) j 0)) v)) ⌝ }
-{
-    let mut j: usize = 0;
-    while j < 4 {
-        acc[j] = acc[j] & words::agree(x[j], v);
-        j += 1;
-    }
-}
-
-fn is_empty(row: &[u64]) -> bool
-    requires { ⌜ length (now row) ≡ 4 ⌝ }
-    ensures { λ r. ⌜ (r ≡ true → (j i : ℕ) → j < 4 → bit i (getD (now (row .entry)) j 0) ≡ false) ⌝ }
-{
-    row[0] | row[1] | row[2] | row[3] == 0
-}
-
-// The same in four words, left in acc.
-fn equations_row(
+// The same in four words.
+fn four_equations(
     acc: &mut [u64],
     st: &mut [u64],
     env: u64,
@@ -296,21 +287,45 @@ fn equations_row(
 )
     requires { ⌜ Coded m n (now code) (now len) ⌝ }
     requires { ⌜ (length (now acc) ≡ 4) × (256 ≤ length (now st)) ⌝ }
-    ensures { λ r. ⌜ (length (now (acc .exit)) ≡ 4) × ((j i : ℕ) → j < 4 → i < 64 → bit i (getD (now (acc .exit)) j 0) ≡ agreed (laneLook env f (64 * j + i)) (treesOf (m + n) (now (code .entry)) (now (len .entry)) n) m b) ⌝ }
+    ensures { λ r. ⌜ Agree 4 env f m n (now (code .entry)) (now (len .entry)) b (now (acc .exit)) n ⌝ }
 {
     let mut x = [0u64; 4];
-    fill_row(acc, 0xffff_ffff_ffff_ffff);
+    fill_row(acc, 4, 0xffff_ffff_ffff_ffff);
     let mut k: usize = 0;
     while k < n {
         let from = 64 * k;
         let to = from + len[k];
-        value_row(st, &mut x, env, f, &code[from..to]);
-        keep_row(acc, &x, output_value(b, m, k));
-        if is_empty(acc) {
+        four_value(st, &mut x, env, f, &code[from..to]);
+        keep_row(acc, 4, &x, output_value(b, m, k));
+        if is_empty(acc, 4) {
             return;
         }
         k += 1;
     }
+}
+
+// The same in as many words as are wanted.
+fn equations_row(
+    acc: &mut [u64],
+    st: &mut [u64],
+    w: usize,
+    env: u64,
+    f: u8,
+    code: &[u8],
+    len: &[usize],
+    m: usize,
+    n: usize,
+    b: usize,
+)
+    requires { ⌜ Coded m n (now code) (now len) ⌝ }
+    requires { ⌜ (w ≤ 4) × (length (now acc) ≡ 4) × (room w ≤ length (now st)) ⌝ }
+    ensures { λ r. ⌜ Agree w env f m n (now (code .entry)) (now (len .entry)) b (now (acc .exit)) n ⌝ }
+{
+    if w <= 2 {
+        two_equations(acc, st, env, f, code, len, m, n, b);
+        return;
+    }
+    four_equations(acc, st, env, f, code, len, m, n, b);
 }
 
 // Whether they have, where all reads are those of the word.
@@ -371,27 +386,11 @@ pub fn ahead(b: usize, last: bool, c: usize) -> u64
 
 // ---- The equations of a round and its neighbours
 
-// The lanes i in which the equations hold at b before i.
-pub fn successors_word(
-    st: &mut [u64],
-    code: &[u8],
-    len: &[usize],
-    m: usize,
-    n: usize,
-    env: u64,
-    b: usize,
-) -> u64
-    requires { ⌜ Coded m n (now code) (now len) ⌝ }
-    requires { ⌜ 64 ≤ length (now st) ⌝ }
-    ensures { λ r. ⌜ ((p : Option ℕ) → Seen env p b → (ks : List ℕ) (i : ℕ) → i < 64 → bit i r ≡ holds (sheetOf m n (now (code .entry)) (now (len .entry)) ks) p b (some i)) ⌝ }
-{
-    equations_word(st, env, LATER, code, len, m, n, b)
-}
-
-// The lanes i of word j in which the equations hold at b before 64 * j + i.
-pub fn successors_row(
+// The lanes i of the w words j in which the equations hold at b before 64 * j + i.
+pub fn successors(
     row: &mut [u64],
     st: &mut [u64],
+    w: usize,
     code: &[u8],
     len: &[usize],
     m: usize,
@@ -400,10 +399,10 @@ pub fn successors_row(
     b: usize,
 )
     requires { ⌜ Coded m n (now code) (now len) ⌝ }
-    requires { ⌜ (length (now row) ≡ 4) × (256 ≤ length (now st)) ⌝ }
-    ensures { λ r. ⌜ ((p : Option ℕ) → Seen env p b → (ks : List ℕ) (j i : ℕ) → j < 4 → i < 64 → bit i (getD (now (row .exit)) j 0) ≡ holds (sheetOf m n (now (code .entry)) (now (len .entry)) ks) p b (some (64 * j + i))) ⌝ }
+    requires { ⌜ (w ≤ 4) × (length (now row) ≡ 4) × (room w ≤ length (now st)) ⌝ }
+    ensures { λ r. ⌜ ((p : Option ℕ) → Seen env p b → (ks : List ℕ) (j i : ℕ) → j < w → i < 64 → bit i (getD (now (row .exit)) j 0) ≡ holds (sheetOf m n (now (code .entry)) (now (len .entry)) ks) p b (some (64 * j + i))) ⌝ }
 {
-    equations_row(row, st, env, LATER, code, len, m, n, b);
+    equations_row(row, st, w, env, LATER, code, len, m, n, b);
 }
 
 // Whether the equations hold at b with nothing after it.
@@ -415,27 +414,11 @@ pub fn holds_at_end(code: &[u8], len: &[usize], m: usize, n: usize, env: u64, b:
     equations_bit(env + 0xff00_0000_0000, code, len, m, n, b)
 }
 
-// The lanes i in which the equations hold at b after i.
-pub fn predecessors_word(
-    st: &mut [u64],
-    code: &[u8],
-    len: &[usize],
-    m: usize,
-    n: usize,
-    env: u64,
-    b: usize,
-) -> u64
-    requires { ⌜ Coded m n (now code) (now len) ⌝ }
-    requires { ⌜ 64 ≤ length (now st) ⌝ }
-    ensures { λ r. ⌜ ((c : Option ℕ) → Ahead env b c → (ks : List ℕ) (i : ℕ) → i < 64 → bit i r ≡ holds (sheetOf m n (now (code .entry)) (now (len .entry)) ks) (some i) b c) ⌝ }
-{
-    equations_word(st, env, EARLIER, code, len, m, n, b)
-}
-
-// The lanes i of word j in which the equations hold at b after 64 * j + i.
-pub fn predecessors_row(
+// The lanes i of the w words j in which the equations hold at b after 64 * j + i.
+pub fn predecessors(
     row: &mut [u64],
     st: &mut [u64],
+    w: usize,
     code: &[u8],
     len: &[usize],
     m: usize,
@@ -444,10 +427,10 @@ pub fn predecessors_row(
     b: usize,
 )
     requires { ⌜ Coded m n (now code) (now len) ⌝ }
-    requires { ⌜ (length (now row) ≡ 4) × (256 ≤ length (now st)) ⌝ }
-    ensures { λ r. ⌜ ((c : Option ℕ) → Ahead env b c → (ks : List ℕ) (j i : ℕ) → j < 4 → i < 64 → bit i (getD (now (row .exit)) j 0) ≡ holds (sheetOf m n (now (code .entry)) (now (len .entry)) ks) (some (64 * j + i)) b c) ⌝ }
+    requires { ⌜ (w ≤ 4) × (length (now row) ≡ 4) × (room w ≤ length (now st)) ⌝ }
+    ensures { λ r. ⌜ ((c : Option ℕ) → Ahead env b c → (ks : List ℕ) (j i : ℕ) → j < w → i < 64 → bit i (getD (now (row .exit)) j 0) ≡ holds (sheetOf m n (now (code .entry)) (now (len .entry)) ks) (some (64 * j + i)) b c) ⌝ }
 {
-    equations_row(row, st, env, EARLIER, code, len, m, n, b);
+    equations_row(row, st, w, env, EARLIER, code, len, m, n, b);
 }
 
 // ---- What the equations see of the round before

@@ -12,20 +12,25 @@ fn step_bit(env: u64, stack: u64, byte: u8) -> u64
     requires { ⌜ stack < 2 ^ 63 ⌝ }
     ensures { λ r. ⌜ Works env stack byte r ⌝ }
 {
-    if 0x70 <= byte {
-        return stack;
-    }
     if 0x40 <= byte {
-        return stack * 2 + (env >> (byte - 0x40)) % 2;
+        return stack * 2 + (env >> (byte % 64)) % 2;
     }
     if byte == 2 {
         return stack + 1 - 2 * (stack % 2);
     }
     if byte == 3 {
-        return stack / 4 * 2 + (stack % 2 + stack / 2 % 2) / 2;
+        return if stack % 2 == 1 {
+            stack / 2
+        } else {
+            stack / 4 * 2
+        };
     }
     if byte == 4 {
-        return stack / 4 * 2 + (stack % 2 + stack / 2 % 2 + 1) / 2;
+        return if stack % 2 == 0 {
+            stack / 2
+        } else {
+            stack / 4 * 2 + 1
+        };
     }
     stack * 2 + wide(byte % 2)
 }

@@ -25,26 +25,6 @@ use Rattle.pairs.specs.Changes.{rowBit}
 use Rattle.pairs.proofs.Bools.{and-true}
 use Rattle.preparation.specs.Search.{Row, United}
 
--- ---- the lanes below a bound
-
--- the low r bits
-low-bits : (r i : ℕ) → r < 64 → bit i (1 * 2 ^ r % 2 ^ 64 - 1) ≡ ltb i r
-low-bits r i h = ap (λ (k : ℕ). bit i (k - 1)) (one-shl r h) ∙ go (decLt i r)
-  where
-    go : Dec (i < r) → bit i (2 ^ r - 1) ≡ ltb i r
-    go (yes l) = bit-all r i l ∙ sym (lt-ltb i r l)
-    go (no l) = bit-high r i (2 ^ r - 1) (let p : 1 ≤ 2 ^ r = pow-pos r in omega arith) (omega arith) ∙ sym (le-ltb i r (omega arith))
-
-pub part-below : (v j i : ℕ) → 64 * j < v → v - 64 * j < 64 → bit i (1 * 2 ^ (v - 64 * j) % 2 ^ 64 - 1) ≡ ltb (64 * j + i) v
-part-below v j i h l = low-bits (v - 64 * j) i l ∙ go (decLt i (v - 64 * j))
-  where
-    go : Dec (i < v - 64 * j) → ltb i (v - 64 * j) ≡ ltb (64 * j + i) v
-    go (yes k) = lt-ltb i (v - 64 * j) k ∙ sym (lt-ltb (64 * j + i) v (omega arith))
-    go (no k) = le-ltb i (v - 64 * j) (omega arith) ∙ sym (le-ltb (64 * j + i) v (omega arith))
-
-pub part-some : (r : ℕ) → r < 64 → 1 ≤ 1 * 2 ^ r % 2 ^ 64
-part-some r h = let p : 1 ≤ 2 ^ r = pow-pos r in omega (arith, one-shl r h)
-
 -- the number of valuations, as the code has it
 pub two-to : (k : ℕ) → k ≤ 8 → (1 * 2 ^ k % 2 ^ 64 ≡ 2 ^ k) × (1 ≤ 2 ^ k) × (2 ^ k ≤ 256)
 two-to k h = (one-shl k (omega arith), pow-pos k, pow-mono h)
@@ -176,17 +156,10 @@ module _ (old ok : List ℕ) (h : ℕ → Bool) where
   pub gains-all : (new : List ℕ) (j w : ℕ) → w ≤ j → Writing old new (λ a u. u || (rowBit ok 0 a && h a)) j → United w old new (λ a. rowBit ok 0 a && h a)
   gains-all new j w l p = record { same-length = p .same-length; gains = λ a g. written old (λ a u. u || (rowBit ok 0 a && h a)) new j w a l p g }
 
--- a row of one word, and of any number of words, lane by lane
-pub word-row : (row : List ℕ) (x w : ℕ) (f : ℕ → Bool) → length row ≡ 4 → w < 2 → ((i : ℕ) → i < 64 → bit i x ≡ f i) → Row w (set row 0 x) f
+-- a row lane by lane
+pub lanes-row : (row : List ℕ) (w : ℕ) (f : ℕ → Bool) → ((j i : ℕ) → j < w → i < 64 → bit i (getD row j 0) ≡ f (64 * j + i)) → Row w row f
 unfolding rowBit
-word-row row x w f l u h a g =
-    let d : 0 + a / 64 ≡ 0 = omega arith in
-    let r : a % 64 ≡ a = omega arith in
-    ap₂ (λ (i k : ℕ). bit i (getD (set row 0 x) k 0)) r d ∙ ap (bit a) (getD-set-same row 0 x 0 (omega arith)) ∙ h a (omega arith)
-
-pub lanes-row : (row : List ℕ) (w : ℕ) (f : ℕ → Bool) → w ≤ 4 → ((j i : ℕ) → j < 4 → i < 64 → bit i (getD row j 0) ≡ f (64 * j + i)) → Row w row f
-unfolding rowBit
-lanes-row row w f u h a g =
+lanes-row row w f h a g =
     let d : 0 + a / 64 ≡ a / 64 = omega arith in
     let r : 64 * (a / 64) + a % 64 ≡ a = omega arith in
     ap (λ (k : ℕ). bit (a % 64) (getD row k 0)) d ∙ h (a / 64) (a % 64) (omega arith) (omega arith) ∙ ap f r

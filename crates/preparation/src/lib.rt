@@ -20,25 +20,13 @@ ghost use Rattle.preparation.specs.Search.{meets, joinersAt, newcomers, 
 ghost use Rattle.preparation.specs.Prepared.{Prepared, Reach};
 use sheet::Assumed;
 
-// The lanes i of word j with 64 j + i below v.
-fn lanes_below(v: usize, j: usize) -> u64
-    requires { ⌜ (64 * j < v) × (v ≤ 256) ⌝ }
-    ensures { λ r. ⌜ ((i : ℕ) → i < 64 → bit i r ≡ ltb (64 * j + i) v) ⌝ }
-{
-    let rest = v - 64 * j;
-    if rest >= 64 {
-        return 0xffff_ffff_ffff_ffff;
-    }
-    (1 << rest) - 1
-}
-
 // The lanes i of word j whose valuation 64 j + i is allowed: below v, with the assumption bit 1.
 fn allowed_word(m: usize, n: usize, assumed: Assumed, v: usize, j: usize) -> u64
     requires { ⌜ (m + n ≤ 8) × (v ≡ 2 ^ (m + n)) × (64 * j < v) × (v ≤ 256) ⌝ }
     requires { ⌜ Below assumed n ⌝ }
     ensures { λ r. ⌜ ((code len : List ℕ) (i : ℕ) → i < 64 → bit i r ≡ allowed (sheetOf m n code len (requiredOf assumed)) (64 * j + i)) ⌝ }
 {
-    let low = lanes_below(v, j);
+    let low = words::lanes_below(v, j);
     match assumed {
         Assumed::Nothing => low,
         Assumed::Output(k) => {
@@ -76,29 +64,6 @@ fn covers(row: &[u64], ok: &[u64], w: usize) -> bool
     true
 }
 
-// The lanes i of the w words j in which the equations hold at b after 64 j + i, by what is read.
-fn predecessors(
-    x: &mut [u64],
-    st: &mut [u64],
-    code: &[u8],
-    len: &[usize],
-    m: usize,
-    n: usize,
-    w: usize,
-    env: u64,
-    b: usize,
-)
-    requires { ⌜ Coded m n (now code) (now len) ⌝ }
-    requires { ⌜ (w ≤ 4) × (length (now x) ≡ 4) × (256 ≤ length (now st)) ⌝ }
-    ensures { λ r. ⌜ ((c : Option ℕ) → Ahead env b c → (ks : List ℕ) → Row w (now (x .exit)) (λ a. holds (sheetOf m n (now (code .entry)) (now (len .entry)) ks) (some a) b c)) ⌝ }
-{
-    if w < 2 {
-        x[0] = lanes::predecessors_word(st, code, len, m, n, env, b);
-        return;
-    }
-    lanes::predecessors_row(x, st, code, len, m, n, env, b);
-}
-
 // The row gains the valuations that are both in ok and in x.
 fn gain(row: &mut [u64], ok: &[u64], x: &[u64], w: usize)
     requires { ⌜ (w ≤ 4) × (length (now row) ≡ 4) × (length (now ok) ≡ 4) × (length (now x) ≡ 4) ⌝ }
@@ -134,7 +99,7 @@ fn unite(
     }
     let env = lanes::ahead(b, last, c);
     let mut x = [0u64; 4];
-    predecessors(&mut x, st, code, len, m, n, w, env, b);
+    lanes::predecessors(&mut x, st, w, code, len, m, n, env, b);
     gain(row, ok, &x, w);
 }
 

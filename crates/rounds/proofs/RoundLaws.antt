@@ -33,13 +33,13 @@ pub wide : (k v : ℕ) → k ≤ 8 → v ≡ 2 ^ k → Wide (2 ^ k) ((v + 63) / 
 wide k v h e = go (decLt k 7) (ℕ-discrete k 7)
   where
     one : 1 ≤ 2 ^ k → 2 ^ k ≤ 64 → Wide (2 ^ k) ((v + 63) / 64)
-    one l g = record { least = omega arith; most = omega arith; not-three = λ q. omega arith; under = omega arith; full = λ q. omega arith }
+    one l g = record { count = omega arith; least = omega arith; most = omega arith; not-three = λ q. omega arith; under = omega arith; full = λ q. omega arith }
 
     two : 2 ^ k ≡ 128 → Wide (2 ^ k) ((v + 63) / 64)
-    two g = record { least = omega arith; most = omega arith; not-three = λ q. omega arith; under = omega arith; full = λ q. omega arith }
+    two g = record { count = omega arith; least = omega arith; most = omega arith; not-three = λ q. omega arith; under = omega arith; full = λ q. omega arith }
 
     four : 2 ^ k ≡ 256 → Wide (2 ^ k) ((v + 63) / 64)
-    four g = record { least = omega arith; most = omega arith; not-three = λ q. omega arith; under = omega arith; full = λ q. omega arith }
+    four g = record { count = omega arith; least = omega arith; most = omega arith; not-three = λ q. omega arith; under = omega arith; full = λ q. omega arith }
 
     go : Dec (k < 7) → Dec (k ≡ 7) → Wide (2 ^ k) ((v + 63) / 64)
     go (yes l) d = let l′ : k ≤ 6 = omega arith in one (pow-pos k) (pow-mono l′)

@@ -1,6 +1,6 @@
 -- What the reached set gains, row by row. Assumes nothing.
 use mathlib.Core.Path.{_≡_, refl, sym, ap, ap₂, _∙_, subst}
-use mathlib.Core.Bool.{Bool, true, false, cond, _&&_, _||_}
+use mathlib.Core.Bool.{Bool, true, false, _&&_, _||_}
 use mathlib.Core.List.{List}
 use mathlib.Core.Option.{Option, none, some}
 use Prim.Native.Nat.{ℕ, _+_, _*_, _/_, _≤_, _<_, min}
@@ -19,17 +19,8 @@ use Rattle.pairs.specs.Changes.{eqNext, Adds, rowBit, NextBit, Noted}
 use Rattle.pairs.proofs.Bools.{and-true, and-false, or-false, or-comm, and-assoc}
 use Rattle.pairs.proofs.BitSearch.{any-skip}
 use Rattle.pairs.proofs.Sets.{adds-none, adds-as, adds-then, adds-before, adds-beyond, row-bit}
-use Rattle.rounds.specs.Rows.{room, below, cut, gains, inRow, brought, Sparse}
+use Rattle.rounds.specs.Rows.{below, cut, gains, inRow, brought, Sparse}
 use Rattle.rounds.proofs.Bools.{merge, merge-under, merge-both, below-one, words-one, below-none, below-within, below-wider}
-
--- the room that one word wants, and four
-pub room-one : (v : ℕ) → v ≤ 64 → room v ≡ 64
-unfolding room
-room-one v h = ap (λ (u : Bool). cond u 256 64) (le-ltb 64 v h)
-
-pub room-four : (v : ℕ) → 64 < v → room v ≡ 256
-unfolding room
-room-four v h = ap (λ (u : Bool). cond u 256 64) (lt-ltb 64 v h)
 
 -- a row that is noted may have gained something
 pub sparse-noted : (s t : List ℕ) (P : Option ℕ → Bool) (g : ℕ) (groups groups′ : List ℕ) → Adds 2056 s t (λ x y. eqb x g && P y) → Noted g groups groups′
@@ -100,14 +91,6 @@ module _ (x : RuleSheet) where
       go : (a : ℕ) (c : Option ℕ) → (eqb a b && cut (λ c. ltb c (64 * j) && ltb c v) c) ≡ (eqb a b && cut (λ c. ltb c w) c)
       go a none = refl
       go a (some c) = ap (λ (u : Bool). eqb a b && u) (below-within c v (64 * j) h ∙ ap (ltb c) q)
-
-  -- one word is the whole row
-  pub row-word : (s t : List ℕ) (b v : ℕ) (p : Option ℕ) → v ≤ 64 → Adds 1028 s t (Row b v (λ c. eqb (c / 64) 0) s p) → Adds 1028 s t (gains x (λ a. eqb a b) (cut (λ c. ltb c v)) (stored s 0) p)
-  row-word s t b v p h f = row-all s t b v v 1 p refl h (row-more s s t b v 0 p (row-none s b v p) f)
-
-  pub row-as : (s t : List ℕ) (b v w : ℕ) (p : Option ℕ) → v ≡ w → Adds 1028 s t (gains x (λ a. eqb a b) (cut (λ c. ltb c v)) (stored s 0) p)
-      → Adds 1028 s t (gains x (λ a. eqb a b) (cut (λ c. ltb c w)) (stored s 0) p)
-  row-as s t b v w p e f = subst (λ (k : ℕ). Adds 1028 s t (gains x (λ a. eqb a b) (cut (λ c. ltb c k)) (stored s 0) p)) e f
 
   abbrev Ended : ℕ → List ℕ → Option ℕ → Pairs
   Ended b s p = gains x (λ a. eqb a b) (λ y. eqNext y none) (stored s 0) p

@@ -10,10 +10,9 @@ use borrow.Author.Tests.{eq-eqb, ne-eqb, lt-ltb, le-ltb}
 use lib.Bits.{bitAnd, bitOr}
 use lib.Dec.{eqb, ltb}
 use lib.ListN.{getD}
-use lib.Pow.{pow-pos}
 use Rattle.words.specs.Bits.{bit}
 use Rattle.words.specs.Below.{anyBelow}
-use Rattle.words.proofs.BitLaws.{bit-and, bit-or, bit-not, bit-none, bit-all, bit-high}
+use Rattle.words.proofs.BitLaws.{bit-and, bit-or, bit-not, bit-none}
 use Rattle.words.proofs.AnyLaws.{any-one, any-none}
 use Rattle.sheet.specs.RuleSheet.{RuleSheet}
 use Rattle.lola.specs.Equations.{holds}
@@ -23,25 +22,8 @@ use Rattle.pairs.specs.Storage.{stored}
 use Rattle.pairs.specs.Changes.{inWord, Adds}
 use Rattle.pairs.proofs.Bools.{and-true, and-false, or-false, or-comm, nothing-new}
 use Rattle.pairs.proofs.Sets.{adds-none, adds-as, adds-then, adds-before, lane}
-use Rattle.rounds.specs.Rows.{among, cut, gains, NoneNew, heardIn, grouped}
+use Rattle.rounds.specs.Rows.{among, Wide, cut, gains, NoneNew, heardIn, grouped}
 use Rattle.rounds.proofs.Bools.{turn, merge-under, words-one}
-
--- ---- the lanes below a number
-
-pub lanes-none : (i v j : ℕ) → v ≤ 64 * j → bit i 0 ≡ ltb (64 * j + i) v
-lanes-none i v j h = bit-none i ∙ sym (le-ltb (64 * j + i) v (omega arith))
-
-pub lanes-all : (i v j : ℕ) → i < 64 → 64 * j + 64 ≤ v → bit i (2 ^ 64 - 1) ≡ ltb (64 * j + i) v
-lanes-all i v j l h = bit-all 64 i l ∙ sym (lt-ltb (64 * j + i) v (omega arith))
-
-pub lanes-some : (i v j : ℕ) → 64 * j < v → bit i (2 ^ (v - 64 * j) - 1) ≡ ltb (64 * j + i) v
-lanes-some i v j h = go (decLt i (v - 64 * j))
-  where
-    go : Dec (i < v - 64 * j) → bit i (2 ^ (v - 64 * j) - 1) ≡ ltb (64 * j + i) v
-    go (yes l) = bit-all (v - 64 * j) i l ∙ sym (lt-ltb (64 * j + i) v (omega arith))
-    go (no n) =
-        bit-high (v - 64 * j) i (2 ^ (v - 64 * j) - 1) (let p : 0 < 2 ^ (v - 64 * j) = pow-pos (v - 64 * j) in omega arith) (omega arith)
-        ∙ sym (le-ltb (64 * j + i) v (omega arith))
 
 -- ---- the lanes of a row, its words joined
 
@@ -94,9 +76,20 @@ heard-lane letters j i h = let e : i ≡ (64 * j + i) % 64 = omega arith in ap (
 abbrev pub LiveLanes : List ℕ → ℕ → ℕ → ℕ → ℕ → Type 0
 LiveLanes s b j v live = (i : ℕ) → i < 64 → bit i live ≡ (stored s 0 b (some (64 * j + i)) && ltb (64 * j + i) v)
 
--- the first word, cut
-pub live-masked : (s : List ℕ) (b v mask : ℕ) → ((i : ℕ) → i < 64 → bit i mask ≡ ltb (64 * 0 + i) v) → LiveLanes s b 0 v (bitAnd (getD s (4 * b) 0) mask)
-live-masked s b v mask f i h = bit-and i (getD s (4 * b) 0) mask ∙ ap₂ _&&_ (lane-at s 0 b i h (4 * b) 0 (omega arith)) (f i h)
+-- the lanes below v are the same in each word: all of them, or there is only one word
+low-lane : (v w j i : ℕ) → Wide v w → j < w → i < 64 → ltb (64 * 0 + i) v ≡ ltb (64 * j + i) v
+low-lane v w j i h l g = go (ℕ-discrete w 1)
+  where
+    go : Dec (w ≡ 1) → ltb (64 * 0 + i) v ≡ ltb (64 * j + i) v
+    go (yes e) = let z : 64 * 0 + i ≡ 64 * j + i = omega arith in ap (λ (k : ℕ). ltb k v) z
+    go (no d) =
+        let f : v ≡ 64 * w = h .full (omega (arith, h .least)) in
+        lt-ltb (64 * 0 + i) v (omega arith) ∙ sym (lt-ltb (64 * j + i) v (omega arith))
+
+-- a word, cut
+pub live-masked : (s : List ℕ) (b v w j mask : ℕ) → Wide v w → j < w → ((i : ℕ) → i < 64 → bit i mask ≡ ltb (64 * 0 + i) v) → LiveLanes s b j v (bitAnd (getD s (4 * b + j) 0) mask)
+live-masked s b v w j mask wide l f i h =
+    bit-and i (getD s (4 * b + j) 0) mask ∙ ap₂ _&&_ (lane-at s 0 b i h (4 * b + j) j (omega arith)) (f i h ∙ low-lane v w j i wide l h)
 
 -- a word among those that are full
 pub live-whole : (s : List ℕ) (b j w : ℕ) → j < w → LiveLanes s b j (64 * w) (getD s (4 * b + j) 0)
@@ -157,10 +150,6 @@ none-new-more s b j w l f fit e c h = go (decLt c (64 * j))
     go : Dec (c < 64 * j) → (stored s 0 b (some c) && not (stored s 1028 b (some c))) ≡ false
     go (yes d) = f c d
     go (no d) = nothing-lacks s b j (64 * w) (getD s (4 * b + j) 0) (live-whole s b j w l) (1028 + (4 * b + j)) refl fit e c (omega arith) (omega arith)
-
--- the lanes of the first word
-pub first-lanes : (x : RuleSheet) (p : Option ℕ) (b y : ℕ) → ((i : ℕ) → i < 64 → bit i y ≡ holds x p b (some i)) → (i : ℕ) → i < 64 → bit i y ≡ holds x p b (some (64 * 0 + i))
-first-lanes x p b y f i h = let e : i ≡ 64 * 0 + i = omega arith in f i h ∙ ap (λ (k : ℕ). holds x p b (some k)) e
 
 -- a row with nothing live below v that the reached set lacks
 pub row-full : (x : RuleSheet) (s : List ℕ) (b v : ℕ) (p : Option ℕ) → NoneNew (stored s 0) (stored s 1028) v b

@@ -1,9 +1,9 @@
 -- For the contracts of private functions: the pairs that a set gains, row by row.
 use mathlib.Core.Path.{_≡_}
-use mathlib.Core.Bool.{Bool, true, false, not, cond, _&&_}
+use mathlib.Core.Bool.{Bool, true, false, not, _&&_}
 use mathlib.Core.List.{List}
 use mathlib.Core.Option.{Option, none, some}
-use Prim.Native.Nat.{ℕ, _*_, _%_, _<_, _≤_}
+use Prim.Native.Nat.{ℕ, _+_, _*_, _/_, _%_, _<_, _≤_}
 use lib.Bits.{bitAnd}
 use lib.Dec.{eqb, ltb}
 use Rattle.words.specs.Bits.{bit}
@@ -20,15 +20,12 @@ among letters v = bit (v % 64) letters
 
 -- w is the number of words that v valuations take: one, two or four
 pub record Wide (v w : ℕ) : Type 0 where
+  pub count : w ≡ (v + 63) / 64
   pub least : 1 ≤ w
   pub most : w ≤ 4
   pub not-three : w ≡ 3 → ⊥
   pub under : v ≤ 64 * w
   pub full : 1 < w → v ≡ 64 * w
-
--- the room that evaluation wants: 64 words where v valuations take one word, else four times as many
-unfoldable pub room : ℕ → ℕ
-room v = cond (ltb 64 v) 256 64
 
 -- the word has the reads of some round before
 pub record Earlier (w : ℕ) : Type 0 where

@@ -12,9 +12,9 @@ ghost use Rattle.completions.specs.Steps.{startSet, stepSet, anyNext, verdictOf
 ghost use Rattle.pairs.specs.Storage.{stored};
 ghost use Rattle.pairs.specs.Changes.{Adds, eqNext};
 ghost use Rattle.refusal.specs.Numbers.{verdictNo};
-ghost use Rattle.lanes.specs.Around.{Before, Seen};
+ghost use Rattle.lanes.specs.Around.{room, Before, Seen};
 ghost use Rattle.lanes.specs.Coded.{Coded, sheetOf};
-ghost use Rattle.rounds.specs.Rows.{among, Wide, room, Earlier, below, cut, gains, NoneNew, inRow, brought, heardIn, grouped, Sparse};
+ghost use Rattle.rounds.specs.Rows.{among, Wide, Earlier, below, cut, gains, NoneNew, inRow, brought, heardIn, grouped, Sparse};
 ghost use Rattle.rounds.specs.Round.{Rounded};
 ghost use Rattle.rounds.specs.Firsts.{Passing, Words, shows, Told};
 
@@ -34,22 +34,6 @@ fn row_words(m: usize, n: usize) -> usize
     ensures { λ r. ⌜ Wide (2 ^ (m + n)) r ⌝ }
 {
     (valuations(m, n) + 63) / 64
-}
-
-// The lanes i with 64 * j + i below v.
-fn lanes_below(v: usize, j: usize) -> u64
-    requires { ⌜ (v ≤ 256) × (j < 4) ⌝ }
-    ensures { λ r. ⌜ ((i : ℕ) → i < 64 → bit i r ≡ ltb (64 * j + i) v) ⌝ }
-{
-    let low = 64 * j;
-    if v <= low {
-        return 0;
-    }
-    if low + 64 <= v {
-        return 0xffff_ffff_ffff_ffff;
-    }
-    let next: u64 = 1 << (v - low);
-    next - 1
 }
 
 // Whether the valuation v was heard.
@@ -77,31 +61,6 @@ fn row_lanes(s: &[u64], base: usize, w: usize, a: usize) -> u64
 
 // ---- The pairs that one round brings
 
-// Row b of the reached set, one word of it, gains the live valuations below v before which the equations hold at b.
-fn gain_word(
-    s: &mut [u64],
-    st: &mut [u64],
-    code: &[u8],
-    len: &[usize],
-    m: usize,
-    n: usize,
-    v: usize,
-    env: u64,
-    b: usize,
-)
-    requires { ⌜ Coded m n (now code) (now len) ⌝ }
-    requires { ⌜ (64 ≤ length (now st)) × (3084 ≤ length (now s)) × (v ≤ 64) × (b < 256) ⌝ }
-    ensures { λ r. ⌜ ((p : Option ℕ) → Seen env p b → (ks : List ℕ) → Adds 1028 (now (s .entry)) (now (s .exit)) (gains (sheetOf m n (now (code .entry)) (now (len .entry)) ks) (λ x. eqb x b) (cut (λ c. ltb c v)) (stored (now (s .entry)) 0) p)) ⌝ }
-{
-    let live = s[4 * b] & lanes_below(v, 0);
-    let old = s[1028 + 4 * b];
-    if live & !old == 0 {
-        return;
-    }
-    let x = lanes::successors_word(st, code, len, m, n, env, b);
-    pairs::insert_word(s, 1028, b, 0, live & x);
-}
-
 // Whether row b of the live set, w words of it, may have a valuation that the reached set lacks.
 fn is_new(s: &[u64], w: usize, b: usize) -> bool
     requires { ⌜ (w ≤ 4) × (b < 256) × (3084 ≤ length (now s)) ⌝ }
@@ -117,35 +76,6 @@ fn is_new(s: &[u64], w: usize, b: usize) -> bool
     false
 }
 
-// Row b of the reached set, w words of it, gains the live valuations before which the equations hold at b.
-fn gain_words(
-    s: &mut [u64],
-    st: &mut [u64],
-    code: &[u8],
-    len: &[usize],
-    m: usize,
-    n: usize,
-    w: usize,
-    env: u64,
-    b: usize,
-)
-    requires { ⌜ Coded m n (now code) (now len) ⌝ }
-    requires { ⌜ (256 ≤ length (now st)) × (3084 ≤ length (now s)) × (w ≤ 4) × (b < 256) ⌝ }
-    ensures { λ r. ⌜ ((p : Option ℕ) → Seen env p b → (ks : List ℕ) → Adds 1028 (now (s .entry)) (now (s .exit)) (gains (sheetOf m n (now (code .entry)) (now (len .entry)) ks) (λ x. eqb x b) (cut (λ c. ltb c (64 * w))) (stored (now (s .entry)) 0) p)) ⌝ }
-{
-    if !is_new(s, w, b) {
-        return;
-    }
-    let mut x = [0u64; 4];
-    lanes::successors_row(&mut x, st, code, len, m, n, env, b);
-    let mut j: usize = 0;
-    while j < w {
-        let live = s[4 * b + j];
-        pairs::insert_word(s, 1028, b, j, live & x[j]);
-        j += 1;
-    }
-}
-
 // Row b of the reached set gains the live valuations before which the equations hold at b.
 fn gain_row(
     s: &mut [u64],
@@ -158,15 +88,22 @@ fn gain_row(
     b: usize,
 )
     requires { ⌜ Coded m n (now code) (now len) ⌝ }
-    requires { ⌜ (room (2 ^ (m + n)) ≤ length (now st)) × (3084 ≤ length (now s)) × (b < 256) ⌝ }
+    requires { ⌜ (room ((2 ^ (m + n) + 63) / 64) ≤ length (now st)) × (3084 ≤ length (now s)) × (b < 256) ⌝ }
     ensures { λ r. ⌜ ((p : Option ℕ) → Seen env p b → (ks : List ℕ) → Adds 1028 (now (s .entry)) (now (s .exit)) (gains (sheetOf m n (now (code .entry)) (now (len .entry)) ks) (λ x. eqb x b) (cut (λ c. ltb c (2 ^ (m + n)))) (stored (now (s .entry)) 0) p)) ⌝ }
 {
     let w = row_words(m, n);
-    if w == 1 {
-        gain_word(s, st, code, len, m, n, valuations(m, n), env, b);
+    if !is_new(s, w, b) {
         return;
     }
-    gain_words(s, st, code, len, m, n, w, env, b);
+    let low = words::lanes_below(valuations(m, n), 0);
+    let mut x = [0u64; 4];
+    lanes::successors(&mut x, st, w, code, len, m, n, env, b);
+    let mut j: usize = 0;
+    while j < w {
+        let live = s[4 * b + j] & low;
+        pairs::insert_word(s, 1028, b, j, live & x[j]);
+        j += 1;
+    }
 }
 
 // The reached set gains (b, end) if that is live and the equations hold at b with nothing after it.
@@ -198,7 +135,7 @@ fn gain(
     b: usize,
 )
     requires { ⌜ Coded m n (now code) (now len) ⌝ }
-    requires { ⌜ (room (2 ^ (m + n)) ≤ length (now st)) × (3084 ≤ length (now s)) × (b < 256) × Earlier before ⌝ }
+    requires { ⌜ (room ((2 ^ (m + n) + 63) / 64) ≤ length (now st)) × (3084 ≤ length (now s)) × (b < 256) × Earlier before ⌝ }
     ensures { λ r. ⌜ ((p : Option ℕ) → Before before p → (ks : List ℕ) → Adds 1028 (now (s .entry)) (now (s .exit)) (gains (sheetOf m n (now (code .entry)) (now (len .entry)) ks) (λ x. eqb x b) (below (2 ^ (m + n))) (stored (now (s .entry)) 0) p)) ⌝ }
 {
     let env = lanes::seen(before, b);
@@ -219,7 +156,7 @@ fn gain_heard(
     b: usize,
 )
     requires { ⌜ Coded m n (now code) (now len) ⌝ }
-    requires { ⌜ (room (2 ^ (m + n)) ≤ length (now st)) × (3084 ≤ length (now s)) × (b < 256) × Earlier before ⌝ }
+    requires { ⌜ (room ((2 ^ (m + n) + 63) / 64) ≤ length (now st)) × (3084 ≤ length (now s)) × (b < 256) × Earlier before ⌝ }
     ensures { λ r. ⌜ ((p : Option ℕ) → Before before p → (ks : List ℕ) → Adds 1028 (now (s .entry)) (now (s .exit)) (gains (sheetOf m n (now (code .entry)) (now (len .entry)) ks) (λ x. eqb x b && among letters x) (below (2 ^ (m + n))) (stored (now (s .entry)) 0) p)) ⌝ }
 {
     if heard(letters, b) {
@@ -240,7 +177,7 @@ fn start_rows(
     letters: u64,
 )
     requires { ⌜ Coded m n (now code) (now len) ⌝ }
-    requires { ⌜ (room (2 ^ (m + n)) ≤ length (now st)) × (3084 ≤ length (now s)) ⌝ }
+    requires { ⌜ (room ((2 ^ (m + n) + 63) / 64) ≤ length (now st)) × (3084 ≤ length (now s)) ⌝ }
     ensures { λ r. ⌜ ((ks : List ℕ) → Adds 1028 (now (s .entry)) (now (s .exit)) (gains (sheetOf m n (now (code .entry)) (now (len .entry)) ks) (λ x. ltb x (2 ^ (m + n)) && among letters x) (below (2 ^ (m + n))) (stored (now (s .entry)) 0) none)) ⌝ }
 {
     let v = valuations(m, n);
@@ -258,8 +195,8 @@ fn start_pairs(s: &mut [u64], code: &[u8], len: &[usize], m: usize, n: usize, le
     requires { ⌜ 3084 ≤ length (now s) ⌝ }
     ensures { λ r. ⌜ ((ks : List ℕ) → Adds 1028 (now (s .entry)) (now (s .exit)) (gains (sheetOf m n (now (code .entry)) (now (len .entry)) ks) (λ x. ltb x (2 ^ (m + n)) && among letters x) (below (2 ^ (m + n))) (stored (now (s .entry)) 0) none)) ⌝ }
 {
-    if valuations(m, n) <= 64 {
-        let mut st = [0u64; 64];
+    if valuations(m, n) <= 128 {
+        let mut st = [0u64; 128];
         start_rows(s, &mut st, code, len, m, n, letters);
         return;
     }
@@ -331,7 +268,7 @@ fn bring_row(
     g: usize,
 )
     requires { ⌜ Coded m n (now code) (now len) ⌝ }
-    requires { ⌜ (room (2 ^ (m + n)) ≤ length (now st)) × (3084 ≤ length (now s)) × (g < 256) ⌝ }
+    requires { ⌜ (room ((2 ^ (m + n) + 63) / 64) ≤ length (now st)) × (3084 ≤ length (now s)) × (g < 256) ⌝ }
     ensures { λ r. ⌜ ((ks : List ℕ) → Adds 1028 (now (s .entry)) (now (s .exit)) (gains (sheetOf m n (now (code .entry)) (now (len .entry)) ks) (inRow (stored (now (s .entry)) 2056) (2 ^ (m + n)) g) (below (2 ^ (m + n))) (stored (now (s .entry)) 0) (some g))) ⌝ }
 {
     let v = valuations(m, n);
@@ -356,7 +293,7 @@ fn bring_rows(
     n: usize,
 )
     requires { ⌜ Coded m n (now code) (now len) ⌝ }
-    requires { ⌜ (room (2 ^ (m + n)) ≤ length (now st)) × (length (now groups) ≡ 4) × (3084 ≤ length (now s)) × Sparse (2 ^ (m + n)) (now groups) (stored (now s) 2056) ⌝ }
+    requires { ⌜ (room ((2 ^ (m + n) + 63) / 64) ≤ length (now st)) × (length (now groups) ≡ 4) × (3084 ≤ length (now s)) × Sparse (2 ^ (m + n)) (now groups) (stored (now s) 2056) ⌝ }
     ensures { λ r. ⌜ ((ks : List ℕ) → Adds 1028 (now (s .entry)) (now (s .exit)) (brought (sheetOf m n (now (code .entry)) (now (len .entry)) ks) (stored (now (s .entry)) 2056) (2 ^ (m + n)) (stored (now (s .entry)) 0) (2 ^ (m + n)))) ⌝ }
 {
     let v = valuations(m, n);
@@ -374,8 +311,8 @@ fn bring_pairs(s: &mut [u64], groups: &[u64], code: &[u8], len: &[usize], m: usi
     requires { ⌜ (length (now groups) ≡ 4) × (3084 ≤ length (now s)) × Sparse (2 ^ (m + n)) (now groups) (stored (now s) 2056) ⌝ }
     ensures { λ r. ⌜ ((ks : List ℕ) → Adds 1028 (now (s .entry)) (now (s .exit)) (brought (sheetOf m n (now (code .entry)) (now (len .entry)) ks) (stored (now (s .entry)) 2056) (2 ^ (m + n)) (stored (now (s .entry)) 0) (2 ^ (m + n)))) ⌝ }
 {
-    if valuations(m, n) <= 64 {
-        let mut st = [0u64; 64];
+    if valuations(m, n) <= 128 {
+        let mut st = [0u64; 128];
         bring_rows(s, &mut st, groups, code, len, m, n);
         return;
     }
@@ -410,7 +347,7 @@ fn is_first(s: &[u64], v: usize, w: usize, a: usize) -> bool
     if pairs::has_end(s, 1028, a) {
         return true;
     }
-    row_lanes(s, 1028, w, a) & lanes_below(v, 0) != 0
+    row_lanes(s, 1028, w, a) & words::lanes_below(v, 0) != 0
 }
 
 // x with lane i set as well, where b.
@@ -427,7 +364,7 @@ fn firsts_word(s: &[u64], v: usize, w: usize, letters: u64, j: usize) -> u64
     ensures { λ r. ⌜ ((i : ℕ) → i < 64 → bit i r ≡ ((ltb (64 * j + i) v && among letters (64 * j + i)) && anyNext v (stored (now (s .entry)) 1028 (64 * j + i)))) ⌝ }
 {
     let mut word: u64 = 0;
-    let mut rest = lanes_below(v, j) & letters;
+    let mut rest = words::lanes_below(v, j) & letters;
     while rest != 0 {
         let i = u64::trailing_zeros(rest) as usize;
         let b = is_first(s, v, w, 64 * j + i);
@@ -459,7 +396,7 @@ fn ends(s: &[u64], v: usize, w: usize) -> [u64; 4]
     let mut f = [0u64; 4];
     let mut j: usize = 0;
     while j < w {
-        f[j] = s[1028 + (1024 + j)] & lanes_below(v, j);
+        f[j] = s[1028 + (1024 + j)] & words::lanes_below(v, j);
         j += 1;
     }
     f

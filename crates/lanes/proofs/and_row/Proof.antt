@@ -1,7 +1,8 @@
 use mathlib.Core.Path.{_≡_}
 use Prim.Native.Nat.{_-_, _+_, _*_}
+use native.Mathlib.Omega.{arith}
 use borrow.Author.Needs.{needs}
-use Rattle.lanes.proofs.RowLaws.{Writing, writing-none, writing-by, four-of}
+use Rattle.lanes.proofs.RowLaws.{Writing, writing-none, writing-by, writing-all}
 use lib.ListN.{getD}
 use lib.Bits.{bitAnd}
 use Rattle.lanes.proofs.and_row.Statement.{statement}
@@ -10,13 +11,13 @@ use Rattle.lanes.proofs.and_row.Reads as reads
 use Rattle.lanes.proofs.and_row.Lts as lts
 
 abbrev Inv-loop : tie.InvT-loop
-Inv-loop row₀ st k j₀ row j = Writing (λ i w. w ≡ bitAnd (getD st (4 * k + i) 0) (getD row₀ i 0)) row₀ row j
+Inv-loop row₀ w st k j₀ row j = Writing (λ i z. z ≡ bitAnd (getD st (w * k + i) 0) (getD row₀ i 0)) row₀ row j
 
 abbrev μ-loop : tie.MeasureT-loop
-μ-loop row₀ st k j₀ row j = 4 - j
+μ-loop row₀ w st k j₀ row j = w - j
 
 loop-holds : tie.Need-loop-holds Inv-loop μ-loop
-loop-holds c = writing-none _ _ (c .pre .0)
+loop-holds c = writing-none _ _ (c .pre .1)
 
 mul-row : tie.Need-mul-row Inv-loop μ-loop
 mul-row c = search needs
@@ -49,13 +50,13 @@ loop-less : tie.Need-loop-less Inv-loop μ-loop
 loop-less c = search needs
 
 loop-again : tie.Need-loop-again Inv-loop μ-loop
-loop-again c = writing-by (λ i z. bitAnd (getD (c .before .before .before .before .args .st .now) (4 * c .before .before .before .before .args .k + i) 0) z) _ _ _ (c .before .before .before .loop .inv) (c .before .before .loop-test .taken)
+loop-again c = writing-by (λ i z. bitAnd (getD (c .before .before .before .before .args .st .now) (c .before .before .before .before .args .w * c .before .before .before .before .args .k + i) 0) z) _ _ _ (c .before .before .before .loop .inv) (omega arith)
 
 same-length : tie.Need-same-length Inv-loop μ-loop
 same-length c = search needs
 
 returns : tie.Need-returns Inv-loop μ-loop
-returns c = four-of _ _ _ _ (c .before .before .pre .0) (c .before .loop .inv) (c .loop-test .left)
+returns c = writing-all _ _ _ _ _ (c .before .loop .inv) (c .loop-test .left)
 
 pub and-row-spec : {M : Type 1} → statement M
 and-row-spec =

@@ -14,13 +14,13 @@ use Rattle.lanes.proofs.keep_row.Lts as lts
 use Rattle.words.proofs.agree.Reads as agree-reads
 
 abbrev Inv-loop : tie.InvT-loop
-Inv-loop acc₀ x v j₀ acc j = Writing (λ k w. (i : ℕ) → i < 64 → bit i w ≡ (bit i (getD acc₀ k 0) && Bool·beq (bit i (getD x k 0)) v)) acc₀ acc j
+Inv-loop acc₀ w x v j₀ acc j = Writing (λ k z. (i : ℕ) → i < 64 → bit i z ≡ (bit i (getD acc₀ k 0) && Bool·beq (bit i (getD x k 0)) v)) acc₀ acc j
 
 abbrev μ-loop : tie.MeasureT-loop
-μ-loop acc₀ x v j₀ acc j = 4 - j
+μ-loop acc₀ w x v j₀ acc j = w - j
 
 loop-holds : tie.Need-loop-holds Inv-loop μ-loop
-loop-holds c = writing-none _ _ (c .before .before .pre .0)
+loop-holds c = writing-none _ _ (c .before .before .pre .1)
 
 mul-acc : tie.Need-mul-acc Inv-loop μ-loop
 mul-acc c = search needs
@@ -51,7 +51,7 @@ loop-less c = search needs
 
 loop-again : tie.Need-loop-again Inv-loop μ-loop
 loop-again c =
-    writing-more _ _ _ _ _ (c .before .before .before .before .loop .inv) (c .before .before .before .loop-test .taken)
+    writing-more _ _ _ _ _ (c .before .before .before .before .loop .inv) (omega arith)
     (λ i h.
     bit-and i (getD (c .before .before .before .before .loop .acc) (c .before .before .before .before .loop .j) 0) (c .agree .result)
     ∙ ap₂ _&&_ (ap (bit i) (c .before .before .before .before .loop .inv .rest _ (omega arith))) (c .agree .ensures i h))
@@ -60,7 +60,7 @@ same-length : tie.Need-same-length Inv-loop μ-loop
 same-length c = search needs
 
 returns : tie.Need-returns Inv-loop μ-loop
-returns c = (c .before .loop .inv .size, λ j i h. writing-all _ _ _ _ (c .before .loop .inv) (c .loop-test .left) j h i)
+returns c = λ j i h. writing-all _ _ _ _ _ (c .before .loop .inv) (c .loop-test .left) j h i
 
 pub keep-row-spec : {M : Type 1} → statement M
 keep-row-spec =

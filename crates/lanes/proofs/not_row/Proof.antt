@@ -13,13 +13,13 @@ use Rattle.lanes.proofs.not_row.Reads as reads
 use Rattle.lanes.proofs.not_row.Lts as lts
 
 abbrev Inv-loop : tie.InvT-loop
-Inv-loop row₀ j₀ row j = Writing (λ k w. (i : ℕ) → i < 64 → bit i w ≡ not (bit i (getD row₀ k 0))) row₀ row j
+Inv-loop row₀ w j₀ row j = Writing (λ k z. (i : ℕ) → i < 64 → bit i z ≡ not (bit i (getD row₀ k 0))) row₀ row j
 
 abbrev μ-loop : tie.MeasureT-loop
-μ-loop row₀ j₀ row j = 4 - j
+μ-loop row₀ w j₀ row j = w - j
 
 loop-holds : tie.Need-loop-holds Inv-loop μ-loop
-loop-holds c = writing-none _ _ (c .pre)
+loop-holds c = writing-none _ _ (c .pre .1)
 
 mul-row : tie.Need-mul-row Inv-loop μ-loop
 mul-row c = search needs
@@ -40,13 +40,13 @@ loop-less : tie.Need-loop-less Inv-loop μ-loop
 loop-less c = search needs
 
 loop-again : tie.Need-loop-again Inv-loop μ-loop
-loop-again c = writing-more _ _ _ _ _ (c .before .before .loop .inv) (c .before .loop-test .taken) (λ i h. bit-not 64 i _ h (c .slice-known .given _ .fits) ∙ ap (λ (z : ℕ). not (bit i z)) (c .before .before .loop .inv .rest _ (omega arith)))
+loop-again c = writing-more _ _ _ _ _ (c .before .before .loop .inv) (omega arith) (λ i h. bit-not 64 i _ h (c .slice-known .given _ .fits) ∙ ap (λ (z : ℕ). not (bit i z)) (c .before .before .loop .inv .rest _ (omega arith)))
 
 same-length : tie.Need-same-length Inv-loop μ-loop
 same-length c = search needs
 
 returns : tie.Need-returns Inv-loop μ-loop
-returns c = (c .before .loop .inv .size, λ j i h. writing-all _ _ _ _ (c .before .loop .inv) (c .loop-test .left) j h i)
+returns c = λ j i h. writing-all _ _ _ _ _ (c .before .loop .inv) (c .loop-test .left) j h i
 
 pub not-row-spec : {M : Type 1} → statement M
 not-row-spec =

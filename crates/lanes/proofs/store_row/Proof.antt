@@ -7,13 +7,13 @@ use Rattle.lanes.proofs.store_row.Reads as reads
 use Rattle.lanes.proofs.store_row.Lts as lts
 
 abbrev Inv-loop : tie.InvT-loop
-Inv-loop st₀ k row j₀ st j = Storing k row st₀ st j
+Inv-loop st₀ w k row j₀ st j = Storing w k row st₀ st j
 
 abbrev μ-loop : tie.MeasureT-loop
-μ-loop st₀ k row j₀ st j = 4 - j
+μ-loop st₀ w k row j₀ st j = w - j
 
 loop-holds : tie.Need-loop-holds Inv-loop μ-loop
-loop-holds c = storing-none _ _ _
+loop-holds c = storing-none _ _ _ _
 
 mul-st : tie.Need-mul-st Inv-loop μ-loop
 mul-st c = search needs
@@ -40,13 +40,13 @@ loop-less : tie.Need-loop-less Inv-loop μ-loop
 loop-less c = search needs
 
 loop-again : tie.Need-loop-again Inv-loop μ-loop
-loop-again c = storing-more _ _ _ _ _ (c .before .before .loop .inv) (c .before .loop-test .taken) (c .before .before .before .pre .1)
+loop-again c = storing-more _ _ _ _ _ _ (c .before .before .loop .inv) (c .before .loop-test .taken) (c .before .before .before .pre .2)
 
 same-length : tie.Need-same-length Inv-loop μ-loop
 same-length c = search needs
 
 returns : tie.Need-returns Inv-loop μ-loop
-returns c = storing-all _ _ _ _ _ (c .before .loop .inv) (c .loop-test .left)
+returns c = storing-all _ _ _ _ _ _ (c .before .loop .inv) (c .loop-test .left)
 
 pub store-row-spec : {M : Type 1} → statement M
 store-row-spec =

@@ -1,6 +1,13 @@
-use mathlib.Core.Path.{ap}
+use mathlib.Core.Path.{refl, ap}
+use native.Mathlib.Omega.{arith}
+use Rattle.lanes.proofs.RowLaws.{room-most}
+use Rattle.preparation.proofs.Rows.{lanes-row}
 use mathlib.Core.Bool.{Bool, _&&_}
+use mathlib.Core.Option.{some}
 use Rattle.pairs.specs.Changes.{rowBit}
+use Rattle.lola.specs.Equations.{holds}
+use Rattle.lanes.specs.Around.{unless}
+use Rattle.lanes.specs.Coded.{sheetOf}
 use Rattle.preparation.proofs.Uniting.{united-old, united-as}
 use borrow.Author.Needs.{needs}
 use Rattle.preparation.proofs.unite.Statement.{statement}
@@ -10,7 +17,7 @@ use Rattle.preparation.proofs.unite.Lts as lts
 use Rattle.lanes.proofs.ahead.Reads as ahead-reads
 use Rattle.preparation.proofs.covers.Reads as covers-reads
 use Rattle.preparation.proofs.gain.Reads as gain-reads
-use Rattle.preparation.proofs.predecessors.Reads as predecessors-reads
+use Rattle.lanes.proofs.predecessors.Reads as predecessors-reads
 
 covers-requires : tie.Need-covers-requires
 covers-requires c κs = search needs
@@ -28,7 +35,9 @@ slice-aggregate-predecessors : tie.Need-slice-aggregate-predecessors
 slice-aggregate-predecessors c = search needs
 
 predecessors-requires : tie.Need-predecessors-requires
-predecessors-requires c κs = search needs
+predecessors-requires c κs =
+    let q = c .before .before .before .before .before .before .before .before .before .before .before .pre in
+    (q .0, (q .1 .0, refl, omega (arith, room-most (c .before .before .before .before .before .before .before .before .before .before .before .args .w))))
 
 slice-aggregate-gain : tie.Need-slice-aggregate-gain
 slice-aggregate-gain c = search needs
@@ -45,8 +54,10 @@ same-length-3 c = search needs
 returns-2 : tie.Need-returns-2
 returns-2 c =
     λ ks.
+    let q = c .before .before .before .before .before .before .before .before .before .before .before .before .before .before .before .before .before .before .before .before .args in
     united-as _ _ _ _ _ (c .before .before .gain .ensures)
-    (λ a l. ap (λ (u : Bool). rowBit (c .before .before .before .before .before .before .before .before .before .before .before .before .before .before .before .before .before .before .before .before .args .ok .now) 0 a && u) (c .before .before .before .before .before .before .before .before .predecessors .ensures _ (c .before .before .before .before .before .before .before .before .before .before .before .ahead .ensures) ks a l))
+    (λ a l. ap (λ (u : Bool). rowBit (q .ok .now) 0 a && u)
+    (lanes-row _ _ (λ a. holds (sheetOf (q .m) (q .n) (q .code .now) (q .len .now) ks) (some a) (q .b) (unless (q .last) (q .c))) (c .before .before .before .before .before .before .before .before .predecessors .ensures _ (c .before .before .before .before .before .before .before .before .before .before .before .ahead .ensures) ks) a l))
 
 pub unite-spec : {M : Type 1} → statement M
 unite-spec =

@@ -1,8 +1,8 @@
 -- `rounds::start_pairs` meets its contract. Assumes nothing.
 use native.Mathlib.Omega.{arith}
 use borrow.Author.Needs.{needs}
-use Prim.Native.Nat.{_+_, _^_, _<_, _≤_}
-use Rattle.rounds.proofs.RowLaws.{room-one, room-four}
+use Prim.Native.Nat.{_+_, _/_, _^_, _<_, _≤_}
+use Rattle.lanes.proofs.RowLaws.{room-two, room-four}
 use Rattle.rounds.proofs.start_pairs.Statement.{statement}
 use Rattle.rounds.proofs.start_pairs.Tie as tie
 
@@ -15,8 +15,8 @@ slice-aggregate-start-rows c = search needs
 start-rows-requires : tie.Need-start-rows-requires
 start-rows-requires c κs =
     let a = c .before .before .before .before .before .before .before .args in
-    let h : 2 ^ (a .m + a .n) ≤ 64 = omega (arith, c .before .before .before .valuations .ensures .0) in
-    (c .before .before .before .before .before .before .before .pre .0, (omega (arith, room-one _ h), c .before .before .before .before .before .before .before .pre .1))
+    let h : (2 ^ (a .m + a .n) + 63) / 64 ≤ 2 = omega (arith, c .before .before .before .valuations .ensures .0) in
+    (c .before .before .before .before .before .before .before .pre .0, (omega (arith, room-two _ h), c .before .before .before .before .before .before .before .pre .1))
 
 same-length : tie.Need-same-length
 same-length c = search needs
@@ -30,7 +30,7 @@ slice-aggregate-start-rows-2 c = search needs
 start-rows-requires-2 : tie.Need-start-rows-requires-2
 start-rows-requires-2 c κs =
     let a = c .before .before .before .before .before .before .before .args in
-    let h : 64 < 2 ^ (a .m + a .n) = omega (arith, c .before .before .before .valuations .ensures .0) in
+    let h : 2 < (2 ^ (a .m + a .n) + 63) / 64 = omega (arith, c .before .before .before .valuations .ensures .0) in
     (c .before .before .before .before .before .before .before .pre .0, (omega (arith, room-four _ h), c .before .before .before .before .before .before .before .pre .1))
 
 same-length-2 : tie.Need-same-length-2

@@ -1,10 +1,10 @@
 use borrow.Author.Needs.{needs}
 use native.Mathlib.Omega.{arith}
-use Rattle.lanes.proofs.StepLaws.{row-read, row-const, row-not, row-and, row-or, row-lacks}
-use Rattle.lanes.proofs.row_step.Statement.{statement}
-use Rattle.lanes.proofs.row_step.Tie as tie
-use Rattle.lanes.proofs.row_step.Reads as reads
-use Rattle.lanes.proofs.row_step.Lts as lts
+use Rattle.lanes.proofs.StepLaws.{step-read, step-const, step-not, step-and, step-or, step-lacks}
+use Rattle.lanes.proofs.two_step.Statement.{statement}
+use Rattle.lanes.proofs.two_step.Tie as tie
+use Rattle.lanes.proofs.two_step.Reads as reads
+use Rattle.lanes.proofs.two_step.Lts as lts
 use Rattle.lanes.proofs.and_row.Reads as and-row-reads
 use Rattle.lanes.proofs.fill_row.Reads as fill-row-reads
 use Rattle.lanes.proofs.not_row.Reads as not-row-reads
@@ -29,7 +29,7 @@ same-length-2 : tie.Need-same-length-2
 same-length-2 c = search needs
 
 returns : tie.Need-returns
-returns c = row-read _ _ _ _ _ _ _ _ (c .before .before .before .before .before .before .store-row .ensures) (omega arith) (c .before .before .read-row .ensures .1)
+returns c = step-read _ _ _ _ _ _ _ _ _ (c .before .before .before .before .before .before .store-row .ensures) (omega arith) (c .before .before .read-row .ensures)
 
 not-row-requires : tie.Need-not-row-requires
 not-row-requires c κs = search needs
@@ -38,7 +38,7 @@ same-length-3 : tie.Need-same-length-3
 same-length-3 c = search needs
 
 returns-2 : tie.Need-returns-2
-returns-2 c = row-not _ _ _ _ _ _ _ (c .before .before .before .before .if2 .taken) (c .before .before .not-row .ensures .1)
+returns-2 c = step-not _ _ _ _ _ _ _ _ (c .before .before .before .before .if2 .taken) (c .before .before .not-row .ensures)
 
 store-row-requires-2 : tie.Need-store-row-requires-2
 store-row-requires-2 c κs = search needs
@@ -59,10 +59,10 @@ same-length-5 : tie.Need-same-length-5
 same-length-5 c = search needs
 
 returns-3 : tie.Need-returns-3
-returns-3 c = row-const _ _ _ _ _ _ _ _ (c .before .before .before .before .before .before .before .store-row2 .ensures) (c .before .before .before .before .before .before .before .before .before .before .if3 .taken) _ (c .before .before .before .spread .ensures) (c .before .before .fill-row .ensures)
+returns-3 c = step-const _ _ _ _ _ _ _ _ _ (c .before .before .before .before .before .before .before .store-row2 .ensures) (c .before .before .before .before .before .before .before .before .before .before .if3 .taken) _ (c .before .before .before .spread .ensures) (c .before .before .fill-row .ensures)
 
 returns-4 : tie.Need-returns-4
-returns-4 c = row-lacks _ _ _ _ _ _ (c .if4 .taken) (omega arith) (λ q. omega arith) (omega arith)
+returns-4 c = step-lacks _ _ _ _ _ _ _ (c .if4 .taken) (omega arith) (λ q. omega arith) (omega arith)
 
 sub-and-row : tie.Need-sub-and-row
 sub-and-row c = search needs
@@ -80,7 +80,7 @@ same-length-7 : tie.Need-same-length-7
 same-length-7 c = search needs
 
 returns-5 : tie.Need-returns-5
-returns-5 c = row-and _ _ _ _ _ _ _ (c .before .before .before .before .before .before .if4 .left) (c .before .before .before .before .before .if5 .taken) (c .before .before .and-row .ensures)
+returns-5 c = step-and _ _ _ _ _ _ _ _ (c .before .before .before .before .before .before .if4 .left) (c .before .before .before .before .before .if5 .taken) (c .before .before .and-row .ensures)
 
 sub-or-row : tie.Need-sub-or-row
 sub-or-row c = search needs
@@ -98,10 +98,10 @@ same-length-9 : tie.Need-same-length-9
 same-length-9 c = search needs
 
 returns-6 : tie.Need-returns-6
-returns-6 c = row-or _ _ _ _ _ _ _ (c .before .before .before .before .before .before .if4 .left) (c .before .before .before .before .before .before .before .if3 .left) (c .before .before .before .before .before .before .before .before .if2 .left) (c .before .before .before .before .before .if5 .left) (omega arith) (c .before .before .or-row .ensures)
+returns-6 c = step-or _ _ _ _ _ _ _ _ (c .before .before .before .before .before .before .if4 .left) (c .before .before .before .before .before .before .before .if3 .left) (c .before .before .before .before .before .before .before .before .if2 .left) (c .before .before .before .before .before .if5 .left) (omega arith) (c .before .before .or-row .ensures)
 
-pub row-step-spec : {M : Type 1} → statement M
-row-step-spec =
+pub two-step-spec : {M : Type 1} → statement M
+two-step-spec =
     tie.close
     (tie.spec
     store-row-requires

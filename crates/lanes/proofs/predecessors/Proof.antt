@@ -3,10 +3,10 @@ use Prim.Native.Nat.{_+_, _*_}
 use borrow.Author.Needs.{needs}
 use Rattle.lanes.proofs.AroundLaws.{ahead-look}
 use Rattle.lanes.proofs.CodeLaws.{look-holds}
-use Rattle.lanes.proofs.predecessors_row.Statement.{statement}
-use Rattle.lanes.proofs.predecessors_row.Tie as tie
-use Rattle.lanes.proofs.predecessors_row.Reads as reads
-use Rattle.lanes.proofs.predecessors_row.Lts as lts
+use Rattle.lanes.proofs.predecessors.Statement.{statement}
+use Rattle.lanes.proofs.predecessors.Tie as tie
+use Rattle.lanes.proofs.predecessors.Reads as reads
+use Rattle.lanes.proofs.predecessors.Lts as lts
 use Rattle.lanes.proofs.equations_row.Reads as equations-row-reads
 
 equations-row-requires : tie.Need-equations-row-requires
@@ -19,8 +19,8 @@ same-length-2 : tie.Need-same-length-2
 same-length-2 c = search needs
 
 returns : tie.Need-returns
-returns c = λ x ahead ks j i g h. c .before .before .before .before .equations-row .ensures .1 j i g h ∙ look-holds _ _ _ _ (c .before .before .before .before .before .before .before .before .before .before .before .pre .0) _ _ _ _ (ahead-look _ _ x ahead (64 * j + i)) ks
+returns c = λ x ahead ks j i g h. c .before .before .before .before .equations-row .ensures .lanes j i g h ∙ look-holds _ _ _ _ (c .before .before .before .before .before .before .before .before .before .before .before .pre .0) _ _ _ _ (ahead-look _ _ x ahead (64 * j + i)) ks
 
-pub predecessors-row-spec : {M : Type 1} → statement M
-predecessors-row-spec =
+pub predecessors-spec : {M : Type 1} → statement M
+predecessors-spec =
     tie.close (tie.spec equations-row-requires same-length same-length-2 returns)

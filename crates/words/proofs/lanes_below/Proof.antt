@@ -1,14 +1,14 @@
--- `rounds::lanes_below` meets its contract. Assumes nothing.
+-- `words::lanes_below` meets its contract. Assumes nothing.
 use native.Mathlib.Omega.{arith}
 use borrow.Author.Needs.{needs}
 use mathlib.Core.Path.{_≡_, ap, _∙_}
 use Prim.Native.Nat.{ℕ, _-_, _*_, _%_, _^_}
 use lib.Pow.{pow-pos}
 use Rattle.words.specs.Bits.{bit}
 use Rattle.words.proofs.BitLaws.{one-shl}
-use Rattle.rounds.proofs.WordLaws.{lanes-none, lanes-all, lanes-some}
-use Rattle.rounds.proofs.lanes_below.Statement.{statement}
-use Rattle.rounds.proofs.lanes_below.Tie as tie
+use Rattle.words.proofs.BelowLaws.{lanes-none, lanes-all, lanes-some}
+use Rattle.words.proofs.lanes_below.Statement.{statement}
+use Rattle.words.proofs.lanes_below.Tie as tie
 
 mul-low : tie.Need-mul-low
 mul-low c = search needs

@@ -1,0 +1,25 @@
+use mathlib.Core.Path.{_∙_}
+use Prim.Native.Nat.{_+_, _*_}
+use borrow.Author.Needs.{needs}
+use Rattle.lanes.proofs.AroundLaws.{seen-look}
+use Rattle.lanes.proofs.CodeLaws.{look-holds}
+use Rattle.lanes.proofs.successors.Statement.{statement}
+use Rattle.lanes.proofs.successors.Tie as tie
+use Rattle.lanes.proofs.successors.Reads as reads
+use Rattle.lanes.proofs.successors.Lts as lts
+use Rattle.lanes.proofs.equations_row.Reads as equations-row-reads
+
+equations-row-requires : tie.Need-equations-row-requires
+equations-row-requires c κs = search needs
+
+same-length : tie.Need-same-length
+same-length c = search needs
+
+same-length-2 : tie.Need-same-length-2
+same-length-2 c = search needs
+
+returns : tie.Need-returns
+returns c = λ p seen ks j i g h. c .before .before .before .before .equations-row .ensures .lanes j i g h ∙ look-holds _ _ _ _ (c .before .before .before .before .before .before .before .before .before .before .before .pre .0) _ _ _ _ (seen-look _ p _ seen (64 * j + i)) ks
+
+pub successors-spec : {M : Type 1} → statement M
+successors-spec = tie.close (tie.spec equations-row-requires same-length same-length-2 returns)

@@ -5,6 +5,8 @@ use mathlib.Core.List.{List, [], _∷_}
 use Prim.Native.Nat.{ℕ, suc, _+_, _-_, _*_, _/_, _%_, _^_, _≤_, _<_}
 use native.Mathlib.Numerals.{add-one}
 use native.Mathlib.Omega.{arith}
+use native.Mathlib.Decide.{ℕ-discrete}
+use lib.Bits.{bitXor, differ, xor-step, xor-zero-r}
 use lib.Dec.{leb, ltb, eqb}
 use lib.ListN.{length, drop, getD, drop-of-length-le}
 use lib.Seq.{drop-cons}
@@ -73,6 +75,14 @@ op-means env b =
     tt)))))))))
 
 -- ---- the operators on the lowest digits
+
+-- the lowest digit turned over
+pub xor-one : (w : ℕ) → bitXor w 1 ≡ w + 1 - 2 * (w % 2)
+xor-one w = xor-step w 1 ∙ ap (λ (n : ℕ). n * 2 + differ (w % 2) 1) (xor-zero-r (w / 2)) ∙ go (ℕ-discrete (w % 2) 0)
+  where
+    go : Dec (w % 2 ≡ 0) → w / 2 * 2 + differ (w % 2) 1 ≡ w + 1 - 2 * (w % 2)
+    go (yes e) = ap (λ (d : ℕ). w / 2 * 2 + differ d 1) e ∙ omega arith
+    go (no n) = let e : w % 2 ≡ 1 = omega arith in ap (λ (d : ℕ). w / 2 * 2 + differ d 1) e ∙ omega arith
 
 not-low : (x : Bool) (n w r : ℕ) → w ≡ one x + 2 * n → r ≡ w + 1 - 2 * (w % 2) → r ≡ one (not x) + 2 * n
 not-low true n w r h e = omega arith

@@ -16,7 +16,7 @@ fn step_bit(env: u64, stack: u64, byte: u8) -> u64
         return stack * 2 + (env >> (byte % 64)) % 2;
     }
     if byte == 2 {
-        return stack + 1 - 2 * (stack % 2);
+        return stack ^ 1;
     }
     if byte == 3 {
         return if stack % 2 == 1 {

@@ -3,6 +3,7 @@ use native.Mathlib.Omega.{arith}
 use mathlib.Core.Path.{_≡_, ap}
 use Prim.Native.Nat.{ℕ, _+_, _-_, _*_, _/_, _%_, _^_}
 use Rattle.words.specs.Bits.{digit}
+use Rattle.lola.proofs.Stack.{xor-one}
 use borrow.Author.Needs.{needs}
 use Rattle.lola.proofs.step_bit.Statement.{statement}
 use Rattle.lola.proofs.step_bit.Tie as tie
@@ -33,20 +34,18 @@ returns c = record {
   read = λ h k. let e : c .before .args .byte % 64 ≡ c .before .args .byte - 0x40 = omega arith in ap (λ (i : ℕ). c .before .args .stack * 2 + c .before .args .env / 2 ^ i % 2) e;
 }
 
-add-result-2 : tie.Need-add-result-2
-add-result-2 c = search needs
+returns-2 : tie.Need-returns-2
+returns-2 c = record {
+  small = omega (arith, xor-one (c .before .before .args .stack));
+  const = λ h. omega arith;
+  not = λ h. xor-one (c .before .before .args .stack);
+  and = λ h. omega arith;
+  or = λ h. omega arith;
+  read = λ h k. omega arith;
+}
 
 mul-result-2 : tie.Need-mul-result-2
 mul-result-2 c = search needs
-
-sub-result : tie.Need-sub-result
-sub-result c = search needs
-
-returns-2 : tie.Need-returns-2
-returns-2 c = search needs
-
-mul-result-3 : tie.Need-mul-result-3
-mul-result-3 c = search needs
 
 returns-3 : tie.Need-returns-3
 returns-3 c = search needs
@@ -54,11 +53,11 @@ returns-3 c = search needs
 returns-4 : tie.Need-returns-4
 returns-4 c = search needs
 
-mul-result-4 : tie.Need-mul-result-4
-mul-result-4 c = search needs
+mul-result-3 : tie.Need-mul-result-3
+mul-result-3 c = search needs
 
-add-result-3 : tie.Need-add-result-3
-add-result-3 c = search needs
+add-result-2 : tie.Need-add-result-2
+add-result-2 c = search needs
 
 returns-5 : tie.Need-returns-5
 returns-5 c = search needs
@@ -66,14 +65,14 @@ returns-5 c = search needs
 returns-6 : tie.Need-returns-6
 returns-6 c = search needs
 
-mul-result-5 : tie.Need-mul-result-5
-mul-result-5 c = search needs
+mul-result-4 : tie.Need-mul-result-4
+mul-result-4 c = search needs
 
 wide-requires : tie.Need-wide-requires
 wide-requires c κs = search needs
 
-add-result-4 : tie.Need-add-result-4
-add-result-4 c = search needs
+add-result-3 : tie.Need-add-result-3
+add-result-3 c = search needs
 
 returns-7 : tie.Need-returns-7
 returns-7 c = search needs
@@ -87,18 +86,15 @@ step-bit-spec =
     shr-result
     add-result
     returns
-    add-result-2
-    mul-result-2
-    sub-result
     returns-2
-    mul-result-3
+    mul-result-2
     returns-3
     returns-4
-    mul-result-4
-    add-result-3
+    mul-result-3
+    add-result-2
     returns-5
     returns-6
-    mul-result-5
+    mul-result-4
     wide-requires
-    add-result-4
+    add-result-3
     returns-7)

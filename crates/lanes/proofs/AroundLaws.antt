@@ -59,6 +59,9 @@ seen-of w p b h l =
     let e : b + 65536 * h .part ≡ w + b = omega (arith, h .place) in
     rw e at (seen-word (h .part) p (h .beside) b l)
 
+pub seen-alone : (w : ℕ) (p : Option ℕ) → Before w p → Seen w p 0
+seen-alone w p h = let e : w + 0 ≡ w = omega arith in rw e at (seen-of w p 0 h (omega arith))
+
 -- ---- what a lane sees
 
 module _ (env f v : ℕ) where
@@ -106,3 +109,12 @@ module _ (env : ℕ) (p : Option ℕ) (b : ℕ) (s : Seen env p b) where
   end-look q Earlier true l = low (24 + q) (omega arith) ∙ s .set q l
   end-look q Later false l = high (32 + q) q refl ∙ bit-low 8 q 0 255 l (omega arith) ∙ bit-none q
   end-look q Later true l = high (40 + q) (8 + q) (omega arith) ∙ bit-above 8 q 0 255 (omega arith) ∙ bit-all 8 q l
+
+  -- the same where the lanes are the round itself
+  pub ender-look : (v q : ℕ) (o : Offset) (d : Bool) → q < 8 → laneLook (env + 0xff00_0000_0000) 0 v q o d ≡ neighbours p v none q o d
+  unfolding slot slots
+  ender-look v q Now d l = own-stream (env + 0xff00_0000_0000) 0 v q q (omega arith) (omega arith)
+  ender-look v q Earlier false l = shared-read (env + 0xff00_0000_0000) 0 v (16 + q) (λ e. omega arith) ∙ end-look q Earlier false l
+  ender-look v q Earlier true l = shared-read (env + 0xff00_0000_0000) 0 v (24 + q) (λ e. omega arith) ∙ end-look q Earlier true l
+  ender-look v q Later false l = shared-read (env + 0xff00_0000_0000) 0 v (32 + q) (λ e. omega arith) ∙ end-look q Later false l
+  ender-look v q Later true l = shared-read (env + 0xff00_0000_0000) 0 v (40 + q) (λ e. omega arith) ∙ end-look q Later true l

@@ -22,13 +22,17 @@ slot q Earlier true = 24 + q
 slot q Later false = 32 + q
 slot q Later true = 40 + q
 
--- the read with the number k, in the lane of the valuation v: of the family f (1 earlier, 2 later) the streams of v are read
+-- the read with the number k, in the lane of the valuation v: of the family f (0 now, 1 earlier, 2 later) the streams of v are read
 unfoldable pub readAt : ℕ → ℕ → ℕ → ℕ → Bool
 readAt env f v k = cond (eqb (k / 16) f) (bit (k % 8) v) (bit k env)
 
 -- the reads in that lane
 abbrev pub laneLook : ℕ → ℕ → ℕ → Look
 laneLook env f v q o d = readAt env f v (slot q o d)
+
+-- the round itself in the lane of v: where its own reads are the lane's, it is v
+abbrev pub here : ℕ → ℕ → ℕ → ℕ
+here f b v = cond (eqb f 0) v b
 
 -- a lane's stack of n + 1 truth values: its top, and below it those of E, the last of them uppermost
 unfoldable pub below : (ℕ → Bool) → ℕ → List Bool

@@ -9,7 +9,7 @@ use Rattle.sheet.specs.Expression.{Expr, parse, tree}
 use Rattle.sheet.specs.RuleSheet.{RuleSheet}
 use Rattle.sheet.specs.Reading.{Ranges, Parses, codeAt, treesOf}
 use Rattle.lola.specs.Value.{Look, value}
-use Rattle.lanes.specs.Around.{laneLook}
+use Rattle.lanes.specs.Around.{laneLook, here}
 
 -- m inputs, n outputs, and their expressions, which parse
 pub record Coded (m n : ℕ) (code len : List ℕ) : Type 0 where
@@ -32,6 +32,6 @@ agreed look (e ∷ es) q v = Bool·beq (bit q v) (value look e) && agreed look e
 pub record Values (w env f : ℕ) (bytes row : List ℕ) : Type 0 where
   pub lanes : (s : ℕ) (x : Expr) → parse s [] bytes ≡ tree x → (j i : ℕ) → j < w → i < 64 → bit i (getD row j 0) ≡ value (laneLook env f (64 * j + i)) x
 
--- the w words of a row have the lanes in which the first k equations agree with the valuation b
+-- the w words of a row have the lanes in which the first k equations agree with the round itself, b or the lane's valuation
 pub record Agree (w env f m n : ℕ) (code len : List ℕ) (b : ℕ) (row : List ℕ) (k : ℕ) : Type 0 where
-  pub lanes : (j i : ℕ) → j < w → i < 64 → bit i (getD row j 0) ≡ agreed (laneLook env f (64 * j + i)) (treesOf (m + n) code len k) m b
+  pub lanes : (j i : ℕ) → j < w → i < 64 → bit i (getD row j 0) ≡ agreed (laneLook env f (64 * j + i)) (treesOf (m + n) code len k) m (here f b (64 * j + i))

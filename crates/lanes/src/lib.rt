@@ -14,11 +14,13 @@ ghost use Rattle.lola.specs.Value.{value};
 ghost use Rattle.lola.specs.Slots.{slots};
 ghost use Rattle.lola.specs.Reads.{hasRead};
 ghost use Rattle.lola.specs.Equations.{holds};
-ghost use Rattle.lanes.specs.Around.{readAt, laneLook, Stepped, Filled, Stored, room, Beside, Before, Seen, Ahead, unless, earlierByte};
+ghost use Rattle.lanes.specs.Around.{readAt, laneLook, Stepped, Filled, Stored, room, here, Beside, Before, Seen, Ahead, unless, earlierByte};
 ghost use Rattle.lanes.specs.Coded.{Coded, sheetOf, agreed, Values, Agree};
 use sheet::OutputNo;
 
 // The families of reads that may be of the lane's valuation.
+const NOW: u8 = 0;
+
 const EARLIER: u8 = 1;
 
 const LATER: u8 = 2;
@@ -216,14 +218,32 @@ fn output_value(b: usize, m: usize, k: usize) -> bool
     (b >> q) % 2 == 1
 }
 
-// The lanes of acc in which x is v.
-fn keep_row(acc: &mut [u64], w: usize, x: &[u64], v: bool)
-    requires { ⌜ (w ≤ 4) × (length (now acc) ≡ 4) × (length (now x) ≡ 4) ⌝ }
-    ensures { λ r. ⌜ ((j i : ℕ) → j < w → i < 64 → bit i (getD (now (acc .exit)) j 0) ≡ (bit i (getD (now (acc .entry)) j 0) && Bool·beq (bit i (getD (now (x .entry)) j 0)) v)) ⌝ }
+// Stream q of the round itself in the lanes of the valuations from 64 * j on: of b, or of the lane's own valuation where that is the round's.
+fn here_word(f: u8, b: usize, q: usize, j: usize) -> u64
+    requires { ⌜ (q < 8) × (j < 4) ⌝ }
+    ensures { λ r. ⌜ ((i : ℕ) → i < 64 → bit i r ≡ bit q (here f b (64 * j + i))) ⌝ }
+{
+    if f == NOW {
+        return words::stream_word(q, j);
+    }
+    words::spread((b >> q) % 2 == 1)
+}
+
+// The lanes in which x and y are alike.
+fn alike(x: u64, y: u64) -> u64
+    ensures { λ r. ⌜ ((i : ℕ) → i < 64 → bit i r ≡ Bool·beq (bit i x) (bit i y)) ⌝ }
+{
+    x & y | !(x | y)
+}
+
+// The lanes of acc in which x is stream q of the round itself.
+fn keep_row(acc: &mut [u64], w: usize, x: &[u64], f: u8, b: usize, q: usize)
+    requires { ⌜ (w ≤ 4) × (length (now acc) ≡ 4) × (length (now x) ≡ 4) × (q < 8) ⌝ }
+    ensures { λ r. ⌜ ((j i : ℕ) → j < w → i < 64 → bit i (getD (now (acc .exit)) j 0) ≡ (bit i (getD (now (acc .entry)) j 0) && Bool·beq (bit i (getD (now (x .entry)) j 0)) (bit q (here f b (64 * j + i))))) ⌝ }
 {
     let mut j: usize = 0;
     while j < w {
-        acc[j] = acc[j] & words::agree(x[j], v);
+        acc[j] = acc[j] & alike(x[j], here_word(f, b, q, j));
         j += 1;
     }
 }
@@ -265,7 +285,7 @@ fn two_equations(
         let from = 64 * k;
         let to = from + len[k];
         two_value(st, &mut x, env, f, &code[from..to]);
-        keep_row(acc, 2, &x, output_value(b, m, k));
+        keep_row(acc, 2, &x, f, b, output_stream(m, k));
         if is_empty(acc, 2) {
             return;
         }
@@ -296,7 +316,7 @@ fn four_equations(
         let from = 64 * k;
         let to = from + len[k];
         four_value(st, &mut x, env, f, &code[from..to]);
-        keep_row(acc, 4, &x, output_value(b, m, k));
+        keep_row(acc, 4, &x, f, b, output_stream(m, k));
         if is_empty(acc, 4) {
             return;
         }
@@ -412,6 +432,35 @@ pub fn holds_at_end(code: &[u8], len: &[usize], m: usize, n: usize, env: u64, b:
     ensures { λ r. ⌜ ((p : Option ℕ) → Seen env p b → (ks : List ℕ) → r ≡ holds (sheetOf m n (now (code .entry)) (now (len .entry)) ks) p b none) ⌝ }
 {
     equations_bit(env + 0xff00_0000_0000, code, len, m, n, b)
+}
+
+// The lanes i of the w words j in which the equations hold at 64 * j + i with nothing after it, after the round whose reads are `before`.
+pub fn enders(
+    row: &mut [u64],
+    st: &mut [u64],
+    w: usize,
+    code: &[u8],
+    len: &[usize],
+    m: usize,
+    n: usize,
+    before: u64,
+)
+    requires { ⌜ Coded m n (now code) (now len) ⌝ }
+    requires { ⌜ (w ≤ 4) × (length (now row) ≡ 4) × (room w ≤ length (now st)) × (before < 4294967296) ⌝ }
+    ensures { λ r. ⌜ ((p : Option ℕ) → Before before p → (ks : List ℕ) (j i : ℕ) → j < w → i < 64 → bit i (getD (now (row .exit)) j 0) ≡ holds (sheetOf m n (now (code .entry)) (now (len .entry)) ks) p (64 * j + i) none) ⌝ }
+{
+    equations_row(
+        row,
+        st,
+        w,
+        before + 0xff00_0000_0000,
+        NOW,
+        code,
+        len,
+        m,
+        n,
+        0,
+    );
 }
 
 // The lanes i of the w words j in which the equations hold at b after 64 * j + i.

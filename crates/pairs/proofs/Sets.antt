@@ -238,6 +238,44 @@ word-inserted s base a j x ha hj l = record {
             ∙ sym (ap (λ (u : Bool). bit (c % 64) (getD s w 0) || (eqb p a && (u && bit (c % 64) x))) (ne-eqb (c / 64) j e)
             ∙ ap (λ (u : Bool). bit (c % 64) (getD s w 0) || u) (and-false (eqb p a)) ∙ or-false _)
 
+-- the ends of one word gain the lanes of another
+pub ends-inserted : (s : List ℕ) (base j x : ℕ) → j < 4 → base + 1028 ≤ length s
+    → Adds base s (set s (base + (1024 + j)) (bitOr (getD s (base + (1024 + j)) 0) x)) (λ a y. inWord j x (some a) && eqNext y none)
+unfolding stored place slot inWord eqNext
+ends-inserted s base j x hj l = record {
+  same-length = length-set s _ _;
+  before = λ k h. getD-set-other s _ k _ 0 (omega arith);
+  beyond = λ k h. getD-set-other s _ k _ 0 (omega arith);
+  adds = at;
+}
+  where
+    k : ℕ
+    k = base + (1024 + j)
+
+    v : ℕ
+    v = bitOr (getD s k 0) x
+
+    at : (a : ℕ) (y : Option ℕ) → a < 256 → Within 256 y → stored (set s k v) base a y ≡ (stored s base a y || (inWord j x (some a) && eqNext y none))
+    at a (some c) ha hy =
+        ap (bit (c % 64)) (getD-set-other s k (base + (4 * a + c / 64)) v 0 (omega arith))
+        ∙ sym (ap (λ (u : Bool). bit (c % 64) (getD s (base + (4 * a + c / 64)) 0) || u) (and-false (eqb (a / 64) j && bit (a % 64) x)) ∙ or-false _)
+    at a none ha hy = go (ℕ-discrete (a / 64) j)
+      where
+        w : ℕ
+        w = base + (1024 + a / 64)
+
+        go : Dec (a / 64 ≡ j) → bit (a % 64) (getD (set s k v) w 0) ≡ (bit (a % 64) (getD s w 0) || ((eqb (a / 64) j && bit (a % 64) x) && true))
+        go (yes e) =
+            let q : w ≡ k = omega arith in
+            ap (λ (i : ℕ). bit (a % 64) (getD (set s k v) i 0)) q
+            ∙ ap (bit (a % 64)) (getD-set-same s k v 0 (omega arith))
+            ∙ bit-or (a % 64) (getD s k 0) x
+            ∙ ap₂ (λ (i : ℕ) (u : Bool). bit (a % 64) (getD s i 0) || u) (sym q)
+            (sym (and-true (eqb (a / 64) j && bit (a % 64) x) ∙ ap (λ (u : Bool). u && bit (a % 64) x) (eq-eqb (a / 64) j e)))
+        go (no d) =
+            ap (bit (a % 64)) (getD-set-other s k w v 0 (omega arith))
+            ∙ sym (ap (λ (u : Bool). bit (a % 64) (getD s w 0) || ((u && bit (a % 64) x) && true)) (ne-eqb (a / 64) j d) ∙ or-false _)
+
 -- a row is taken out: its words are 0, and its bit among the ends is
 pub row-taken : (base a : ℕ) (s t : List ℕ) → a < 256 → base + 1028 ≤ length s → Zeroed (base + 4 * a) 4 s t
     → RowTaken base a s (set t (base + (1024 + a / 64)) (bitAnd (getD t (base + (1024 + a / 64)) 0) ((2 ^ 64 - 1) - 1 * 2 ^ (a % 64) % 2 ^ 64)))

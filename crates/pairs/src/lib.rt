@@ -52,6 +52,15 @@ pub fn insert_word(s: &mut [u64], base: usize, a: usize, j: usize, x: u64)
     s[k] = s[k] | x;
 }
 
+// Puts (64 j + i, end) into the set at base, for each lane i of x that is set.
+pub fn insert_ends(s: &mut [u64], base: usize, j: usize, x: u64)
+    requires { ⌜ (j < 4) × (base ≤ 2056) × (3084 ≤ length (now s)) ⌝ }
+    ensures { λ r. ⌜ Adds base (now (s .entry)) (now (s .exit)) (λ a y. inWord j x (some a) && eqNext y none) ⌝ }
+{
+    let k = base + (1024 + j);
+    s[k] = s[k] | x;
+}
+
 // Puts a into the row.
 pub fn note(row: &mut [u64], a: usize)
     requires { ⌜ (a < 256) × (length (now row) ≡ 4) ⌝ }

@@ -1,5 +1,6 @@
 pub mod Bools
 pub mod RowLaws
+pub mod EndLaws
 pub mod WordLaws
 pub mod RoundLaws
 pub mod VerdictLaws

@@ -150,82 +150,99 @@ module _ (x : RuleSheet) where
 
   -- ---- rows that were heard
 
-  abbrev One : ℕ → (ℕ → Bool) → ℕ → List ℕ → Option ℕ → Pairs
-  One b r w s p = gains x (λ a. eqb a b && r a) (below w) (stored s 0) p
+  abbrev One : ℕ → (ℕ → Bool) → (Option ℕ → Bool) → List ℕ → Option ℕ → Pairs
+  One b r C s p = gains x (λ a. eqb a b && r a) C (stored s 0) p
 
-  pub unheard : (s : List ℕ) (b w : ℕ) (r : ℕ → Bool) (p : Option ℕ) → r b ≡ false → Adds 1028 s s (One b r w s p)
-  unheard s b w r p e = gains-none s (λ a. eqb a b && r a) (below w) (stored s 0) p (λ a c. ap (λ (u : Bool). u && below w c) (go a (ℕ-discrete a b)))
+  pub unheard : (s : List ℕ) (b : ℕ) (C : Option ℕ → Bool) (r : ℕ → Bool) (p : Option ℕ) → r b ≡ false → Adds 1028 s s (One b r C s p)
+  unheard s b C r p e = gains-none s (λ a. eqb a b && r a) C (stored s 0) p (λ a c. ap (λ (u : Bool). u && C c) (go a (ℕ-discrete a b)))
     where
       go : (a : ℕ) → Dec (a ≡ b) → (eqb a b && r a) ≡ false
       go a (yes d) = ap (λ (u : Bool). eqb a b && u) (ap r d ∙ e) ∙ and-false (eqb a b)
       go a (no d) = ap (λ (u : Bool). u && r a) (ne-eqb a b d)
 
-  pub heard : (s t : List ℕ) (b w : ℕ) (r : ℕ → Bool) (p : Option ℕ) → r b ≡ true → Adds 1028 s t (gains x (λ a. eqb a b) (below w) (stored s 0) p) → Adds 1028 s t (One b r w s p)
-  heard s t b w r p e f =
-      gains-as s t (λ a. eqb a b) (λ a. eqb a b && r a) (below w) (below w) (stored s 0) p f (λ a c ha hc. ap (λ (u : Bool). u && below w c) (go a (ℕ-discrete a b)))
+  pub heard : (s t : List ℕ) (b : ℕ) (C : Option ℕ → Bool) (r : ℕ → Bool) (p : Option ℕ) → r b ≡ true → Adds 1028 s t (gains x (λ a. eqb a b) C (stored s 0) p) → Adds 1028 s t (One b r C s p)
+  heard s t b C r p e f =
+      gains-as s t (λ a. eqb a b) (λ a. eqb a b && r a) C C (stored s 0) p f (λ a c ha hc. ap (λ (u : Bool). u && C c) (go a (ℕ-discrete a b)))
     where
       go : (a : ℕ) → Dec (a ≡ b) → eqb a b ≡ (eqb a b && r a)
       go a (yes d) = sym (ap (λ (u : Bool). eqb a b && u) (ap r d ∙ e) ∙ and-true (eqb a b))
       go a (no d) = ne-eqb a b d ∙ sym (ap (λ (u : Bool). u && r a) (ne-eqb a b d))
 
   -- the rows below b
-  abbrev Rows : ℕ → (ℕ → Bool) → ℕ → List ℕ → Option ℕ → Pairs
-  Rows b r w s p = gains x (λ a. ltb a b && r a) (below w) (stored s 0) p
+  abbrev Rows : ℕ → (ℕ → Bool) → (Option ℕ → Bool) → List ℕ → Option ℕ → Pairs
+  Rows b r C s p = gains x (λ a. ltb a b && r a) C (stored s 0) p
 
-  pub rows-none : (s : List ℕ) (w : ℕ) (r : ℕ → Bool) (p : Option ℕ) → Adds 1028 s s (Rows 0 r w s p)
-  rows-none s w r p = gains-none s (λ a. ltb a 0 && r a) (below w) (stored s 0) p (λ a c. ap (λ (u : Bool). u && below w c) (below-none a (r a)))
+  pub rows-none : (s : List ℕ) (C : Option ℕ → Bool) (r : ℕ → Bool) (p : Option ℕ) → Adds 1028 s s (Rows 0 r C s p)
+  rows-none s C r p = gains-none s (λ a. ltb a 0 && r a) C (stored s 0) p (λ a c. ap (λ (u : Bool). u && C c) (below-none a (r a)))
 
-  pub rows-more : (s t u : List ℕ) (b w : ℕ) (r : ℕ → Bool) (p : Option ℕ) → Adds 1028 s t (Rows b r w s p) → Adds 1028 t u (One b r w t p) → Adds 1028 s u (Rows (b + 1) r w s p)
-  rows-more s t u b w r p f g =
-      gains-join s t u (λ a. ltb a b && r a) (λ a. eqb a b && r a) (λ a. ltb a (b + 1) && r a) (below w) (below w) (below w) p f g
-      (λ a c ha hc. merge-both (ltb a b) (eqb a b) (ltb a (b + 1)) (r a) (below w c) (below-one a b))
+  pub rows-more : (s t u : List ℕ) (b : ℕ) (C : Option ℕ → Bool) (r : ℕ → Bool) (p : Option ℕ) → Adds 1028 s t (Rows b r C s p) → Adds 1028 t u (One b r C t p) → Adds 1028 s u (Rows (b + 1) r C s p)
+  rows-more s t u b C r p f g =
+      gains-join s t u (λ a. ltb a b && r a) (λ a. eqb a b && r a) (λ a. ltb a (b + 1) && r a) C C C p f g
+      (λ a c ha hc. merge-both (ltb a b) (eqb a b) (ltb a (b + 1)) (r a) (C c) (below-one a b))
 
-  pub rows-all : (s t : List ℕ) (b v w : ℕ) (r : ℕ → Bool) (p : Option ℕ) → b ≤ v → v ≤ b → v ≡ w → Adds 1028 s t (Rows b r w s p) → Adds 1028 s t (Rows w r w s p)
-  rows-all s t b v w r p h l q f = let e : b ≡ w = omega arith in subst (λ (k : ℕ). Adds 1028 s t (Rows k r w s p)) e f
+  pub rows-all : (s t : List ℕ) (b v w : ℕ) (C : Option ℕ → Bool) (r : ℕ → Bool) (p : Option ℕ) → b ≤ v → v ≤ b → v ≡ w → Adds 1028 s t (Rows b r C s p) → Adds 1028 s t (Rows w r C s p)
+  rows-all s t b v w C r p h l q f = let e : b ≡ w = omega arith in subst (λ (k : ℕ). Adds 1028 s t (Rows k r C s p)) e f
 
   -- ---- the rows that one row of a set G names
 
   -- those below b are done; b is the next, or at least w
   pub record Bringing (s t : List ℕ) (w g b : ℕ) : Type 0 where
-    pub sofar : Adds 1028 s t (Rows b (inRow (stored s 2056) w g) w s (some g))
+    pub sofar : Adds 1028 s t (Rows b (inRow (stored s 2056) w g) (cut (λ c. ltb c w)) s (some g))
     pub next : b < w → stored s 2056 g (some b) ≡ true
 
   module _ (s : List ℕ) (w g : ℕ) (hw : w ≤ 256) (hg : g < 256) where
+    abbrev Cells : Option ℕ → Bool
+    Cells = cut (λ c. ltb c w)
+
     abbrev In : ℕ → Bool
     In = inRow (stored s 2056) w g
 
     row-same : (t : List ℕ) (P : Pairs) → Adds 1028 s t P → (a : ℕ) → a < 256 → rowBit t (2056 + 4 * g) a ≡ stored s 2056 g (some a)
     row-same t P f a h = row-bit t 2056 g a ∙ adds-beyond 1028 s t P f 2056 g (some a) hg h (omega arith)
 
-    wider : (t : List ℕ) (b b′ : ℕ) → b ≤ b′ → ((a : ℕ) → a < 256 → b ≤ a → a < b′ → stored s 2056 g (some a) ≡ false) → Adds 1028 s t (Rows b In w s (some g)) → Adds 1028 s t (Rows b′ In w s (some g))
+    wider : (t : List ℕ) (b b′ : ℕ) → b ≤ b′ → ((a : ℕ) → a < 256 → b ≤ a → a < b′ → stored s 2056 g (some a) ≡ false) → Adds 1028 s t (Rows b In Cells s (some g)) → Adds 1028 s t (Rows b′ In Cells s (some g))
     wider t b b′ l f a =
-        gains-as s t (λ k. ltb k b && In k) (λ k. ltb k b′ && In k) (below w) (below w) (stored s 0) (some g) a
-        (λ k c hk hc. ap (λ (u : Bool). u && below w c)
+        gains-as s t (λ k. ltb k b && In k) (λ k. ltb k b′ && In k) Cells Cells (stored s 0) (some g) a
+        (λ k c hk hc. ap (λ (u : Bool). u && Cells c)
         (below-wider k b b′ (In k) l (λ h i. ap (λ (u : Bool). ltb k w && u) (f k hk h i) ∙ and-false (ltb k w))))
 
     pub bring-first : (n b : ℕ) → w ≤ 64 * n → NextBit s (2056 + 4 * g) n 0 b → Bringing s s w g b
     bring-first n b hn z =
         let same : (a : ℕ) → a < 256 → rowBit s (2056 + 4 * g) a ≡ stored s 2056 g (some a) = λ a h. row-bit s 2056 g a in
         record {
-          sofar = wider s 0 b (omega arith) (λ a h l i. sym (same a h) ∙ z .skipped a l i) (rows-none s w In (some g));
+          sofar = wider s 0 b (omega arith) (λ a h l i. sym (same a h) ∙ z .skipped a l i) (rows-none s Cells In (some g));
           next = λ h. sym (same b (omega arith)) ∙ z .found (omega arith);
         }
 
-    pub bring-more : (t u : List ℕ) (n b b′ : ℕ) → w ≤ 64 * n → b < w → Bringing s t w g b → Adds 1028 t u (gains x (λ a. eqb a b) (below w) (stored t 0) (some g))
+    pub bring-more : (t u : List ℕ) (n b b′ : ℕ) → w ≤ 64 * n → b < w → Bringing s t w g b → Adds 1028 t u (gains x (λ a. eqb a b) (cut (λ c. ltb c w)) (stored t 0) (some g))
         → NextBit u (2056 + 4 * g) n (b + 1) b′ → Bringing s u w g b′
     bring-more t u n b b′ hn hb f q z =
-        let one : Adds 1028 t u (One b In w t (some g)) = heard t u b w In (some g) (ap₂ _&&_ (lt-ltb b w hb) (f .next hb)) q in
-        let all : Adds 1028 s u (Rows (b + 1) In w s (some g)) = rows-more s t u b w In (some g) (f .sofar) one in
+        let one : Adds 1028 t u (One b In Cells t (some g)) = heard t u b Cells In (some g) (ap₂ _&&_ (lt-ltb b w hb) (f .next hb)) q in
+        let all : Adds 1028 s u (Rows (b + 1) In Cells s (some g)) = rows-more s t u b Cells In (some g) (f .sofar) one in
         record {
-          sofar = wider u (b + 1) b′ (z .onward) (λ a h l i. sym (row-same u (Rows (b + 1) In w s (some g)) all a h) ∙ z .skipped a l i) all;
-          next = λ h. sym (row-same u (Rows (b + 1) In w s (some g)) all b′ (omega arith)) ∙ z .found (omega arith);
+          sofar = wider u (b + 1) b′ (z .onward) (λ a h l i. sym (row-same u (Rows (b + 1) In Cells s (some g)) all a h) ∙ z .skipped a l i) all;
+          next = λ h. sym (row-same u (Rows (b + 1) In Cells s (some g)) all b′ (omega arith)) ∙ z .found (omega arith);
         }
 
-    pub bring-all : (t : List ℕ) (b : ℕ) → w ≤ b → Bringing s t w g b → Adds 1028 s t (gains x (inRow (stored s 2056) w g) (below w) (stored s 0) (some g))
+    pub bring-all : (t : List ℕ) (b : ℕ) → w ≤ b → Bringing s t w g b → Adds 1028 s t (gains x (inRow (stored s 2056) w g) (cut (λ c. ltb c w)) (stored s 0) (some g))
     bring-all t b h f =
-        gains-as s t (λ a. ltb a b && In a) In (below w) (below w) (stored s 0) (some g) (f .sofar)
-        (λ a c ha hc. ap (λ (u : Bool). u && below w c)
+        gains-as s t (λ a. ltb a b && In a) In Cells Cells (stored s 0) (some g) (f .sofar)
+        (λ a c ha hc. ap (λ (u : Bool). u && Cells c)
         (sym (and-assoc (ltb a b) (ltb a w) (stored s 2056 g (some a))) ∙ ap (λ (u : Bool). u && stored s 2056 g (some a)) (below-within a w b h)))
+
+    -- the rows, and then their ends
+    pub rows-end : (t u : List ℕ) (p : Option ℕ) → Adds 1028 s t (gains x In Cells (stored s 0) p)
+        → Adds 1028 t u (gains x (inRow (stored t 2056) w g) (λ y. eqNext y none) (stored t 0) p) → Adds 1028 s u (gains x In (below w) (stored s 0) p)
+    unfolding eqNext
+    rows-end t u p f e =
+        gains-join s t u In (inRow (stored t 2056) w g) In Cells (λ y. eqNext y none) (below w) p f e (λ b c hb hc. go b hb c)
+      where
+        same : (b : ℕ) → b < 256 → inRow (stored t 2056) w g b ≡ In b
+        same b hb = ap (λ (u : Bool). ltb b w && u) (adds-beyond 1028 s t (gains x In Cells (stored s 0) p) f 2056 g (some b) hg hb (omega arith))
+
+        go : (b : ℕ) → b < 256 → (c : Option ℕ) → ((In b && Cells c) || (inRow (stored t 2056) w g b && eqNext c none)) ≡ (In b && below w c)
+        go b hb none = ap₂ (λ (u v : Bool). u || (v && true)) (and-false (In b)) (same b hb)
+        go b hb (some c) = ap (λ (u : Bool). (In b && ltb c w) || u) (and-false (inRow (stored t 2056) w g b)) ∙ or-false (In b && ltb c w)
 
   -- ---- all rows of G
 

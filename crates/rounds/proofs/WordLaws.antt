@@ -77,7 +77,7 @@ abbrev pub LiveLanes : List ℕ → ℕ → ℕ → ℕ → ℕ → Type 0
 LiveLanes s b j v live = (i : ℕ) → i < 64 → bit i live ≡ (stored s 0 b (some (64 * j + i)) && ltb (64 * j + i) v)
 
 -- the lanes below v are the same in each word: all of them, or there is only one word
-low-lane : (v w j i : ℕ) → Wide v w → j < w → i < 64 → ltb (64 * 0 + i) v ≡ ltb (64 * j + i) v
+pub low-lane : (v w j i : ℕ) → Wide v w → j < w → i < 64 → ltb (64 * 0 + i) v ≡ ltb (64 * j + i) v
 low-lane v w j i h l g = go (ℕ-discrete w 1)
   where
     go : Dec (w ≡ 1) → ltb (64 * 0 + i) v ≡ ltb (64 * j + i) v

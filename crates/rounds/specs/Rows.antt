@@ -50,6 +50,10 @@ gains x B C L p b c = B b && (C c && (L b c && holds x p b c))
 abbrev pub NoneNew : Pairs → Pairs → ℕ → ℕ → Type 0
 NoneNew L S v b = (c : ℕ) → c < v → (L b (some c) && not (S b (some c))) ≡ false
 
+-- S has the end of every valuation below v of row g of G whose end L has
+abbrev pub NoEndNew : Pairs → Pairs → Pairs → ℕ → ℕ → Type 0
+NoEndNew L S G v g = (b : ℕ) → b < v → ((G g (some b) && L b none) && not (S b none)) ≡ false
+
 -- the valuations of a row that are below w
 abbrev pub inRow : Pairs → ℕ → ℕ → ℕ → Bool
 inRow G w a b = ltb b w && G a (some b)

@@ -14,7 +14,7 @@ ghost use Rattle.pairs.specs.Changes.{Adds, eqNext};
 ghost use Rattle.refusal.specs.Numbers.{verdictNo};
 ghost use Rattle.lanes.specs.Around.{room, Before, Seen};
 ghost use Rattle.lanes.specs.Coded.{Coded, sheetOf};
-ghost use Rattle.rounds.specs.Rows.{among, Wide, Earlier, below, cut, gains, NoneNew, inRow, brought, heardIn, grouped, Sparse};
+ghost use Rattle.rounds.specs.Rows.{among, Wide, Earlier, below, cut, gains, NoneNew, NoEndNew, inRow, brought, heardIn, grouped, Sparse};
 ghost use Rattle.rounds.specs.Round.{Rounded};
 ghost use Rattle.rounds.specs.Firsts.{Passing, Words, shows, Told};
 
@@ -257,6 +257,52 @@ fn group_rows(s: &mut [u64], groups: &mut [u64], v: usize, w: usize, letters: u6
     }
 }
 
+// Whether row g of the scratch set, w words of it, may have a valuation whose end is live and that the reached set lacks.
+fn is_end_new(s: &[u64], w: usize, g: usize) -> bool
+    requires { ⌜ (w ≤ 4) × (g < 256) × (3084 ≤ length (now s)) ⌝ }
+    ensures { λ r. ⌜ (r ≡ false → NoEndNew (stored (now (s .entry)) 0) (stored (now (s .entry)) 1028) (stored (now (s .entry)) 2056) (64 * w) g) ⌝ }
+{
+    let mut j: usize = 0;
+    while j < w {
+        if s[2056 + (4 * g + j)] & s[1024 + j] & !s[1028 + (1024 + j)] != 0 {
+            return true;
+        }
+        j += 1;
+    }
+    false
+}
+
+// The reached set gains (b, end) for the b of row g of the scratch set for which that is live and the equations hold with nothing after b.
+fn gain_ends(
+    s: &mut [u64],
+    st: &mut [u64],
+    code: &[u8],
+    len: &[usize],
+    m: usize,
+    n: usize,
+    before: u64,
+    g: usize,
+)
+    requires { ⌜ Coded m n (now code) (now len) ⌝ }
+    requires { ⌜ (room ((2 ^ (m + n) + 63) / 64) ≤ length (now st)) × (3084 ≤ length (now s)) × (g < 256) × Earlier before ⌝ }
+    ensures { λ r. ⌜ ((p : Option ℕ) → Before before p → (ks : List ℕ) → Adds 1028 (now (s .entry)) (now (s .exit)) (gains (sheetOf m n (now (code .entry)) (now (len .entry)) ks) (inRow (stored (now (s .entry)) 2056) (2 ^ (m + n)) g) (λ y. eqNext y none) (stored (now (s .entry)) 0) p)) ⌝ }
+{
+    let w = row_words(m, n);
+    if !is_end_new(s, w, g) {
+        return;
+    }
+    let low = words::lanes_below(valuations(m, n), 0);
+    let mut x = [0u64; 4];
+    lanes::enders(&mut x, st, w, code, len, m, n, before);
+    let mut j: usize = 0;
+    while j < w {
+        let live = s[1024 + j];
+        let heard = s[2056 + (4 * g + j)] & low;
+        pairs::insert_ends(s, 1028, j, live & heard & x[j]);
+        j += 1;
+    }
+}
+
 // The pairs that row g of the scratch set brings.
 fn bring_row(
     s: &mut [u64],
@@ -277,9 +323,11 @@ fn bring_row(
     let before = lanes::before(false, g);
     let mut b = pairs::next_bit(s, at, w, 0);
     while b < v {
-        gain(s, st, code, len, m, n, before, b);
+        let env = lanes::seen(before, b);
+        gain_row(s, st, code, len, m, n, env, b);
         b = pairs::next_bit(s, at, w, b + 1);
     }
+    gain_ends(s, st, code, len, m, n, before, g);
 }
 
 // The pairs that the scratch set brings; only rows of the groups have any, and st is room to work in.

@@ -13,7 +13,7 @@ use Rattle.lanes.proofs.four_equations.Lts as lts
 use Rattle.lanes.proofs.fill_row.Reads as fill-row-reads
 use Rattle.lanes.proofs.is_empty.Reads as is-empty-reads
 use Rattle.lanes.proofs.keep_row.Reads as keep-row-reads
-use Rattle.lanes.proofs.output_value.Reads as output-value-reads
+use Rattle.lanes.proofs.output_stream.Reads as output-stream-reads
 use Rattle.lanes.proofs.four_value.Reads as four-value-reads
 
 abbrev Inv-loop : tie.InvT-loop
@@ -59,8 +59,8 @@ four-value-requires c κs = (simp length-take (omega (arith, part-room _ _ _ _ (
 slice-aggregate-keep-row : tie.Need-slice-aggregate-keep-row Inv-loop μ-loop
 slice-aggregate-keep-row c = search needs
 
-output-value-requires : tie.Need-output-value-requires Inv-loop μ-loop
-output-value-requires c κs = search needs
+output-stream-requires : tie.Need-output-stream-requires Inv-loop μ-loop
+output-stream-requires c κs = search needs
 
 keep-row-requires : tie.Need-keep-row-requires Inv-loop μ-loop
 keep-row-requires c κs = search needs
@@ -76,7 +76,7 @@ same-length-2 c = search needs
 
 returns : tie.Need-returns Inv-loop μ-loop
 returns c = agree-stop _ _ _ _ _ _ _ _ _ (c .before .before .before .before .before .before .before .before .before .before .before .before .before .before .before .before .before .before .loop .k + 1) (omega arith)
-    (agree-more _ _ _ _ _ _ _ _ _ _ _ _ _ (c .before .before .before .before .before .before .before .before .before .before .before .before .before .before .before .before .before .before .before .before .before .before .before .before .before .before .before .pre .0) (c .before .before .before .before .before .before .before .before .before .before .before .before .before .before .before .before .before .loop-test .taken) (c .before .before .before .before .before .before .before .before .before .before .before .before .before .before .before .before .before .before .loop .inv .4) (c .before .before .before .before .before .before .before .before .before .before .before .before .four-value .ensures) (c .before .before .before .before .before .before .output-value .ensures) (c .before .before .before .before .before .keep-row .ensures))
+    (agree-more _ _ _ _ _ _ _ _ _ _ _ _ _ (c .before .before .before .before .before .before .before .before .before .before .before .before .before .before .before .before .before .before .before .before .before .before .before .before .before .before .before .pre .0) (c .before .before .before .before .before .before .before .before .before .before .before .before .before .before .before .before .before .loop-test .taken) (c .before .before .before .before .before .before .before .before .before .before .before .before .before .before .before .before .before .before .loop .inv .4) (c .before .before .before .before .before .before .before .before .before .before .before .before .four-value .ensures) (c .before .before .before .before .before .before .output-stream .ensures) (c .before .before .before .before .before .keep-row .ensures))
     (c .before .is-empty .ensures (c .if1 .taken))
 
 add-k : tie.Need-add-k Inv-loop μ-loop
@@ -86,7 +86,7 @@ loop-less : tie.Need-loop-less Inv-loop μ-loop
 loop-less c = search needs
 
 loop-again : tie.Need-loop-again Inv-loop μ-loop
-loop-again c = (omega arith, omega arith, omega arith, omega arith, agree-more _ _ _ _ _ _ _ _ _ _ _ _ _ (c .before .before .before .before .before .before .before .before .before .before .before .before .before .before .before .before .before .before .before .before .before .before .before .before .before .before .before .pre .0) (c .before .before .before .before .before .before .before .before .before .before .before .before .before .before .before .before .before .loop-test .taken) (c .before .before .before .before .before .before .before .before .before .before .before .before .before .before .before .before .before .before .loop .inv .4) (c .before .before .before .before .before .before .before .before .before .before .before .before .four-value .ensures) (c .before .before .before .before .before .before .output-value .ensures) (c .before .before .before .before .before .keep-row .ensures))
+loop-again c = (omega arith, omega arith, omega arith, omega arith, agree-more _ _ _ _ _ _ _ _ _ _ _ _ _ (c .before .before .before .before .before .before .before .before .before .before .before .before .before .before .before .before .before .before .before .before .before .before .before .before .before .before .before .pre .0) (c .before .before .before .before .before .before .before .before .before .before .before .before .before .before .before .before .before .loop-test .taken) (c .before .before .before .before .before .before .before .before .before .before .before .before .before .before .before .before .before .before .loop .inv .4) (c .before .before .before .before .before .before .before .before .before .before .before .before .four-value .ensures) (c .before .before .before .before .before .before .output-stream .ensures) (c .before .before .before .before .before .keep-row .ensures))
 
 same-length-3 : tie.Need-same-length-3 Inv-loop μ-loop
 same-length-3 c = search needs
@@ -115,7 +115,7 @@ four-equations-spec =
     part-four-value-end
     four-value-requires
     slice-aggregate-keep-row
-    output-value-requires
+    output-stream-requires
     keep-row-requires
     is-empty-requires
     same-length

@@ -1,23 +1,26 @@
 use mathlib.Core.Path.{_≡_, ap, ap₂, _∙_}
 use mathlib.Core.Bool.{Bool·beq, _&&_}
-use Prim.Native.Nat.{ℕ, _-_, _<_}
+use Prim.Native.Nat.{ℕ, _+_, _-_, _*_, _<_}
 use borrow.Author.Needs.{needs}
 use native.Mathlib.Omega.{arith}
 use lib.ListN.{getD}
 use Rattle.words.specs.Bits.{bit}
 use Rattle.words.proofs.BitLaws.{bit-and}
+use Rattle.lanes.specs.Around.{here}
 use Rattle.lanes.proofs.RowLaws.{Writing, writing-none, writing-more, writing-all}
 use Rattle.lanes.proofs.keep_row.Statement.{statement}
 use Rattle.lanes.proofs.keep_row.Tie as tie
 use Rattle.lanes.proofs.keep_row.Reads as reads
 use Rattle.lanes.proofs.keep_row.Lts as lts
-use Rattle.words.proofs.agree.Reads as agree-reads
+use Rattle.lanes.proofs.alike.Reads as alike-reads
+use Rattle.lanes.proofs.here_word.Reads as here-word-reads
 
 abbrev Inv-loop : tie.InvT-loop
-Inv-loop acc₀ w x v j₀ acc j = Writing (λ k z. (i : ℕ) → i < 64 → bit i z ≡ (bit i (getD acc₀ k 0) && Bool·beq (bit i (getD x k 0)) v)) acc₀ acc j
+Inv-loop acc₀ w x f b q j₀ acc j =
+    Writing (λ k z. (i : ℕ) → i < 64 → bit i z ≡ (bit i (getD acc₀ k 0) && Bool·beq (bit i (getD x k 0)) (bit q (here f b (64 * k + i))))) acc₀ acc j
 
 abbrev μ-loop : tie.MeasureT-loop
-μ-loop acc₀ w x v j₀ acc j = w - j
+μ-loop acc₀ w x f b q j₀ acc j = w - j
 
 loop-holds : tie.Need-loop-holds Inv-loop μ-loop
 loop-holds c = writing-none _ _ (c .before .before .pre .1)
@@ -28,14 +31,17 @@ mul-acc c = search needs
 slice-read-acc : tie.Need-slice-read-acc Inv-loop μ-loop
 slice-read-acc c = search needs
 
-mul-agree : tie.Need-mul-agree Inv-loop μ-loop
-mul-agree c = search needs
+mul-alike : tie.Need-mul-alike Inv-loop μ-loop
+mul-alike c = search needs
 
-shared-slice-read-agree : tie.Need-shared-slice-read-agree Inv-loop μ-loop
-shared-slice-read-agree c = search needs
+shared-slice-read-alike : tie.Need-shared-slice-read-alike Inv-loop μ-loop
+shared-slice-read-alike c = search needs
 
-agree-requires : tie.Need-agree-requires Inv-loop μ-loop
-agree-requires c κs = search needs
+here-word-requires : tie.Need-here-word-requires Inv-loop μ-loop
+here-word-requires c κs = search needs
+
+alike-requires : tie.Need-alike-requires Inv-loop μ-loop
+alike-requires c κs = search needs
 
 mul-acc-2 : tie.Need-mul-acc-2 Inv-loop μ-loop
 mul-acc-2 c = search needs
@@ -51,10 +57,11 @@ loop-less c = search needs
 
 loop-again : tie.Need-loop-again Inv-loop μ-loop
 loop-again c =
-    writing-more _ _ _ _ _ (c .before .before .before .before .loop .inv) (omega arith)
+    writing-more _ _ _ _ _ (c .before .before .before .before .before .loop .inv) (omega arith)
     (λ i h.
-    bit-and i (getD (c .before .before .before .before .loop .acc) (c .before .before .before .before .loop .j) 0) (c .agree .result)
-    ∙ ap₂ _&&_ (ap (bit i) (c .before .before .before .before .loop .inv .rest _ (omega arith))) (c .agree .ensures i h))
+    bit-and i (getD (c .before .before .before .before .before .loop .acc) (c .before .before .before .before .before .loop .j) 0) (c .alike .result)
+    ∙ ap₂ _&&_ (ap (bit i) (c .before .before .before .before .before .loop .inv .rest _ (omega arith)))
+    (c .alike .ensures i h ∙ ap (Bool·beq (bit i (getD (c .before .before .before .before .before .before .before .before .args .x .now) (c .before .before .before .before .before .loop .j) 0))) (c .before .here-word .ensures i h)))
 
 same-length : tie.Need-same-length Inv-loop μ-loop
 same-length c = search needs
@@ -71,9 +78,10 @@ keep-row-spec =
     loop-holds
     mul-acc
     slice-read-acc
-    mul-agree
-    shared-slice-read-agree
-    agree-requires
+    mul-alike
+    shared-slice-read-alike
+    here-word-requires
+    alike-requires
     mul-acc-2
     slice-write-acc
     add-j

@@ -8,7 +8,7 @@ use mathlib.Core.List.{List}
 use mathlib.Core.Option.{some}
 use Rattle.lanes.specs.Around.{unless}
 use Rattle.lanes.specs.Coded.{sheetOf}
-use Rattle.rounds.proofs.RowLaws.{Bringing, bring-first, bring-more, bring-all}
+use Rattle.rounds.proofs.RowLaws.{Bringing, bring-first, bring-more, bring-all, rows-end}
 use Rattle.rounds.proofs.bring_row.Statement.{statement}
 use Rattle.rounds.proofs.bring_row.Tie as tie
 
@@ -48,12 +48,17 @@ loop-holds c = (
   λ ks. bring-first _ _ _ _ (omega (arith, c .before .before .before .before .valuations .ensures)) (c .before .before .before .before .before .before .before .before .before .pre .1 .2) _ _ (c .before .before .before .row-words .ensures .under) (c .next-bit .ensures),
 )
 
-gain-requires : tie.Need-gain-requires Inv-loop μ-loop
+seen-requires : tie.Need-seen-requires Inv-loop μ-loop
 unfolding unless
-gain-requires c κs =
-    let q = c .before .before .before .before .before .before .before .before .before .before .before .before .before .pre in
-    let l = c .before .before .before .loop .inv in
-    (q .0, (omega (arith, l .2, q .1 .0), omega (arith, l .1, q .1 .1), omega (arith, c .before .before .before .before .before .before .before .before .valuations .ensures), record { round = some (c .before .before .before .before .before .before .before .before .before .before .before .before .before .args .g); reads = c .before .before .before .before .before .before .before2 .ensures }))
+seen-requires c κs =
+    let z = c .before .before .before .before .before2 .ensures in
+    (omega (arith, c .before .before .before .before .before .before .valuations .ensures), omega (arith, z .place, z .beside .small))
+
+gain-row-requires : tie.Need-gain-row-requires Inv-loop μ-loop
+gain-row-requires c κs =
+    let q = c .before .before .before .before .before .before .before .before .before .before .before .before .before .before .pre in
+    let l = c .before .before .before .before .loop .inv in
+    (q .0, (omega (arith, l .2, q .1 .0), omega (arith, l .1, q .1 .1), omega (arith, c .before .before .before .before .before .before .before .before .before .valuations .ensures)))
 
 add-next-bit : tie.Need-add-next-bit Inv-loop μ-loop
 add-next-bit c = search needs
@@ -67,12 +72,21 @@ loop-less c = omega (arith, c .next-bit2 .ensures .onward)
 loop-again : tie.Need-loop-again Inv-loop μ-loop
 unfolding unless
 loop-again c =
-    let v = c .before .before .before .before .before .before .before .before .before .before .before .before .before .before .before .valuations .ensures in (
+    let v = c .before .before .before .before .before .before .before .before .before .before .before .before .before .before .before .before .valuations .ensures in (
       c .next-bit2 .ensures .inside,
       omega arith,
       omega arith,
-      λ ks. bring-more _ _ _ _ (omega (arith, v)) (c .before .before .before .before .before .before .before .before .before .before .before .before .before .before .before .before .before .before .before .before .pre .1 .2) _ _ _ _ _ (c .before .before .before .before .before .before .before .before .before .before .before .before .before .before .row-words .ensures .under) (omega (arith, v)) (c .before .before .before .before .before .before .before .before .before .before .loop .inv .3 ks) (c .before .before .before .before .before .before .gain .ensures (some _) (c .before .before .before .before .before .before .before .before .before .before .before .before .before .before2 .ensures) ks) (c .next-bit2 .ensures),
+      λ ks.
+          bring-more _ _ _ _ (omega (arith, v)) (c .before .before .before .before .before .before .before .before .before .before .before .before .before .before .before .before .before .before .before .before .before .pre .1 .2) _ _ _ _ _ (c .before .before .before .before .before .before .before .before .before .before .before .before .before .before .before .row-words .ensures .under) (omega (arith, v)) (c .before .before .before .before .before .before .before .before .before .before .before .loop .inv .3 ks)
+          (c .before .before .before .before .before .before .gain-row .ensures (some _) (c .before .before .before .before .before .before .before .before .before .seen .ensures (some _) (c .before .before .before .before .before .before .before .before .before .before .before .before .before .before .before2 .ensures)) ks) (c .next-bit2 .ensures),
     )
+
+gain-ends-requires : tie.Need-gain-ends-requires Inv-loop μ-loop
+unfolding unless
+gain-ends-requires c κs =
+    let q = c .before .before .before .before .before .before .before .before .before .before .before .before .before .pre in
+    let l = c .before .before .before .loop .inv in
+    (q .0, (omega (arith, l .2, q .1 .0), omega (arith, l .1, q .1 .1), q .1 .2, record { round = some (c .before .before .before .before .before .before .before .before .before .before .before .before .before .args .g); reads = c .before .before .before .before .before .before .before2 .ensures }))
 
 same-length : tie.Need-same-length Inv-loop μ-loop
 same-length c = search needs
@@ -81,7 +95,11 @@ same-length-2 : tie.Need-same-length-2 Inv-loop μ-loop
 same-length-2 c = search needs
 
 returns : tie.Need-returns Inv-loop μ-loop
-returns c = λ ks. let v = c .before .before .before .before .before .before .valuations .ensures in bring-all _ _ _ _ (omega (arith, v)) (c .before .before .before .before .before .before .before .before .before .before .before .pre .1 .2) _ _ (omega (arith, v)) (c .before .loop .inv .3 ks)
+unfolding unless
+returns c = λ ks.
+    let v = c .before .before .before .before .before .before .before .before .before .before .before .before .before .valuations .ensures in
+    rows-end _ _ _ _ (omega (arith, v)) (c .before .before .before .before .before .before .before .before .before .before .before .before .before .before .before .before .before .before .pre .1 .2) _ _ (some _) (bring-all _ _ _ _ (omega (arith, v)) (c .before .before .before .before .before .before .before .before .before .before .before .before .before .before .before .before .before .before .pre .1 .2) _ _ (omega (arith, v)) (c .before .before .before .before .before .before .before .before .loop .inv .3 ks))
+    (c .before .before .before .before .gain-ends .ensures (some _) (c .before .before .before .before .before .before .before .before .before .before .before .before2 .ensures) ks)
 
 pub bring-row-spec : {M : Type 1} → statement M
 bring-row-spec =
@@ -96,11 +114,13 @@ bring-row-spec =
     before-requires
     next-bit-requires
     loop-holds
-    gain-requires
+    seen-requires
+    gain-row-requires
     add-next-bit
     next-bit-requires-2
     loop-less
     loop-again
+    gain-ends-requires
     same-length
     same-length-2
     returns)

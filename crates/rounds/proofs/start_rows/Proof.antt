@@ -60,7 +60,7 @@ same-length-2 : tie.Need-same-length-2 Inv-loop μ-loop
 same-length-2 c = search needs
 
 returns : tie.Need-returns Inv-loop μ-loop
-returns c = λ ks. rows-all _ _ _ _ _ _ _ _ (c .before .loop .inv .0) (c .loop-test .left) (c .before .before .before .valuations .ensures .0) (c .before .loop .inv .3 ks)
+returns c = λ ks. rows-all _ _ _ _ _ _ _ _ _ (c .before .loop .inv .0) (c .loop-test .left) (c .before .before .before .valuations .ensures .0) (c .before .loop .inv .3 ks)
 
 pub start-rows-spec : {M : Type 1} → statement M
 start-rows-spec =

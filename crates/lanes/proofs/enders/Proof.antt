@@ -1,0 +1,30 @@
+use mathlib.Core.Path.{_∙_}
+use Prim.Native.Nat.{_+_, _*_}
+use borrow.Author.Needs.{needs}
+use Rattle.lanes.proofs.AroundLaws.{seen-alone, ender-look}
+use Rattle.lanes.proofs.CodeLaws.{look-holds}
+use Rattle.lanes.proofs.enders.Statement.{statement}
+use Rattle.lanes.proofs.enders.Tie as tie
+use Rattle.lanes.proofs.enders.Reads as reads
+use Rattle.lanes.proofs.enders.Lts as lts
+use Rattle.lanes.proofs.equations_row.Reads as equations-row-reads
+
+add-equations-row : tie.Need-add-equations-row
+add-equations-row c = search needs
+
+equations-row-requires : tie.Need-equations-row-requires
+equations-row-requires c κs = search needs
+
+same-length : tie.Need-same-length
+same-length c = search needs
+
+same-length-2 : tie.Need-same-length-2
+same-length-2 c = search needs
+
+returns : tie.Need-returns
+returns c = λ p h ks j i g l.
+    c .before .before .before .before .equations-row .ensures .lanes j i g l ∙ look-holds _ _ _ _ (c .before .before .before .before .before .before .before .before .before .before .before .pre .0) _ _ _ _ (ender-look _ p 0 (seen-alone _ p h) (64 * j + i)) ks
+
+pub enders-spec : {M : Type 1} → statement M
+enders-spec =
+    tie.close (tie.spec add-equations-row equations-row-requires same-length same-length-2 returns)

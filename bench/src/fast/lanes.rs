@@ -47,23 +47,20 @@ pub fn value(expression: &[u8], reads: u64) -> u64 {
     stack & 1
 }
 
-/// Whether all equations hold at b.
-pub fn hold(sheet: &Sheet, reads: u64, b: usize) -> bool {
-    let outputs = (b >> sheet.inputs) as u64;
-    sheet.expressions().iter().enumerate().all(|(k, expression)| value(expression, reads) == outputs >> k & 1)
-}
-
-/// The family of reads that varies by lane: 5 for one round earlier, 6 for one round later.
+/// The family of reads that varies by lane: 4 for the round itself, 5 for one round earlier, 6 for
+/// one round later.
+pub const NOW: u8 = 4;
 pub const EARLIER: u8 = 5;
 pub const LATER: u8 = 6;
 
-/// The lanes in which all equations hold at b.
+/// The lanes in which all equations hold at b, or at the lane's own valuation.
 pub fn equations<const W: usize, const VARYING: u8>(sheet: &Sheet, reads: u64, b: usize) -> [u64; W] {
     let mut held = [u64::MAX; W];
     for (k, expression) in sheet.expressions().iter().enumerate() {
         let found = values::<W, VARYING>(expression, reads);
-        let negate = spread((!b >> (sheet.inputs + k)) as u64);
-        held = from_fn(|j| held[j] & (found[j] ^ negate));
+        let output = sheet.inputs + k;
+        let own = if VARYING == NOW { stream::<W>(output) } else { [spread((b >> output) as u64); W] };
+        held = from_fn(|j| held[j] & !(found[j] ^ own[j]));
         if held == [0; W] {
             break;
         }

@@ -1,6 +1,6 @@
 //! Sets of pairs in the layout of the storage, and the two searches on them.
 
-use super::lanes::{below, equations, hold, reads, stream, EARLIER, LATER};
+use super::lanes::{below, equations, reads, stream, EARLIER, LATER, NOW};
 use super::sheet::Sheet;
 use std::array::from_fn;
 
@@ -143,7 +143,7 @@ fn step_in<const W: usize>(
     if first {
         clear_rows(reached, size);
         let earlier = reads(0, None, None);
-        each_lane(heard, |b| gain::<W>(sheet, live, reached, earlier, b));
+        gain::<W>(sheet, live, reached, earlier, heard);
     } else {
         let mask = sheet.earlier;
         (0..size).for_each(|a| join_row(scratch, a & mask, row::<W>(reached, a)));
@@ -152,7 +152,7 @@ fn step_in<const W: usize>(
         loop {
             let joined = take_row::<W>(scratch, group);
             let earlier = reads(0, Some(group), None);
-            each_lane(and(joined, heard), |b| gain::<W>(sheet, live, reached, earlier, b));
+            gain::<W>(sheet, live, reached, earlier, and(joined, heard));
             group = group.wrapping_sub(mask) & mask;
             if group == 0 {
                 break;
@@ -174,17 +174,23 @@ fn heard<const W: usize>(inputs: usize, letters: u64) -> [u64; W] {
     [word; W]
 }
 
-/// Row b of the reached set gains what is live and may follow b, `earlier` being the reads of the
-/// round before.
-fn gain<const W: usize>(sheet: &Sheet, live: &Set, reached: &mut Set, earlier: u64, b: usize) {
-    let reads = earlier | b as u64;
+/// The reached set gains what is live and may follow the valuations of a row, `earlier` being the
+/// reads of the round before.
+fn gain<const W: usize>(sheet: &Sheet, live: &Set, reached: &mut Set, earlier: u64, valuations: [u64; W]) {
+    each_lane(valuations, |b| gain_row::<W>(sheet, live, reached, earlier, b));
+    let lacking: [u64; W] = from_fn(|j| valuations[j] & live[ENDS + j] & !reached[ENDS + j]);
+    if lacking != [0; W] {
+        let held = equations::<W, NOW>(sheet, earlier, 0);
+        (0..W).for_each(|j| reached[ENDS + j] |= lacking[j] & held[j]);
+    }
+}
+
+/// Row b of the reached set gains the valuations that are live and may follow b.
+fn gain_row<const W: usize>(sheet: &Sheet, live: &Set, reached: &mut Set, earlier: u64, b: usize) {
     let may_follow = and(row::<W>(live, b), below(sheet.size()));
     if exceeds(may_follow, row(reached, b)) {
-        let held = equations::<W, LATER>(sheet, reads, b);
+        let held = equations::<W, LATER>(sheet, earlier | b as u64, b);
         join_row(reached, b, and(may_follow, held));
-    }
-    if has_end(live, b) && !has_end(reached, b) && hold(sheet, reads, b) {
-        reached[ENDS + b / 64] |= 1 << (b % 64);
     }
 }
 

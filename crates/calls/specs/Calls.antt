@@ -34,8 +34,8 @@ abbrev pub ExportedStep : List ℕ → HeldSlices → Call → Reply → HeldSli
 ExportedStep bs h (round known val) y k = RoundAs bs (h .storage) (k .storage) known val (slicesOf h y k) (y .number)
 ExportedStep bs h closing y k = (k .storage ≡ h .storage) × ClosedAs bs (h .storage) (slicesOf h y k) (y .number)
 
--- A list of calls (01, "Completions and verdicts": "Each is handed the record and storage the call before left"). Each is also handed an answer
--- slice of at least 16 numbers, whatever they are. The record's slice has 30 numbers from the preparation on, so no call returns 255.
+-- A list of calls (01, "Completions and verdicts"): each gets the storage and the record's numbers from the one before it, and an answer slice
+-- of at least 16 numbers, whatever they are. The record's slice has 30 numbers from the preparation on, so no call returns 255.
 pub data ExportedRun (bs : List ℕ) : HeldSlices → List Call → List Reply → HeldSlices → Type 0 where
   finish : {h : HeldSlices} → ExportedRun bs h [] [] h
   next : {h h₁ h₂ : HeldSlices} {c : Call} {y : Reply} {cs : List Call} {ys : List Reply}
@@ -43,8 +43,8 @@ pub data ExportedRun (bs : List ℕ) : HeldSlices → List Call → List Reply �
       → ExportedRun bs h (c ∷ cs) (y ∷ ys) h₂
 
 -- The book's answer as the caller sees it, for a sheet of n outputs. Refused: the refusal's number, which is not 0, and the answer slice is as it
--- was (01, "What is turned down": "A refusal returns only its number"). Accepted: 0; a round's slice begins with the n verdicts by their
--- numbers, a closing's with these and then the n shares, and what stands behind is as it was.
+-- was (01, "What is turned down"). Accepted: 0; a round's slice begins with the n verdicts by their numbers, a closing's with these and then the n
+-- shares, and what stands behind is as it was.
 abbrev pub Shows : ℕ → Answer → Reply → Type 0
 Shows n (refused e) y = (y .number ≡ refusalNo e) × (0 < y .number) × (y .after ≡ y .before)
 Shows n (verdicts vs) y = (y .number ≡ 0) × (take n (y .after) ≡ map verdictNo vs) × (drop n (y .after) ≡ drop n (y .before))

@@ -11,7 +11,6 @@ use Rattle.words.proofs.JoinLaws.{bit-low, bit-above}
 use Rattle.sheet.specs.declared.Offset.{Offset}
 use Rattle.sheet.specs.declared.Offset.the-variants.{Earlier, Now, Later}
 use Rattle.lola.specs.Value.{near, neighbours}
-use Rattle.lola.specs.Slots.{slots}
 use Rattle.lanes.specs.Around.{slot, readAt, laneLook, Beside, Before, Seen, Ahead, unless}
 
 -- ---- the word
@@ -94,7 +93,7 @@ ahead-look env b c s v q Earlier true l = own-stream env 1 v (24 + q) q (omega a
 ahead-look env b c s v q Later false l = shared-read env 1 v (32 + q) (λ e. omega arith) ∙ s .unset q l
 ahead-look env b c s v q Later true l = shared-read env 1 v (40 + q) (λ e. omega arith) ∙ s .set q l
 
--- with nothing after it
+-- the round itself, with nothing after it
 module _ (env : ℕ) (p : Option ℕ) (b : ℕ) (s : Seen env p b) where
   low : (k : ℕ) → k < 32 → bit k (env + 0xff00_0000_0000) ≡ bit k env
   low k l = bit-low 32 k env 0xff00 l (s .small)
@@ -102,19 +101,10 @@ module _ (env : ℕ) (p : Option ℕ) (b : ℕ) (s : Seen env p b) where
   high : (k q : ℕ) → k ≡ 32 + q → bit k (env + 0xff00_0000_0000) ≡ bit q 0xff00
   high k q e = ap (λ (i : ℕ). bit i (env + 0xff00_0000_0000)) e ∙ bit-above 32 q env 0xff00 (s .small)
 
-  pub end-look : (q : ℕ) (o : Offset) (d : Bool) → q < 8 → slots (env + 0xff00_0000_0000) q o d ≡ neighbours p b none q o d
-  unfolding slots near
-  end-look q Now d l = low q (omega arith) ∙ s .here q l
-  end-look q Earlier false l = low (16 + q) (omega arith) ∙ s .unset q l
-  end-look q Earlier true l = low (24 + q) (omega arith) ∙ s .set q l
-  end-look q Later false l = high (32 + q) q refl ∙ bit-low 8 q 0 255 l (omega arith) ∙ bit-none q
-  end-look q Later true l = high (40 + q) (8 + q) (omega arith) ∙ bit-above 8 q 0 255 (omega arith) ∙ bit-all 8 q l
-
-  -- the same where the lanes are the round itself
   pub ender-look : (v q : ℕ) (o : Offset) (d : Bool) → q < 8 → laneLook (env + 0xff00_0000_0000) 0 v q o d ≡ neighbours p v none q o d
-  unfolding slot slots
+  unfolding slot near
   ender-look v q Now d l = own-stream (env + 0xff00_0000_0000) 0 v q q (omega arith) (omega arith)
-  ender-look v q Earlier false l = shared-read (env + 0xff00_0000_0000) 0 v (16 + q) (λ e. omega arith) ∙ end-look q Earlier false l
-  ender-look v q Earlier true l = shared-read (env + 0xff00_0000_0000) 0 v (24 + q) (λ e. omega arith) ∙ end-look q Earlier true l
-  ender-look v q Later false l = shared-read (env + 0xff00_0000_0000) 0 v (32 + q) (λ e. omega arith) ∙ end-look q Later false l
-  ender-look v q Later true l = shared-read (env + 0xff00_0000_0000) 0 v (40 + q) (λ e. omega arith) ∙ end-look q Later true l
+  ender-look v q Earlier false l = shared-read (env + 0xff00_0000_0000) 0 v (16 + q) (λ e. omega arith) ∙ low (16 + q) (omega arith) ∙ s .unset q l
+  ender-look v q Earlier true l = shared-read (env + 0xff00_0000_0000) 0 v (24 + q) (λ e. omega arith) ∙ low (24 + q) (omega arith) ∙ s .set q l
+  ender-look v q Later false l = shared-read (env + 0xff00_0000_0000) 0 v (32 + q) (λ e. omega arith) ∙ high (32 + q) q refl ∙ bit-low 8 q 0 255 l (omega arith) ∙ bit-none q
+  ender-look v q Later true l = shared-read (env + 0xff00_0000_0000) 0 v (40 + q) (λ e. omega arith) ∙ high (40 + q) (8 + q) (omega arith) ∙ bit-above 8 q 0 255 (omega arith) ∙ bit-all 8 q l

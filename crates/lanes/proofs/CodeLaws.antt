@@ -1,6 +1,6 @@
 -- Laws of the expressions of a coded sheet and of its equations. Assumes nothing.
 use mathlib.Core.Path.{_≡_, refl, sym, ap, ap₂, _∙_}
-use mathlib.Core.Bool.{Bool, true, false, not, _&&_, Bool·beq}
+use mathlib.Core.Bool.{Bool, true, false, _&&_, Bool·beq}
 use mathlib.Core.List.{List, [], _∷_, _++_}
 use mathlib.Core.Option.{Option}
 use Prim.Native.Nat.{ℕ, zero, suc, _+_, _-_, _*_, _≤_, _<_}
@@ -61,15 +61,6 @@ module _ (look : Look) (s : ℕ) (code len : List ℕ) (q v : ℕ) where
       → (u && w) ≡ firstAgreed (k + 1)
   agreed-more k u w e f =
       ap₂ _&&_ e (f ∙ beq-comm (value look (treeOf (parse s [] (codeAt code len k)))) (bit (q + k) v)) ∙ sym (agreed-suc k) ∙ ap firstAgreed (sym (add-one k))
-
-  -- one more, by a test of the code
-  pub agreed-next : (k : ℕ) (x y t : Bool) → firstAgreed k ≡ true → x ≡ value look (treeOf (parse s [] (codeAt code len k))) → y ≡ bit (q + k) v
-      → not (Bool·beq x y) ≡ t → firstAgreed (k + 1) ≡ not t
-  agreed-next k x y t e f g h = sym (agreed-more k true (Bool·beq x y) (sym e) (ap₂ Bool·beq f g)) ∙ twice (Bool·beq x y) ∙ ap not h
-    where
-      twice : (u : Bool) → u ≡ not (not u)
-      twice true = refl
-      twice false = refl
 
   -- an equation that fails is enough
   agreed-fails : (k d : ℕ) → firstAgreed k ≡ false → firstAgreed (k + d) ≡ false

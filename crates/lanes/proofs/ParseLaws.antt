@@ -20,7 +20,6 @@ use Rattle.refusal.specs.declared.Refusal.{Refusal}
 use Rattle.refusal.specs.declared.Refusal.the-variants.{Byte, Values}
 use Rattle.lola.specs.Value.{Look, value}
 use Rattle.lanes.specs.Machine.{negTop, andTop, orTop, stepped}
-use Rattle.words.proofs.BitLaws.{bit-none}
 use Rattle.lanes.specs.Around.{slot, readAt, laneLook, below, laneStack, Stepped}
 use Rattle.lanes.proofs.StackLaws.{byte-read, byte-const, byte-not, byte-and, byte-or}
 

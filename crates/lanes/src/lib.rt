@@ -9,13 +9,10 @@ ghost use lib.Bits.{bitAnd, bitOr};
 ghost use lib.ListN.{length, getD};
 ghost use Rattle.words.specs.Bits.{bit};
 ghost use Rattle.sheet.specs.Expression.{Expr, parse, tree};
-ghost use Rattle.sheet.specs.Reading.{treesOf};
-ghost use Rattle.lola.specs.Value.{value};
-ghost use Rattle.lola.specs.Slots.{slots};
 ghost use Rattle.lola.specs.Reads.{hasRead};
 ghost use Rattle.lola.specs.Equations.{holds};
-ghost use Rattle.lanes.specs.Around.{readAt, laneLook, Stepped, Filled, Stored, room, here, Beside, Before, Seen, Ahead, unless, earlierByte};
-ghost use Rattle.lanes.specs.Coded.{Coded, sheetOf, agreed, Values, Agree};
+ghost use Rattle.lanes.specs.Around.{readAt, Stepped, Filled, Stored, room, here, Beside, Before, Seen, Ahead, unless, earlierByte};
+ghost use Rattle.lanes.specs.Coded.{Coded, sheetOf, Values, Agree};
 use sheet::OutputNo;
 
 // The families of reads that may be of the lane's valuation.
@@ -209,15 +206,6 @@ pub fn output_stream(m: usize, k: usize) -> usize
     q.0 as usize
 }
 
-// The value of output k in the valuation b.
-fn output_value(b: usize, m: usize, k: usize) -> bool
-    requires { ⌜ m + k ≤ 8 ⌝ }
-    ensures { λ r. ⌜ r ≡ bit (m + k) b ⌝ }
-{
-    let q = output_stream(m, k);
-    (b >> q) % 2 == 1
-}
-
 // Stream q of the round itself in the lanes of the valuations from 64 * j on: of b, or of the lane's own valuation where that is the round's.
 fn here_word(f: u8, b: usize, q: usize, j: usize) -> u64
     requires { ⌜ (q < 8) × (j < 4) ⌝ }
@@ -348,24 +336,6 @@ fn equations_row(
     four_equations(acc, st, env, f, code, len, m, n, b);
 }
 
-// Whether they have, where all reads are those of the word.
-fn equations_bit(env: u64, code: &[u8], len: &[usize], m: usize, n: usize, b: usize) -> bool
-    requires { ⌜ Coded m n (now code) (now len) ⌝ }
-    ensures { λ r. ⌜ r ≡ agreed (slots env) (treesOf (m + n) (now (code .entry)) (now (len .entry)) n) m b ⌝ }
-{
-    let mut k: usize = 0;
-    while k < n {
-        let from = 64 * k;
-        let to = from + len[k];
-        let x = lola::value_bit(env, &code[from..to]);
-        if x != output_value(b, m, k) {
-            return false;
-        }
-        k += 1;
-    }
-    true
-}
-
 // ---- The reads of a round
 
 // The streams of a neighbouring round, twice, or the defaults where there is no such round.
@@ -423,15 +393,6 @@ pub fn successors(
     ensures { λ r. ⌜ ((p : Option ℕ) → Seen env p b → (ks : List ℕ) (j i : ℕ) → j < w → i < 64 → bit i (getD (now (row .exit)) j 0) ≡ holds (sheetOf m n (now (code .entry)) (now (len .entry)) ks) p b (some (64 * j + i))) ⌝ }
 {
     equations_row(row, st, w, env, LATER, code, len, m, n, b);
-}
-
-// Whether the equations hold at b with nothing after it.
-pub fn holds_at_end(code: &[u8], len: &[usize], m: usize, n: usize, env: u64, b: usize) -> bool
-    requires { ⌜ Coded m n (now code) (now len) ⌝ }
-    requires { ⌜ env < 4294967296 ⌝ }
-    ensures { λ r. ⌜ ((p : Option ℕ) → Seen env p b → (ks : List ℕ) → r ≡ holds (sheetOf m n (now (code .entry)) (now (len .entry)) ks) p b none) ⌝ }
-{
-    equations_bit(env + 0xff00_0000_0000, code, len, m, n, b)
 }
 
 // The lanes i of the w words j in which the equations hold at 64 * j + i with nothing after it, after the round whose reads are `before`.

@@ -4,15 +4,15 @@ use mathlib.Core.Bool.{Bool, true, false, not, _&&_, _||_}
 use mathlib.Core.List.{List, []}
 use Prim.Native.Nat.{ℕ, _+_, _-_, _*_, _/_, _%_, _^_, _≤_, _<_}
 use native.Mathlib.Omega.{arith}
-use native.Mathlib.Decide.{ℕ-discrete, decLt}
-use borrow.Author.Tests.{eq-eqb, lt-ltb, le-ltb}
+use native.Mathlib.Decide.{ℕ-discrete}
+use borrow.Author.Tests.{eq-eqb, lt-ltb}
 use lib.Bits.{bitAnd}
 use lib.Dec.{ltb}
 use lib.ListN.{length, getD, set, length-set}
 use lib.Pow.{pow-pos, pow-mono, pow-lt}
 use lib.Seq.{getD-set-same, getD-set-other}
 use Rattle.words.specs.Bits.{bit}
-use Rattle.words.proofs.BitLaws.{bit-all, bit-and, bit-not, bit-none, bit-high, one-shl, bit-shl}
+use Rattle.words.proofs.BitLaws.{bit-and, bit-not, bit-none, one-shl, bit-shl}
 use Rattle.sheet.specs.RuleSheet.{requiredOf}
 use Rattle.sheet.specs.Reading.{Below}
 use Rattle.sheet.specs.declared.OutputNo.{OutputNo}

@@ -18,7 +18,7 @@ use Rattle.completions.specs.Live.{Pairs}
 use Rattle.pairs.specs.Storage.{stored}
 use Rattle.pairs.specs.Changes.{eqNext, inWord, Adds}
 use Rattle.pairs.proofs.Bools.{and-true, and-false, or-false}
-use Rattle.pairs.proofs.Sets.{adds-none, adds-as, adds-before, adds-beyond, lane, lane-end}
+use Rattle.pairs.proofs.Sets.{adds-none, adds-as, adds-beyond, lane, lane-end}
 use Rattle.rounds.specs.Rows.{Wide, gains, NoEndNew, inRow}
 use Rattle.rounds.proofs.Bools.{merge-both, words-one, below-none, below-within}
 use Rattle.rounds.proofs.WordLaws.{low-lane}

@@ -1,5 +1,5 @@
 -- A round. Assumes nothing.
-use mathlib.Core.Path.{_≡_, refl, sym, ap, ap₂, _∙_}
+use mathlib.Core.Path.{_≡_, refl, sym, ap, ap₂, _∙_, subst}
 use mathlib.Core.Bool.{Bool, true, false, cond, _&&_, _||_}
 use mathlib.Core.List.{List}
 use mathlib.Core.Option.{Option, none, some}
@@ -10,20 +10,22 @@ use borrow.Author.Tests.{eq-eqb, ne-eqb, eqb-true, lt-ltb, le-ltb, ltb-false}
 use lib.Bits.{bitAnd, and-le-l}
 use lib.Dec.{eqb, ltb}
 use lib.Pow.{pow-pos, pow-mono}
+use Rattle.words.specs.Bits.{bit}
 use Rattle.words.specs.Below.{anyBelow}
-use Rattle.words.proofs.BitLaws.{one-shl}
+use Rattle.words.proofs.BitLaws.{bit-and, one-shl}
 use Rattle.words.proofs.AnyLaws.{any-cong, none-any, some-any}
 use Rattle.sheet.specs.RuleSheet.{RuleSheet}
 use Rattle.lola.specs.Equations.{holds}
 use Rattle.completions.specs.Live.{Pairs}
 use Rattle.completions.specs.Steps.{Within, startSet, stepSet}
 use Rattle.pairs.specs.Storage.{stored, used}
-use Rattle.pairs.specs.Changes.{Adds, RowsCleared}
+use Rattle.pairs.specs.Changes.{inWord, Adds, RowsCleared}
 use Rattle.pairs.proofs.Bools.{and-true, and-false, or-false, iff}
-use Rattle.pairs.proofs.Sets.{rows-before, rows-beyond, used-below, unused, adds-before, adds-beyond}
-use Rattle.rounds.specs.Rows.{Wide, below, gains, brought, heardIn, grouped, Sparse}
+use Rattle.pairs.proofs.Sets.{rows-before, rows-beyond, used-below, unused, adds-none, adds-then, adds-before, adds-beyond}
+use Rattle.rounds.specs.Rows.{among, Wide, below, cut, gains, inRow, heardFirst, brought, heardIn, grouped, Sparse}
 use Rattle.rounds.specs.Round.{Rounded}
-use Rattle.rounds.proofs.Bools.{and-split, found}
+use Rattle.rounds.proofs.Bools.{merge-under, words-one, below-none, and-split, found}
+use Rattle.rounds.proofs.WordLaws.{heard-lane}
 
 pub two-to : (k : ℕ) → k ≤ 8 → (1 * 2 ^ k % 2 ^ 64 ≡ 2 ^ k) × (1 * 2 ^ k % 2 ^ 64 ≤ 256)
 two-to k h = let g : 2 ^ k ≤ 256 = pow-mono h in (one-shl k (omega arith), omega (arith, one-shl k (omega arith)))
@@ -53,37 +55,122 @@ gained : (u p l : Bool) → (u ≡ false → p ≡ false) → (cond u false l ||
 gained true p l f = refl
 gained false p l f = ap (λ (z : Bool). l || z) (f refl) ∙ or-false l
 
+-- ---- the steps of a round: cleared scratch, the set G put there, cleared reached, the pairs P brought, cleared scratch
+
+both-cleared : (u p l : Bool) → (u ≡ false → p ≡ false) → cond u false (cond u false l || p) ≡ cond u false l
+both-cleared true p l f = refl
+both-cleared false p l f = ap (λ (z : Bool). l || z) (f refl) ∙ or-false l
+
+module _ (w v : ℕ) (is : v ≡ w) (s s₁ s₂ s₃ s₄ s₅ : List ℕ) (G P R : Pairs) (a : RowsCleared 2056 v s s₁) (b : Adds 2056 s₁ s₂ G) (c : RowsCleared 1028 v s₂ s₃)
+    (d : Adds 1028 s₃ s₄ P) (e : RowsCleared 2056 v s₄ s₅) where
+  pub live-same : (k : ℕ) (y : Option ℕ) → k < 256 → Within 256 y → stored s₃ 0 k y ≡ stored s 0 k y
+  live-same k y hk hy =
+      rows-before 1028 v s₂ s₃ c 0 k y hk hy (omega arith) ∙ adds-before 2056 s₁ s₂ G b 0 k y hk hy (omega arith) ∙ rows-before 2056 v s s₁ a 0 k y hk hy (omega arith)
+
+  -- in the words in use, the scratch set is what was put there
+  pub put-is : (g k : ℕ) → g < w → g < 256 → k < 256 → stored s₃ 2056 g (some k) ≡ G g (some k)
+  put-is g k l hg hk =
+      rows-beyond 1028 v s₂ s₃ c 2056 g (some k) hg hk (omega arith)
+      ∙ b .adds g (some k) hg hk
+      ∙ ap (λ (u : Bool). u || G g (some k))
+      (a .emptied g (some k) hg hk ∙ ap (λ (u : Bool). cond u false (stored s 2056 g (some k))) (used-below v g (some k) (omega arith)))
+
+  pub steps-rounded : ((k : ℕ) (y : Option ℕ) → v ≤ k → G k y ≡ false) → ((k : ℕ) (y : Option ℕ) → k < 256 → Within 256 y → P k y ≡ (ltb k w && (below w y && R k y)))
+      → Rounded w s s₅ R
+  steps-rounded low brings = record {
+    same-length = e .same-length ∙ d .same-length ∙ c .same-length ∙ b .same-length ∙ a .same-length;
+    live = λ k h. e .before k (omega arith) ∙ d .before k h ∙ c .before k h ∙ b .before k (omega arith) ∙ a .before k (omega arith);
+    beyond = λ k h. e .beyond k h ∙ d .beyond k (omega arith) ∙ c .beyond k (omega arith) ∙ b .beyond k h ∙ a .beyond k h;
+    reached = λ k y hk hy.
+        rows-before 2056 v s₄ s₅ e 1028 k y hk hy (omega arith)
+        ∙ d .adds k y hk hy
+        ∙ ap₂ _||_
+        (c .emptied k y hk hy
+        ∙ ap₂ (λ (z : ℕ) (l : Bool). cond (used z k y) false l) is (adds-before 2056 s₁ s₂ G b 1028 k y hk hy (omega arith) ∙ rows-before 2056 v s s₁ a 1028 k y hk hy (omega arith)))
+        (brings k y hk hy)
+        ∙ gained (used w k y) (ltb k w && (below w y && R k y)) (stored s 1028 k y) (λ q. ap (λ (u : Bool). u && (below w y && R k y)) (unused w k y q));
+    scratch = λ k y hk hy.
+        e .emptied k y hk hy
+        ∙ ap (cond (used v k y) false)
+        (adds-beyond 1028 s₃ s₄ P d 2056 k y hk hy (omega arith)
+        ∙ rows-beyond 1028 v s₂ s₃ c 2056 k y hk hy (omega arith)
+        ∙ b .adds k y hk hy
+        ∙ ap (λ (l : Bool). l || G k y) (a .emptied k y hk hy))
+        ∙ both-cleared (used v k y) (G k y) (stored s 2056 k y) (λ q. low k y (ltb-false k v (unused v k y q)))
+        ∙ ap (λ (z : ℕ). cond (used z k y) false (stored s 2056 k y)) is;
+  }
+
 -- ---- the first round
 
-abbrev Started : RuleSheet → ℕ → (ℕ → Bool) → List ℕ → Pairs
-Started x w r s = gains x (λ a. ltb a w && r a) (below w) (stored s 0) none
-
-pub rounded-first : (x : RuleSheet) (w n : ℕ) (r : ℕ → Bool) (s t u v : List ℕ) → n ≡ w → RowsCleared 1028 n s t → Adds 1028 t u (Started x w r t) → RowsCleared 2056 n u v
-    → Rounded w s v (startSet x (stored s 0) r)
-unfolding gains startSet
-rounded-first x w n r s t u v is c a d = record {
-  same-length = d .same-length ∙ a .same-length ∙ c .same-length;
-  live = λ k h. d .before k (omega arith) ∙ a .before k h ∙ c .before k h;
-  beyond = λ k h. d .beyond k h ∙ a .beyond k (omega arith) ∙ c .beyond k (omega arith);
-  reached = λ b y hb hy.
-      rows-before 2056 n u v d 1028 b y hb hy (omega arith)
-      ∙ a .adds b y hb hy
-      ∙ ap₂ (λ (o l : Bool). o || ((ltb b w && r b) && (below w y && (l && holds x none b y)))) (c .emptied b y hb hy) (rows-before 1028 n s t c 0 b y hb hy (omega arith))
-      ∙ ap₂ (λ (z : ℕ) (p : Bool). cond (used z b y) false (stored s 1028 b y) || p) is (order (ltb b w) (r b) (below w y) (stored s 0 b y) (holds x none b y))
-      ∙ gained (used w b y) (ltb b w && (below w y && (stored s 0 b y && (r b && holds x none b y)))) (stored s 1028 b y)
-      (λ e. ap (λ (z : Bool). z && (below w y && (stored s 0 b y && (r b && holds x none b y)))) (unused w b y e));
-  scratch = λ b y hb hy.
-      d .emptied b y hb hy
-      ∙ ap₂ (λ (z : ℕ) (l : Bool). cond (used z b y) false l) is
-      (adds-beyond 1028 t u (Started x w r t) a 2056 b y hb hy (omega arith) ∙ rows-beyond 1028 n s t c 2056 b y hb hy (omega arith));
-}
+pub heard-none : (s : List ℕ) (v letters : ℕ) → Adds 2056 s s (heardFirst v (among letters) (64 * 0))
+heard-none s v letters = adds-none 2056 s (heardFirst v (among letters) (64 * 0)) (λ a c. go a c)
   where
-    order : (i q y l h : Bool) → ((i && q) && (y && (l && h))) ≡ (i && (y && (l && (q && h))))
-    order true true y l h = refl
-    order true false true true h = refl
-    order true false true false h = refl
-    order true false false l h = refl
-    order false q y l h = refl
+    go : (a : ℕ) (c : Option ℕ) → heardFirst v (among letters) (64 * 0) a c ≡ false
+    go a none = and-false (eqb a 0)
+    go a (some c) = ap (λ (u : Bool). eqb a 0 && u) (below-none c (ltb c v && among letters c)) ∙ and-false (eqb a 0)
+
+pub heard-more : (s t u : List ℕ) (v letters mask j : ℕ) → Adds 2056 s t (heardFirst v (among letters) (64 * j)) → ((i : ℕ) → i < 64 → bit i mask ≡ ltb (64 * j + i) v)
+    → Adds 2056 t u (λ a c. eqb a 0 && inWord j (bitAnd mask letters) c) → Adds 2056 s u (heardFirst v (among letters) (64 * (j + 1)))
+unfolding inWord
+heard-more s t u v letters mask j f lanes q =
+    adds-then 2056 s t u (heardFirst v (among letters) (64 * j)) (λ a c. eqb a 0 && inWord j z c) (heardFirst v (among letters) (64 * (j + 1))) f q (λ a c ha hc. go a c)
+  where
+    z : ℕ
+    z = bitAnd mask letters
+
+    word : (c : ℕ) → Dec (c / 64 ≡ j) → (eqb (c / 64) j && bit (c % 64) z) ≡ (eqb (c / 64) j && (ltb c v && among letters c))
+    word c (yes e) =
+        let w : 64 * j + c % 64 ≡ c = omega arith in
+        let l : c % 64 < 64 = omega arith in
+        ap (λ (k : Bool). eqb (c / 64) j && k)
+        (bit-and (c % 64) mask letters ∙ ap₂ _&&_ (lanes (c % 64) l ∙ ap (λ (i : ℕ). ltb i v) w) (heard-lane letters j (c % 64) l ∙ ap (among letters) w))
+    word c (no e) = rw (ne-eqb (c / 64) j e)
+
+    go : (a : ℕ) (c : Option ℕ) → (heardFirst v (among letters) (64 * j) a c || (eqb a 0 && inWord j z c)) ≡ heardFirst v (among letters) (64 * (j + 1)) a c
+    go a none = ap (λ (k : Bool). (eqb a 0 && false) || k) (and-false (eqb a 0)) ∙ or-false (eqb a 0 && false)
+    go a (some c) =
+        ap (λ (k : Bool). (eqb a 0 && (ltb c (64 * j) && (ltb c v && among letters c))) || (eqb a 0 && k)) (word c (ℕ-discrete (c / 64) j))
+        ∙ merge-under (eqb a 0) (ltb c (64 * j)) (eqb (c / 64) j) (ltb c (64 * (j + 1))) (ltb c v && among letters c) (words-one c j)
+
+pub heard-all : (s t : List ℕ) (v letters j w : ℕ) → j ≤ w → w ≤ j → Adds 2056 s t (heardFirst v (among letters) (64 * j)) → Adds 2056 s t (heardFirst v (among letters) (64 * w))
+heard-all s t v letters j w h l f = let e : j ≡ w = omega arith in subst (λ (k : ℕ). Adds 2056 s t (heardFirst v (among letters) (64 * k))) e f
+
+module _ (x : RuleSheet) (w n : ℕ) (r : ℕ → Bool) (some-valuation : 1 ≤ w) (hn : w ≤ 64 * n) (v : ℕ) (is : v ≡ w) (s s₁ s₂ s₃ s₄ s₅ : List ℕ)
+    (a : RowsCleared 2056 v s s₁) (b : Adds 2056 s₁ s₂ (heardFirst v r (64 * n))) (c : RowsCleared 1028 v s₂ s₃)
+    (d : Adds 1028 s₃ s₄ (gains x (inRow (stored s₃ 2056) w 0) (below w) (stored s₃ 0) none)) (e : RowsCleared 2056 v s₄ s₅) where
+  abbrev First : Pairs
+  First = gains x (inRow (stored s₃ 2056) w 0) (below w) (stored s₃ 0) none
+
+  first-low : (k : ℕ) (y : Option ℕ) → v ≤ k → heardFirst v r (64 * n) k y ≡ false
+  first-low k y h = ap (λ (u : Bool). u && cut (λ b. ltb b (64 * n) && (ltb b v && r b)) y) (ne-eqb k 0 (λ q. omega arith))
+
+  first-brings : (k : ℕ) (y : Option ℕ) → k < 256 → Within 256 y → First k y ≡ (ltb k w && (below w y && startSet x (stored s 0) r k y))
+  unfolding gains startSet
+  first-brings k y hk hy = at (decLt k w)
+    where
+      order : (q y l h : Bool) → (q && (y && (l && h))) ≡ (y && (l && (q && h)))
+      order true y l h = refl
+      order false true true h = refl
+      order false true false h = refl
+      order false false l h = refl
+
+      row : k < w → stored s₃ 2056 0 (some k) ≡ r k
+      row h =
+          put-is w v is s s₁ s₂ s₃ s₄ s₅ (heardFirst v r (64 * n)) First (startSet x (stored s 0) r) a b c d e 0 k (omega arith) (omega arith) hk
+          ∙ ap₂ (λ (u t : Bool). u && (t && r k)) (lt-ltb k (64 * n) (omega arith)) (lt-ltb k v (omega arith))
+
+      at : Dec (k < w)
+          → ((ltb k w && stored s₃ 2056 0 (some k)) && (below w y && (stored s₃ 0 k y && holds x none k y)))
+          ≡ (ltb k w && (below w y && (stored s 0 k y && (r k && holds x none k y))))
+      at (yes h) =
+          rw (lt-ltb k w h)
+          (ap₂ (λ (q l : Bool). q && (below w y && (l && holds x none k y))) (row h)
+          (live-same w v is s s₁ s₂ s₃ s₄ s₅ (heardFirst v r (64 * n)) First (startSet x (stored s 0) r) a b c d e k y hk hy)
+          ∙ order (r k) (below w y) (stored s 0 k y) (holds x none k y))
+      at (no h) = let z : w ≤ k = omega arith in rw (le-ltb k w z)
+
+  pub rounded-first : Rounded w s s₅ (startSet x (stored s 0) r)
+  rounded-first = steps-rounded w v is s s₁ s₂ s₃ s₄ s₅ (heardFirst v r (64 * n)) First (startSet x (stored s 0) r) a b c d e first-low first-brings
 
 -- ---- groups: those that the mask leaves alike have the same successors
 
@@ -157,32 +244,24 @@ module _ (x : RuleSheet) (mask : ℕ) (blind : Blind x mask) (w n : ℕ) (r : �
     abbrev Brought : Pairs
     Brought = brought x (stored s₃ 2056) w (stored s₃ 0) w
 
-    abbrev Next : Pairs
-    Next k y = ltb k w && (below w y && stepSet x w (stored s 0) (stored s 1028) r k y)
-
-    live-same : (k : ℕ) (y : Option ℕ) → k < 256 → Within 256 y → stored s₃ 0 k y ≡ stored s 0 k y
-    live-same k y hk hy =
-        rows-before 1028 v s₂ s₃ c 0 k y hk hy (omega arith) ∙ adds-before 2056 s₁ s₂ G₁ b 0 k y hk hy (omega arith) ∙ rows-before 2056 v s s₁ a 0 k y hk hy (omega arith)
+    abbrev Stepped : Pairs
+    Stepped = stepSet x w (stored s 0) (stored s 1028) r
 
     group-same : (g k : ℕ) → g < w → k < w → stored s₃ 2056 g (some k) ≡ anyBelow w (λ i. eqb g (bitAnd i mask) && (stored s 1028 i (some k) && r k))
     unfolding grouped
     group-same g k hg hk =
-        let hg′ : g < 256 = omega arith in
         let hk′ : k < 256 = omega arith in
         let hm : k < 64 * n = omega arith in
-        rows-beyond 1028 v s₂ s₃ c 2056 g (some k) hg′ hk′ (omega arith)
-        ∙ b .adds g (some k) hg′ hk′
-        ∙ ap (λ (u : Bool). u || G₁ g (some k))
-        (a .emptied g (some k) hg′ hk′ ∙ ap (λ (u : Bool). cond u false (stored s 2056 g (some k))) (used-below v g (some k) (omega arith)))
+        put-is w v is s s₁ s₂ s₃ s₄ s₅ G₁ Brought Stepped a b c d e g k hg (omega arith) hk′
         ∙ any-cong v _ (λ i. eqb g (bitAnd i mask) && (stored s 1028 i (some k) && r k))
         (λ i hi. ap₂ (λ (p q : Bool). eqb g (bitAnd i mask) && (p && (q && r k))) (lt-ltb k (64 * n) hm) (rows-before 2056 v s s₁ a 1028 i (some k) (omega arith) hk′ (omega arith)))
         ∙ ap (λ (z : ℕ). anyBelow z (λ i. eqb g (bitAnd i mask) && (stored s 1028 i (some k) && r k))) is
 
-    brought-is : (k : ℕ) (y : Option ℕ) → k < 256 → Within 256 y → Brought k y ≡ Next k y
+    brought-is : (k : ℕ) (y : Option ℕ) → k < 256 → Within 256 y → Brought k y ≡ (ltb k w && (below w y && Stepped k y))
     unfolding brought gains stepSet
     brought-is k y hk hy =
         out w (ltb k w) (below w y) (stored s₃ 0 k y) (λ g. stored s₃ 2056 g (some k)) (λ g. holds x (some g) k y)
-        ∙ ap (λ (l : Bool). ltb k w && (below w y && (l && anyBelow w (λ g. stored s₃ 2056 g (some k) && holds x (some g) k y)))) (live-same k y hk hy)
+        ∙ ap (λ (l : Bool). ltb k w && (below w y && (l && anyBelow w (λ g. stored s₃ 2056 g (some k) && holds x (some g) k y)))) (live-same w v is s s₁ s₂ s₃ s₄ s₅ G₁ Brought Stepped a b c d e k y hk hy)
         ∙ at (decLt k w)
       where
         at : Dec (k < w)
@@ -195,38 +274,6 @@ module _ (x : RuleSheet) (mask : ℕ) (blind : Blind x mask) (w n : ℕ) (r : �
             ∙ out-heard w (r k) (λ i. stored s 1028 i (some k)) (λ i. holds x (some i) k y))
         at (no h) = let z : w ≤ k = omega arith in rw (le-ltb k w z)
 
-    reached-is : (k : ℕ) (y : Option ℕ) → k < 256 → Within 256 y → stored s₅ 1028 k y ≡ cond (used w k y) (Next k y) (stored s 1028 k y)
-    reached-is k y hk hy =
-        rows-before 2056 v s₄ s₅ e 1028 k y hk hy (omega arith)
-        ∙ d .adds k y hk hy
-        ∙ ap₂ _||_
-        (c .emptied k y hk hy
-        ∙ ap₂ (λ (z : ℕ) (l : Bool). cond (used z k y) false l) is (adds-before 2056 s₁ s₂ G₁ b 1028 k y hk hy (omega arith) ∙ rows-before 2056 v s s₁ a 1028 k y hk hy (omega arith)))
-        (brought-is k y hk hy)
-        ∙ gained (used w k y) (Next k y) (stored s 1028 k y)
-        (λ q. ap (λ (u : Bool). u && (below w y && stepSet x w (stored s 0) (stored s 1028) r k y)) (unused w k y q))
-
-    -- the groups lie in the words in use
-    scratch-is : (k : ℕ) (y : Option ℕ) → k < 256 → Within 256 y → stored s₅ 2056 k y ≡ cond (used w k y) false (stored s 2056 k y)
-    scratch-is k y hk hy =
-        e .emptied k y hk hy
-        ∙ ap (cond (used v k y) false)
-        (adds-beyond 1028 s₃ s₄ Brought d 2056 k y hk hy (omega arith)
-        ∙ rows-beyond 1028 v s₂ s₃ c 2056 k y hk hy (omega arith)
-        ∙ b .adds k y hk hy
-        ∙ ap (λ (l : Bool). l || G₁ k y) (a .emptied k y hk hy))
-        ∙ both (used v k y) (G₁ k y) (stored s 2056 k y) (λ q. group-low (stored s₁ 1028) r mask (64 * n) v k y (ltb-false k v (unused v k y q)))
-        ∙ ap (λ (z : ℕ). cond (used z k y) false (stored s 2056 k y)) is
-      where
-        both : (u p l : Bool) → (u ≡ false → p ≡ false) → cond u false (cond u false l || p) ≡ cond u false l
-        both true p l f = refl
-        both false p l f = ap (λ (z : Bool). l || z) (f refl) ∙ or-false l
-
-    pub rounded-later : Rounded w s s₅ (stepSet x w (stored s 0) (stored s 1028) r)
-    rounded-later = record {
-      same-length = e .same-length ∙ d .same-length ∙ c .same-length ∙ b .same-length ∙ a .same-length;
-      live = λ k h. e .before k (omega arith) ∙ d .before k h ∙ c .before k h ∙ b .before k (omega arith) ∙ a .before k (omega arith);
-      beyond = λ k h. e .beyond k h ∙ d .beyond k (omega arith) ∙ c .beyond k (omega arith) ∙ b .beyond k h ∙ a .beyond k h;
-      reached = reached-is;
-      scratch = scratch-is;
-    }
+    pub rounded-later : Rounded w s s₅ Stepped
+    rounded-later =
+        steps-rounded w v is s s₁ s₂ s₃ s₄ s₅ G₁ Brought Stepped a b c d e (λ k y h. group-low (stored s₁ 1028) r mask (64 * n) v k y h) brought-is

@@ -6,7 +6,7 @@ use mathlib.Core.Option.{Option, none, some}
 use Prim.Native.Nat.{ℕ, _+_, _*_, _/_, _≤_, _<_, min}
 use native.Mathlib.Omega.{arith}
 use native.Mathlib.Decide.{ℕ-discrete}
-use borrow.Author.Tests.{eq-eqb, ne-eqb, lt-ltb, le-ltb}
+use borrow.Author.Tests.{ne-eqb, lt-ltb}
 use lib.Dec.{eqb, ltb}
 use Rattle.words.specs.Below.{anyBelow}
 use Rattle.words.proofs.AnyLaws.{any-one}
@@ -92,73 +92,10 @@ module _ (x : RuleSheet) where
       go a none = refl
       go a (some c) = ap (λ (u : Bool). eqb a b && u) (below-within c v (64 * j) h ∙ ap (ltb c) q)
 
-  abbrev Ended : ℕ → List ℕ → Option ℕ → Pairs
-  Ended b s p = gains x (λ a. eqb a b) (λ y. eqNext y none) (stored s 0) p
-
-  end-false : (s : List ℕ) (b : ℕ) (p : Option ℕ) → (stored s 0 b none && holds x p b none) ≡ false → Adds 1028 s s (Ended b s p)
-  unfolding gains eqNext
-  end-false s b p e = adds-none 1028 s (Ended b s p) (λ a c. go a c)
-    where
-      at : (a : ℕ) → Dec (a ≡ b) → (eqb a b && (true && (stored s 0 a none && holds x p a none))) ≡ false
-      at a (yes d) = rw (eq-eqb a b d) (ap (λ (k : ℕ). stored s 0 k none && holds x p k none) d ∙ e)
-      at a (no d) = rw (ne-eqb a b d)
-
-      go : (a : ℕ) (c : Option ℕ) → Ended b s p a c ≡ false
-      go a none = at a (ℕ-discrete a b)
-      go a (some c) = and-false (eqb a b)
-
-  pub end-dead : (s : List ℕ) (b : ℕ) (p : Option ℕ) → stored s 0 b none ≡ false → Adds 1028 s s (Ended b s p)
-  end-dead s b p e = end-false s b p (ap (λ (u : Bool). u && holds x p b none) e)
-
-  pub end-breaks : (s : List ℕ) (b : ℕ) (p : Option ℕ) → holds x p b none ≡ false → Adds 1028 s s (Ended b s p)
-  end-breaks s b p e = end-false s b p (ap (λ (u : Bool). stored s 0 b none && u) e ∙ and-false (stored s 0 b none))
-
-  pub end-there : (s : List ℕ) (b : ℕ) (p : Option ℕ) → stored s 1028 b none ≡ true → Adds 1028 s s (Ended b s p)
-  unfolding gains eqNext
-  end-there s b p e = adds-as 1028 s s (λ a c. false) (Ended b s p) (adds-none 1028 s (λ a c. false) (λ a c. refl)) (λ a c ha hc. or-false (stored s 1028 a c) ∙ go a c)
-    where
-      at : (a : ℕ) → Dec (a ≡ b) → stored s 1028 a none ≡ (stored s 1028 a none || (eqb a b && (true && (stored s 0 a none && holds x p a none))))
-      at a (yes d) = let q : stored s 1028 a none ≡ true = ap (λ (k : ℕ). stored s 1028 k none) d ∙ e in rw q
-      at a (no d) = rw (ne-eqb a b d) (sym (or-false (stored s 1028 a none)))
-
-      go : (a : ℕ) (c : Option ℕ) → stored s 1028 a c ≡ (stored s 1028 a c || Ended b s p a c)
-      go a none = at a (ℕ-discrete a b)
-      go a (some c) = sym (ap (λ (u : Bool). stored s 1028 a (some c) || u) (and-false (eqb a b)) ∙ or-false (stored s 1028 a (some c)))
-
-  pub end-set : (s t : List ℕ) (b : ℕ) (p : Option ℕ) → stored s 0 b none ≡ true → holds x p b none ≡ true → Adds 1028 s t (λ a c. eqb a b && eqNext c none) → Adds 1028 s t (Ended b s p)
-  unfolding gains eqNext
-  end-set s t b p e f a = adds-as 1028 s t (λ a c. eqb a b && eqNext c none) (Ended b s p) a (λ k c hk hc. ap (λ (u : Bool). stored s 1028 k c || u) (go k c))
-    where
-      at : (k : ℕ) → Dec (k ≡ b) → (eqb k b && true) ≡ (eqb k b && (true && (stored s 0 k none && holds x p k none)))
-      at k (yes d) = ap (λ (u : Bool). eqb k b && u) (sym (ap (λ (z : ℕ). stored s 0 z none && holds x p z none) d ∙ ap₂ _&&_ e f))
-      at k (no d) = rw (ne-eqb k b d)
-
-      go : (k : ℕ) (c : Option ℕ) → (eqb k b && eqNext c none) ≡ Ended b s p k c
-      go k none = at k (ℕ-discrete k b)
-      go k (some c) = refl
-
-  -- a row with its end
-  pub row-end : (s t u : List ℕ) (b w : ℕ) (p : Option ℕ) → Adds 1028 s t (gains x (λ a. eqb a b) (cut (λ c. ltb c w)) (stored s 0) p) → Adds 1028 t u (Ended b t p)
-      → Adds 1028 s u (gains x (λ a. eqb a b) (below w) (stored s 0) p)
-  unfolding eqNext
-  row-end s t u b w p f g =
-      gains-join s t u (λ a. eqb a b) (λ a. eqb a b) (λ a. eqb a b) (cut (λ c. ltb c w)) (λ y. eqNext y none) (below w) p f g (λ a c ha hc. go a c)
-    where
-      go : (a : ℕ) (c : Option ℕ) → ((eqb a b && cut (λ c. ltb c w) c) || (eqb a b && eqNext c none)) ≡ (eqb a b && below w c)
-      go a none = ap (λ (u : Bool). u || (eqb a b && true)) (and-false (eqb a b))
-      go a (some c) = ap (λ (u : Bool). (eqb a b && ltb c w) || u) (and-false (eqb a b)) ∙ or-false (eqb a b && ltb c w)
-
   -- ---- rows that were heard
 
   abbrev One : ℕ → (ℕ → Bool) → (Option ℕ → Bool) → List ℕ → Option ℕ → Pairs
   One b r C s p = gains x (λ a. eqb a b && r a) C (stored s 0) p
-
-  pub unheard : (s : List ℕ) (b : ℕ) (C : Option ℕ → Bool) (r : ℕ → Bool) (p : Option ℕ) → r b ≡ false → Adds 1028 s s (One b r C s p)
-  unheard s b C r p e = gains-none s (λ a. eqb a b && r a) C (stored s 0) p (λ a c. ap (λ (u : Bool). u && C c) (go a (ℕ-discrete a b)))
-    where
-      go : (a : ℕ) → Dec (a ≡ b) → (eqb a b && r a) ≡ false
-      go a (yes d) = ap (λ (u : Bool). eqb a b && u) (ap r d ∙ e) ∙ and-false (eqb a b)
-      go a (no d) = ap (λ (u : Bool). u && r a) (ne-eqb a b d)
 
   pub heard : (s t : List ℕ) (b : ℕ) (C : Option ℕ → Bool) (r : ℕ → Bool) (p : Option ℕ) → r b ≡ true → Adds 1028 s t (gains x (λ a. eqb a b) C (stored s 0) p) → Adds 1028 s t (One b r C s p)
   heard s t b C r p e f =
@@ -180,17 +117,14 @@ module _ (x : RuleSheet) where
       gains-join s t u (λ a. ltb a b && r a) (λ a. eqb a b && r a) (λ a. ltb a (b + 1) && r a) C C C p f g
       (λ a c ha hc. merge-both (ltb a b) (eqb a b) (ltb a (b + 1)) (r a) (C c) (below-one a b))
 
-  pub rows-all : (s t : List ℕ) (b v w : ℕ) (C : Option ℕ → Bool) (r : ℕ → Bool) (p : Option ℕ) → b ≤ v → v ≤ b → v ≡ w → Adds 1028 s t (Rows b r C s p) → Adds 1028 s t (Rows w r C s p)
-  rows-all s t b v w C r p h l q f = let e : b ≡ w = omega arith in subst (λ (k : ℕ). Adds 1028 s t (Rows k r C s p)) e f
-
   -- ---- the rows that one row of a set G names
 
   -- those below b are done; b is the next, or at least w
-  pub record Bringing (s t : List ℕ) (w g b : ℕ) : Type 0 where
-    pub sofar : Adds 1028 s t (Rows b (inRow (stored s 2056) w g) (cut (λ c. ltb c w)) s (some g))
+  pub record Bringing (s t : List ℕ) (w g : ℕ) (p : Option ℕ) (b : ℕ) : Type 0 where
+    pub sofar : Adds 1028 s t (Rows b (inRow (stored s 2056) w g) (cut (λ c. ltb c w)) s p)
     pub next : b < w → stored s 2056 g (some b) ≡ true
 
-  module _ (s : List ℕ) (w g : ℕ) (hw : w ≤ 256) (hg : g < 256) where
+  module _ (s : List ℕ) (w g : ℕ) (p : Option ℕ) (hw : w ≤ 256) (hg : g < 256) where
     abbrev Cells : Option ℕ → Bool
     Cells = cut (λ c. ltb c w)
 
@@ -200,41 +134,41 @@ module _ (x : RuleSheet) where
     row-same : (t : List ℕ) (P : Pairs) → Adds 1028 s t P → (a : ℕ) → a < 256 → rowBit t (2056 + 4 * g) a ≡ stored s 2056 g (some a)
     row-same t P f a h = row-bit t 2056 g a ∙ adds-beyond 1028 s t P f 2056 g (some a) hg h (omega arith)
 
-    wider : (t : List ℕ) (b b′ : ℕ) → b ≤ b′ → ((a : ℕ) → a < 256 → b ≤ a → a < b′ → stored s 2056 g (some a) ≡ false) → Adds 1028 s t (Rows b In Cells s (some g)) → Adds 1028 s t (Rows b′ In Cells s (some g))
+    wider : (t : List ℕ) (b b′ : ℕ) → b ≤ b′ → ((a : ℕ) → a < 256 → b ≤ a → a < b′ → stored s 2056 g (some a) ≡ false) → Adds 1028 s t (Rows b In Cells s p) → Adds 1028 s t (Rows b′ In Cells s p)
     wider t b b′ l f a =
-        gains-as s t (λ k. ltb k b && In k) (λ k. ltb k b′ && In k) Cells Cells (stored s 0) (some g) a
+        gains-as s t (λ k. ltb k b && In k) (λ k. ltb k b′ && In k) Cells Cells (stored s 0) p a
         (λ k c hk hc. ap (λ (u : Bool). u && Cells c)
         (below-wider k b b′ (In k) l (λ h i. ap (λ (u : Bool). ltb k w && u) (f k hk h i) ∙ and-false (ltb k w))))
 
-    pub bring-first : (n b : ℕ) → w ≤ 64 * n → NextBit s (2056 + 4 * g) n 0 b → Bringing s s w g b
+    pub bring-first : (n b : ℕ) → w ≤ 64 * n → NextBit s (2056 + 4 * g) n 0 b → Bringing s s w g p b
     bring-first n b hn z =
         let same : (a : ℕ) → a < 256 → rowBit s (2056 + 4 * g) a ≡ stored s 2056 g (some a) = λ a h. row-bit s 2056 g a in
         record {
-          sofar = wider s 0 b (omega arith) (λ a h l i. sym (same a h) ∙ z .skipped a l i) (rows-none s Cells In (some g));
+          sofar = wider s 0 b (omega arith) (λ a h l i. sym (same a h) ∙ z .skipped a l i) (rows-none s Cells In p);
           next = λ h. sym (same b (omega arith)) ∙ z .found (omega arith);
         }
 
-    pub bring-more : (t u : List ℕ) (n b b′ : ℕ) → w ≤ 64 * n → b < w → Bringing s t w g b → Adds 1028 t u (gains x (λ a. eqb a b) (cut (λ c. ltb c w)) (stored t 0) (some g))
-        → NextBit u (2056 + 4 * g) n (b + 1) b′ → Bringing s u w g b′
+    pub bring-more : (t u : List ℕ) (n b b′ : ℕ) → w ≤ 64 * n → b < w → Bringing s t w g p b → Adds 1028 t u (gains x (λ a. eqb a b) (cut (λ c. ltb c w)) (stored t 0) p)
+        → NextBit u (2056 + 4 * g) n (b + 1) b′ → Bringing s u w g p b′
     bring-more t u n b b′ hn hb f q z =
-        let one : Adds 1028 t u (One b In Cells t (some g)) = heard t u b Cells In (some g) (ap₂ _&&_ (lt-ltb b w hb) (f .next hb)) q in
-        let all : Adds 1028 s u (Rows (b + 1) In Cells s (some g)) = rows-more s t u b Cells In (some g) (f .sofar) one in
+        let one : Adds 1028 t u (One b In Cells t p) = heard t u b Cells In p (ap₂ _&&_ (lt-ltb b w hb) (f .next hb)) q in
+        let all : Adds 1028 s u (Rows (b + 1) In Cells s p) = rows-more s t u b Cells In p (f .sofar) one in
         record {
-          sofar = wider u (b + 1) b′ (z .onward) (λ a h l i. sym (row-same u (Rows (b + 1) In Cells s (some g)) all a h) ∙ z .skipped a l i) all;
-          next = λ h. sym (row-same u (Rows (b + 1) In Cells s (some g)) all b′ (omega arith)) ∙ z .found (omega arith);
+          sofar = wider u (b + 1) b′ (z .onward) (λ a h l i. sym (row-same u (Rows (b + 1) In Cells s p) all a h) ∙ z .skipped a l i) all;
+          next = λ h. sym (row-same u (Rows (b + 1) In Cells s p) all b′ (omega arith)) ∙ z .found (omega arith);
         }
 
-    pub bring-all : (t : List ℕ) (b : ℕ) → w ≤ b → Bringing s t w g b → Adds 1028 s t (gains x (inRow (stored s 2056) w g) (cut (λ c. ltb c w)) (stored s 0) (some g))
+    pub bring-all : (t : List ℕ) (b : ℕ) → w ≤ b → Bringing s t w g p b → Adds 1028 s t (gains x (inRow (stored s 2056) w g) (cut (λ c. ltb c w)) (stored s 0) p)
     bring-all t b h f =
-        gains-as s t (λ a. ltb a b && In a) In Cells Cells (stored s 0) (some g) (f .sofar)
+        gains-as s t (λ a. ltb a b && In a) In Cells Cells (stored s 0) p (f .sofar)
         (λ a c ha hc. ap (λ (u : Bool). u && Cells c)
         (sym (and-assoc (ltb a b) (ltb a w) (stored s 2056 g (some a))) ∙ ap (λ (u : Bool). u && stored s 2056 g (some a)) (below-within a w b h)))
 
     -- the rows, and then their ends
-    pub rows-end : (t u : List ℕ) (p : Option ℕ) → Adds 1028 s t (gains x In Cells (stored s 0) p)
+    pub rows-end : (t u : List ℕ) → Adds 1028 s t (gains x In Cells (stored s 0) p)
         → Adds 1028 t u (gains x (inRow (stored t 2056) w g) (λ y. eqNext y none) (stored t 0) p) → Adds 1028 s u (gains x In (below w) (stored s 0) p)
     unfolding eqNext
-    rows-end t u p f e =
+    rows-end t u f e =
         gains-join s t u In (inRow (stored t 2056) w g) In Cells (λ y. eqNext y none) (below w) p f e (λ b c hb hc. go b hb c)
       where
         same : (b : ℕ) → b < 256 → inRow (stored t 2056) w g b ≡ In b

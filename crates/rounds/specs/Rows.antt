@@ -58,6 +58,10 @@ NoEndNew L S G v g = (b : ℕ) → b < v → ((G g (some b) && L b none) && not 
 abbrev pub inRow : Pairs → ℕ → ℕ → ℕ → Bool
 inRow G w a b = ltb b w && G a (some b)
 
+-- in row 0, the valuations below v that pass the test, those below w of them
+abbrev pub heardFirst : ℕ → (ℕ → Bool) → ℕ → Pairs
+heardFirst v r w a c = eqb a 0 && cut (λ b. ltb b w && (ltb b v && r b)) c
+
 -- the pairs that the rows below k of G bring
 unfoldable pub brought : RuleSheet → Pairs → ℕ → Pairs → ℕ → Pairs
 brought x G w L k b c = anyBelow k (λ a. gains x (inRow G w a) (below w) L (some a) b c)

@@ -14,7 +14,7 @@ ghost use Rattle.pairs.specs.Changes.{Adds, eqNext};
 ghost use Rattle.refusal.specs.Numbers.{verdictNo};
 ghost use Rattle.lanes.specs.Around.{room, Before, Seen};
 ghost use Rattle.lanes.specs.Coded.{Coded, sheetOf};
-ghost use Rattle.rounds.specs.Rows.{among, Wide, Earlier, below, cut, gains, NoneNew, NoEndNew, inRow, brought, heardIn, grouped, Sparse};
+ghost use Rattle.rounds.specs.Rows.{among, Wide, Earlier, below, cut, gains, NoneNew, NoEndNew, inRow, heardFirst, brought, heardIn, grouped, Sparse};
 ghost use Rattle.rounds.specs.Round.{Rounded};
 ghost use Rattle.rounds.specs.Firsts.{Passing, Words, shows, Told};
 
@@ -34,13 +34,6 @@ fn row_words(m: usize, n: usize) -> usize
     ensures { λ r. ⌜ Wide (2 ^ (m + n)) r ⌝ }
 {
     (valuations(m, n) + 63) / 64
-}
-
-// Whether the valuation v was heard.
-fn heard(letters: u64, v: usize) -> bool
-    ensures { λ r. ⌜ r ≡ among letters v ⌝ }
-{
-    (letters >> (v % 64)) % 2 == 1
 }
 
 // The valuations of row a of the set at base, its w words joined: in each lane whether some word has it.
@@ -106,157 +99,6 @@ fn gain_row(
     }
 }
 
-// The reached set gains (b, end) if that is live and the equations hold at b with nothing after it.
-fn gain_end(s: &mut [u64], code: &[u8], len: &[usize], m: usize, n: usize, env: u64, b: usize)
-    requires { ⌜ Coded m n (now code) (now len) ⌝ }
-    requires { ⌜ (3084 ≤ length (now s)) × (env < 4294967296) × (b < 256) ⌝ }
-    ensures { λ r. ⌜ ((p : Option ℕ) → Seen env p b → (ks : List ℕ) → Adds 1028 (now (s .entry)) (now (s .exit)) (gains (sheetOf m n (now (code .entry)) (now (len .entry)) ks) (λ x. eqb x b) (λ y. eqNext y none) (stored (now (s .entry)) 0) p)) ⌝ }
-{
-    if !pairs::has_end(s, 0, b) {
-        return;
-    }
-    if pairs::has_end(s, 1028, b) {
-        return;
-    }
-    if lanes::holds_at_end(code, len, m, n, env, b) {
-        pairs::insert_end(s, 1028, b);
-    }
-}
-
-// The reached set gains the live pairs (b, c) with the equations at b after the round whose reads are `before`.
-fn gain(
-    s: &mut [u64],
-    st: &mut [u64],
-    code: &[u8],
-    len: &[usize],
-    m: usize,
-    n: usize,
-    before: u64,
-    b: usize,
-)
-    requires { ⌜ Coded m n (now code) (now len) ⌝ }
-    requires { ⌜ (room ((2 ^ (m + n) + 63) / 64) ≤ length (now st)) × (3084 ≤ length (now s)) × (b < 256) × Earlier before ⌝ }
-    ensures { λ r. ⌜ ((p : Option ℕ) → Before before p → (ks : List ℕ) → Adds 1028 (now (s .entry)) (now (s .exit)) (gains (sheetOf m n (now (code .entry)) (now (len .entry)) ks) (λ x. eqb x b) (below (2 ^ (m + n))) (stored (now (s .entry)) 0) p)) ⌝ }
-{
-    let env = lanes::seen(before, b);
-    gain_row(s, st, code, len, m, n, env, b);
-    gain_end(s, code, len, m, n, env, b);
-}
-
-// The same, if b was heard.
-fn gain_heard(
-    s: &mut [u64],
-    st: &mut [u64],
-    code: &[u8],
-    len: &[usize],
-    m: usize,
-    n: usize,
-    letters: u64,
-    before: u64,
-    b: usize,
-)
-    requires { ⌜ Coded m n (now code) (now len) ⌝ }
-    requires { ⌜ (room ((2 ^ (m + n) + 63) / 64) ≤ length (now st)) × (3084 ≤ length (now s)) × (b < 256) × Earlier before ⌝ }
-    ensures { λ r. ⌜ ((p : Option ℕ) → Before before p → (ks : List ℕ) → Adds 1028 (now (s .entry)) (now (s .exit)) (gains (sheetOf m n (now (code .entry)) (now (len .entry)) ks) (λ x. eqb x b && among letters x) (below (2 ^ (m + n))) (stored (now (s .entry)) 0) p)) ⌝ }
-{
-    if heard(letters, b) {
-        gain(s, st, code, len, m, n, before, b);
-    }
-}
-
-// ---- The first round
-
-// The pairs of the first round; st is room to work in.
-fn start_rows(
-    s: &mut [u64],
-    st: &mut [u64],
-    code: &[u8],
-    len: &[usize],
-    m: usize,
-    n: usize,
-    letters: u64,
-)
-    requires { ⌜ Coded m n (now code) (now len) ⌝ }
-    requires { ⌜ (room ((2 ^ (m + n) + 63) / 64) ≤ length (now st)) × (3084 ≤ length (now s)) ⌝ }
-    ensures { λ r. ⌜ ((ks : List ℕ) → Adds 1028 (now (s .entry)) (now (s .exit)) (gains (sheetOf m n (now (code .entry)) (now (len .entry)) ks) (λ x. ltb x (2 ^ (m + n)) && among letters x) (below (2 ^ (m + n))) (stored (now (s .entry)) 0) none)) ⌝ }
-{
-    let v = valuations(m, n);
-    let before = lanes::before(true, 0);
-    let mut b: usize = 0;
-    while b < v {
-        gain_heard(s, st, code, len, m, n, letters, before, b);
-        b += 1;
-    }
-}
-
-// The same, with as much room as the valuations want.
-fn start_pairs(s: &mut [u64], code: &[u8], len: &[usize], m: usize, n: usize, letters: u64)
-    requires { ⌜ Coded m n (now code) (now len) ⌝ }
-    requires { ⌜ 3084 ≤ length (now s) ⌝ }
-    ensures { λ r. ⌜ ((ks : List ℕ) → Adds 1028 (now (s .entry)) (now (s .exit)) (gains (sheetOf m n (now (code .entry)) (now (len .entry)) ks) (λ x. ltb x (2 ^ (m + n)) && among letters x) (below (2 ^ (m + n))) (stored (now (s .entry)) 0) none)) ⌝ }
-{
-    if valuations(m, n) <= 128 {
-        let mut st = [0u64; 128];
-        start_rows(s, &mut st, code, len, m, n, letters);
-        return;
-    }
-    let mut st = [0u64; 256];
-    start_rows(s, &mut st, code, len, m, n, letters);
-}
-
-// The first round, where the valuations heard are those of the lanes of `letters`.
-pub fn first_round(s: &mut [u64], code: &[u8], len: &[usize], m: usize, n: usize, letters: u64)
-    requires { ⌜ Coded m n (now code) (now len) ⌝ }
-    requires { ⌜ 3084 ≤ length (now s) ⌝ }
-    ensures { λ r. ⌜ ((ks : List ℕ) → Rounded (2 ^ (m + n)) (now (s .entry)) (now (s .exit)) (startSet (sheetOf m n (now (code .entry)) (now (len .entry)) ks) (stored (now (s .entry)) 0) (among letters))) ⌝ }
-{
-    let v = valuations(m, n);
-    pairs::clear_rows(s, 1028, v);
-    start_pairs(s, code, len, m, n, letters);
-    pairs::clear_rows(s, 2056, v);
-}
-
-// ---- A later round
-
-// Row a of the reached set, what was heard of its w words, joins row g of the scratch set.
-fn join_row(s: &mut [u64], w: usize, letters: u64, a: usize, g: usize)
-    requires { ⌜ (w ≤ 4) × (a < 256) × (g < 256) × (3084 ≤ length (now s)) ⌝ }
-    ensures { λ r. ⌜ Adds 2056 (now (s .entry)) (now (s .exit)) (λ x y. eqb x g && heardIn (stored (now (s .entry)) 1028) (among letters) (64 * w) a y) ⌝ }
-{
-    let mut j: usize = 0;
-    while j < w {
-        let x = s[1028 + (4 * a + j)];
-        pairs::insert_word(s, 2056, g, j, x & letters);
-        j += 1;
-    }
-}
-
-// The same; where anything was heard, g is noted among the groups.
-fn group_row(s: &mut [u64], groups: &mut [u64], w: usize, letters: u64, a: usize, g: usize)
-    requires { ⌜ (1 ≤ w) × (w ≤ 4) × (w ≡ 3 → ⊥) × (a < 256) × (g < 256) × (length (now groups) ≡ 4) × (3084 ≤ length (now s)) ⌝ }
-    ensures joined { λ r. ⌜ Adds 2056 (now (s .entry)) (now (s .exit)) (λ x y. eqb x g && heardIn (stored (now (s .entry)) 1028) (among letters) (64 * w) a y) ⌝ }
-    ensures sparse { λ r. ⌜ ((v : ℕ) → v ≤ 256 → Sparse v (now (groups .entry)) (stored (now (s .entry)) 2056) → Sparse v (now (groups .exit)) (stored (now (s .exit)) 2056)) ⌝ }
-{
-    if row_lanes(s, 1028, w, a) & letters == 0 {
-        return;
-    }
-    join_row(s, w, letters, a, g);
-    pairs::note(groups, g);
-}
-
-// Each row below v of the reached set joins the row of its group: rows that agree in the streams of the mask.
-fn group_rows(s: &mut [u64], groups: &mut [u64], v: usize, w: usize, letters: u64, mask: usize)
-    requires { ⌜ (v ≤ 256) × (1 ≤ w) × (w ≤ 4) × (w ≡ 3 → ⊥) × (length (now groups) ≡ 4) × (3084 ≤ length (now s)) ⌝ }
-    ensures joined { λ r. ⌜ Adds 2056 (now (s .entry)) (now (s .exit)) (grouped (stored (now (s .entry)) 1028) (among letters) mask (64 * w) v) ⌝ }
-    ensures sparse { λ r. ⌜ (Sparse v (now (groups .entry)) (stored (now (s .entry)) 2056) → Sparse v (now (groups .exit)) (stored (now (s .exit)) 2056)) ⌝ }
-{
-    let mut a: usize = 0;
-    while a < v {
-        group_row(s, groups, w, letters, a, a & mask);
-        a += 1;
-    }
-}
-
 // Whether row g of the scratch set, w words of it, may have a valuation whose end is live and that the reached set lacks.
 fn is_end_new(s: &[u64], w: usize, g: usize) -> bool
     requires { ⌜ (w ≤ 4) × (g < 256) × (3084 ≤ length (now s)) ⌝ }
@@ -303,7 +145,7 @@ fn gain_ends(
     }
 }
 
-// The pairs that row g of the scratch set brings.
+// The pairs that the valuations of row g of the scratch set bring, after the round whose reads are `before`.
 fn bring_row(
     s: &mut [u64],
     st: &mut [u64],
@@ -311,16 +153,16 @@ fn bring_row(
     len: &[usize],
     m: usize,
     n: usize,
+    before: u64,
     g: usize,
 )
     requires { ⌜ Coded m n (now code) (now len) ⌝ }
-    requires { ⌜ (room ((2 ^ (m + n) + 63) / 64) ≤ length (now st)) × (3084 ≤ length (now s)) × (g < 256) ⌝ }
-    ensures { λ r. ⌜ ((ks : List ℕ) → Adds 1028 (now (s .entry)) (now (s .exit)) (gains (sheetOf m n (now (code .entry)) (now (len .entry)) ks) (inRow (stored (now (s .entry)) 2056) (2 ^ (m + n)) g) (below (2 ^ (m + n))) (stored (now (s .entry)) 0) (some g))) ⌝ }
+    requires { ⌜ (room ((2 ^ (m + n) + 63) / 64) ≤ length (now st)) × (3084 ≤ length (now s)) × (g < 256) × Earlier before ⌝ }
+    ensures { λ r. ⌜ ((p : Option ℕ) → Before before p → (ks : List ℕ) → Adds 1028 (now (s .entry)) (now (s .exit)) (gains (sheetOf m n (now (code .entry)) (now (len .entry)) ks) (inRow (stored (now (s .entry)) 2056) (2 ^ (m + n)) g) (below (2 ^ (m + n))) (stored (now (s .entry)) 0) p)) ⌝ }
 {
     let v = valuations(m, n);
     let w = row_words(m, n);
     let at = 2056 + 4 * g;
-    let before = lanes::before(false, g);
     let mut b = pairs::next_bit(s, at, w, 0);
     while b < v {
         let env = lanes::seen(before, b);
@@ -328,6 +170,85 @@ fn bring_row(
         b = pairs::next_bit(s, at, w, b + 1);
     }
     gain_ends(s, st, code, len, m, n, before, g);
+}
+
+// ---- The first round
+
+// Puts the valuations below v that were heard into row 0 of the scratch set, w words of it.
+fn hear(s: &mut [u64], v: usize, w: usize, letters: u64)
+    requires { ⌜ (v ≤ 256) × (w ≤ 4) × (3084 ≤ length (now s)) ⌝ }
+    ensures { λ r. ⌜ Adds 2056 (now (s .entry)) (now (s .exit)) (heardFirst v (among letters) (64 * w)) ⌝ }
+{
+    let mut j: usize = 0;
+    while j < w {
+        pairs::insert_word(s, 2056, 0, j, words::lanes_below(v, j) & letters);
+        j += 1;
+    }
+}
+
+// The pairs that row 0 of the scratch set brings, with nothing before it.
+fn bring_first(s: &mut [u64], code: &[u8], len: &[usize], m: usize, n: usize)
+    requires { ⌜ Coded m n (now code) (now len) ⌝ }
+    requires { ⌜ 3084 ≤ length (now s) ⌝ }
+    ensures { λ r. ⌜ ((ks : List ℕ) → Adds 1028 (now (s .entry)) (now (s .exit)) (gains (sheetOf m n (now (code .entry)) (now (len .entry)) ks) (inRow (stored (now (s .entry)) 2056) (2 ^ (m + n)) 0) (below (2 ^ (m + n))) (stored (now (s .entry)) 0) none)) ⌝ }
+{
+    let mut st = [0u64; 256];
+    bring_row(s, &mut st, code, len, m, n, lanes::before(true, 0), 0);
+}
+
+// The first round, where the valuations heard are those of the lanes of `letters`.
+pub fn first_round(s: &mut [u64], code: &[u8], len: &[usize], m: usize, n: usize, letters: u64)
+    requires { ⌜ Coded m n (now code) (now len) ⌝ }
+    requires { ⌜ 3084 ≤ length (now s) ⌝ }
+    ensures { λ r. ⌜ ((ks : List ℕ) → Rounded (2 ^ (m + n)) (now (s .entry)) (now (s .exit)) (startSet (sheetOf m n (now (code .entry)) (now (len .entry)) ks) (stored (now (s .entry)) 0) (among letters))) ⌝ }
+{
+    let v = valuations(m, n);
+    pairs::clear_rows(s, 2056, v);
+    hear(s, v, row_words(m, n), letters);
+    pairs::clear_rows(s, 1028, v);
+    bring_first(s, code, len, m, n);
+    pairs::clear_rows(s, 2056, v);
+}
+
+// ---- A later round
+
+// Row a of the reached set, what was heard of its w words, joins row g of the scratch set.
+fn join_row(s: &mut [u64], w: usize, letters: u64, a: usize, g: usize)
+    requires { ⌜ (w ≤ 4) × (a < 256) × (g < 256) × (3084 ≤ length (now s)) ⌝ }
+    ensures { λ r. ⌜ Adds 2056 (now (s .entry)) (now (s .exit)) (λ x y. eqb x g && heardIn (stored (now (s .entry)) 1028) (among letters) (64 * w) a y) ⌝ }
+{
+    let mut j: usize = 0;
+    while j < w {
+        let x = s[1028 + (4 * a + j)];
+        pairs::insert_word(s, 2056, g, j, x & letters);
+        j += 1;
+    }
+}
+
+// The same; where anything was heard, g is noted among the groups.
+fn group_row(s: &mut [u64], groups: &mut [u64], w: usize, letters: u64, a: usize, g: usize)
+    requires { ⌜ (1 ≤ w) × (w ≤ 4) × (w ≡ 3 → ⊥) × (a < 256) × (g < 256) × (length (now groups) ≡ 4) × (3084 ≤ length (now s)) ⌝ }
+    ensures joined { λ r. ⌜ Adds 2056 (now (s .entry)) (now (s .exit)) (λ x y. eqb x g && heardIn (stored (now (s .entry)) 1028) (among letters) (64 * w) a y) ⌝ }
+    ensures sparse { λ r. ⌜ ((v : ℕ) → v ≤ 256 → Sparse v (now (groups .entry)) (stored (now (s .entry)) 2056) → Sparse v (now (groups .exit)) (stored (now (s .exit)) 2056)) ⌝ }
+{
+    if row_lanes(s, 1028, w, a) & letters == 0 {
+        return;
+    }
+    join_row(s, w, letters, a, g);
+    pairs::note(groups, g);
+}
+
+// Each row below v of the reached set joins the row of its group: rows that agree in the streams of the mask.
+fn group_rows(s: &mut [u64], groups: &mut [u64], v: usize, w: usize, letters: u64, mask: usize)
+    requires { ⌜ (v ≤ 256) × (1 ≤ w) × (w ≤ 4) × (w ≡ 3 → ⊥) × (length (now groups) ≡ 4) × (3084 ≤ length (now s)) ⌝ }
+    ensures joined { λ r. ⌜ Adds 2056 (now (s .entry)) (now (s .exit)) (grouped (stored (now (s .entry)) 1028) (among letters) mask (64 * w) v) ⌝ }
+    ensures sparse { λ r. ⌜ (Sparse v (now (groups .entry)) (stored (now (s .entry)) 2056) → Sparse v (now (groups .exit)) (stored (now (s .exit)) 2056)) ⌝ }
+{
+    let mut a: usize = 0;
+    while a < v {
+        group_row(s, groups, w, letters, a, a & mask);
+        a += 1;
+    }
 }
 
 // The pairs that the scratch set brings; only rows of the groups have any, and st is room to work in.
@@ -348,7 +269,7 @@ fn bring_rows(
     let w = row_words(m, n);
     let mut g = pairs::next_bit(groups, 0, w, 0);
     while g < v {
-        bring_row(s, st, code, len, m, n, g);
+        bring_row(s, st, code, len, m, n, lanes::before(false, g), g);
         g = pairs::next_bit(groups, 0, w, g + 1);
     }
 }

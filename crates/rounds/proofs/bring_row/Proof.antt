@@ -5,22 +5,22 @@ use mathlib.Core.Path.{_≡_, refl}
 use Prim.Native.Nat.{ℕ, _+_, _-_, _*_, _^_, _≤_}
 use lib.ListN.{length}
 use mathlib.Core.List.{List}
-use mathlib.Core.Option.{some}
-use Rattle.lanes.specs.Around.{unless}
+use mathlib.Core.Option.{Option}
+use Rattle.lanes.specs.Around.{Before}
 use Rattle.lanes.specs.Coded.{sheetOf}
 use Rattle.rounds.proofs.RowLaws.{Bringing, bring-first, bring-more, bring-all, rows-end}
 use Rattle.rounds.proofs.bring_row.Statement.{statement}
 use Rattle.rounds.proofs.bring_row.Tie as tie
 
 abbrev Inv-loop : tie.InvT-loop
-Inv-loop s₀ st₀ code len m n g v w at before b₀ s st b =
+Inv-loop s₀ st₀ code len m n before g v w at b₀ s st b =
     (b ≤ 64 * w)
     × (length s ≡ length s₀)
     × (length st ≡ length st₀)
-    × ((ks : List ℕ) → Bringing (sheetOf m n code len ks) s₀ s (2 ^ (m + n)) g b)
+    × ((p : Option ℕ) → Before before p → (ks : List ℕ) → Bringing (sheetOf m n code len ks) s₀ s (2 ^ (m + n)) g p b)
 
 abbrev μ-loop : tie.MeasureT-loop
-μ-loop s₀ st₀ code len m n g v w at before b₀ s st b = v - b
+μ-loop s₀ st₀ code len m n before g v w at b₀ s st b = v - b
 
 valuations-requires : tie.Need-valuations-requires Inv-loop μ-loop
 valuations-requires c κs = c .before .before .before .before .pre .0 .ranges .streams
@@ -34,9 +34,6 @@ mul-at c = search needs
 add-at : tie.Need-add-at Inv-loop μ-loop
 add-at c = search needs
 
-before-requires : tie.Need-before-requires Inv-loop μ-loop
-before-requires c κs = search needs
-
 next-bit-requires : tie.Need-next-bit-requires Inv-loop μ-loop
 next-bit-requires c κs = search needs
 
@@ -45,20 +42,19 @@ loop-holds c = (
   c .next-bit .ensures .inside,
   refl,
   refl,
-  λ ks. bring-first _ _ _ _ (omega (arith, c .before .before .before .before .valuations .ensures)) (c .before .before .before .before .before .before .before .before .before .pre .1 .2) _ _ (c .before .before .before .row-words .ensures .under) (c .next-bit .ensures),
+  λ p r ks. bring-first _ _ _ _ p (omega (arith, c .before .before .before .valuations .ensures)) (c .before .before .before .before .before .before .before .before .pre .1 .2) _ _ (c .before .before .row-words .ensures .under) (c .next-bit .ensures),
 )
 
 seen-requires : tie.Need-seen-requires Inv-loop μ-loop
-unfolding unless
 seen-requires c κs =
-    let z = c .before .before .before .before .before2 .ensures in
-    (omega (arith, c .before .before .before .before .before .before .valuations .ensures), omega (arith, z .place, z .beside .small))
+    let z = c .before .before .before .before .before .before .before .before .before .before .pre .1 .3 .reads in
+    (omega (arith, c .before .before .before .before .before .valuations .ensures), omega (arith, z .place, z .beside .small))
 
 gain-row-requires : tie.Need-gain-row-requires Inv-loop μ-loop
 gain-row-requires c κs =
-    let q = c .before .before .before .before .before .before .before .before .before .before .before .before .before .before .pre in
+    let q = c .before .before .before .before .before .before .before .before .before .before .before .before .before .pre in
     let l = c .before .before .before .before .loop .inv in
-    (q .0, (omega (arith, l .2, q .1 .0), omega (arith, l .1, q .1 .1), omega (arith, c .before .before .before .before .before .before .before .before .before .valuations .ensures)))
+    (q .0, (omega (arith, l .2, q .1 .0), omega (arith, l .1, q .1 .1), omega (arith, c .before .before .before .before .before .before .before .before .valuations .ensures)))
 
 add-next-bit : tie.Need-add-next-bit Inv-loop μ-loop
 add-next-bit c = search needs
@@ -70,23 +66,21 @@ loop-less : tie.Need-loop-less Inv-loop μ-loop
 loop-less c = omega (arith, c .next-bit2 .ensures .onward)
 
 loop-again : tie.Need-loop-again Inv-loop μ-loop
-unfolding unless
 loop-again c =
-    let v = c .before .before .before .before .before .before .before .before .before .before .before .before .before .before .before .before .valuations .ensures in (
+    let v = c .before .before .before .before .before .before .before .before .before .before .before .before .before .before .before .valuations .ensures in (
       c .next-bit2 .ensures .inside,
       omega arith,
       omega arith,
-      λ ks.
-          bring-more _ _ _ _ (omega (arith, v)) (c .before .before .before .before .before .before .before .before .before .before .before .before .before .before .before .before .before .before .before .before .before .pre .1 .2) _ _ _ _ _ (c .before .before .before .before .before .before .before .before .before .before .before .before .before .before .before .row-words .ensures .under) (omega (arith, v)) (c .before .before .before .before .before .before .before .before .before .before .before .loop .inv .3 ks)
-          (c .before .before .before .before .before .before .gain-row .ensures (some _) (c .before .before .before .before .before .before .before .before .before .seen .ensures (some _) (c .before .before .before .before .before .before .before .before .before .before .before .before .before .before .before2 .ensures)) ks) (c .next-bit2 .ensures),
+      λ p r ks.
+          bring-more _ _ _ _ p (omega (arith, v)) (c .before .before .before .before .before .before .before .before .before .before .before .before .before .before .before .before .before .before .before .before .pre .1 .2) _ _ _ _ _ (c .before .before .before .before .before .before .before .before .before .before .before .before .before .before .row-words .ensures .under) (omega (arith, v)) (c .before .before .before .before .before .before .before .before .before .before .before .loop .inv .3 p r ks)
+          (c .before .before .before .before .before .before .gain-row .ensures p (c .before .before .before .before .before .before .before .before .before .seen .ensures p r) ks) (c .next-bit2 .ensures),
     )
 
 gain-ends-requires : tie.Need-gain-ends-requires Inv-loop μ-loop
-unfolding unless
 gain-ends-requires c κs =
-    let q = c .before .before .before .before .before .before .before .before .before .before .before .before .before .pre in
+    let q = c .before .before .before .before .before .before .before .before .before .before .before .before .pre in
     let l = c .before .before .before .loop .inv in
-    (q .0, (omega (arith, l .2, q .1 .0), omega (arith, l .1, q .1 .1), q .1 .2, record { round = some (c .before .before .before .before .before .before .before .before .before .before .before .before .before .args .g); reads = c .before .before .before .before .before .before .before2 .ensures }))
+    (q .0, (omega (arith, l .2, q .1 .0), omega (arith, l .1, q .1 .1), q .1 .2, q .1 .3))
 
 same-length : tie.Need-same-length Inv-loop μ-loop
 same-length c = search needs
@@ -95,11 +89,10 @@ same-length-2 : tie.Need-same-length-2 Inv-loop μ-loop
 same-length-2 c = search needs
 
 returns : tie.Need-returns Inv-loop μ-loop
-unfolding unless
-returns c = λ ks.
-    let v = c .before .before .before .before .before .before .before .before .before .before .before .before .before .valuations .ensures in
-    rows-end _ _ _ _ (omega (arith, v)) (c .before .before .before .before .before .before .before .before .before .before .before .before .before .before .before .before .before .before .pre .1 .2) _ _ (some _) (bring-all _ _ _ _ (omega (arith, v)) (c .before .before .before .before .before .before .before .before .before .before .before .before .before .before .before .before .before .before .pre .1 .2) _ _ (omega (arith, v)) (c .before .before .before .before .before .before .before .before .loop .inv .3 ks))
-    (c .before .before .before .before .gain-ends .ensures (some _) (c .before .before .before .before .before .before .before .before .before .before .before .before2 .ensures) ks)
+returns c = λ p r ks.
+    let v = c .before .before .before .before .before .before .before .before .before .before .before .before .valuations .ensures in
+    rows-end _ _ _ _ p (omega (arith, v)) (c .before .before .before .before .before .before .before .before .before .before .before .before .before .before .before .before .before .pre .1 .2) _ _ (bring-all _ _ _ _ p (omega (arith, v)) (c .before .before .before .before .before .before .before .before .before .before .before .before .before .before .before .before .before .pre .1 .2) _ _ (omega (arith, v)) (c .before .before .before .before .before .before .before .before .loop .inv .3 p r ks))
+    (c .before .before .before .before .gain-ends .ensures p r ks)
 
 pub bring-row-spec : {M : Type 1} → statement M
 bring-row-spec =
@@ -111,7 +104,6 @@ bring-row-spec =
     row-words-requires
     mul-at
     add-at
-    before-requires
     next-bit-requires
     loop-holds
     seen-requires

@@ -3,10 +3,12 @@ use native.Mathlib.Omega.{arith}
 use borrow.Author.Needs.{needs}
 use mathlib.Core.Path.{_≡_, refl}
 use mathlib.Core.List.{List}
+use mathlib.Core.Option.{some}
 use Prim.Native.Nat.{ℕ, _+_, _-_, _*_, _^_, _≤_, min}
 use lib.ListN.{length}
 use Rattle.pairs.specs.Storage.{stored}
 use Rattle.pairs.specs.Changes.{Adds}
+use Rattle.lanes.specs.Around.{unless}
 use Rattle.lanes.specs.Coded.{sheetOf}
 use Rattle.rounds.specs.Rows.{brought}
 use Rattle.rounds.proofs.RowLaws.{groups-first, groups-more, groups-all}
@@ -41,20 +43,28 @@ next-bit-requires c κs = let r = c .row-words .ensures in (omega arith, r .most
 loop-holds : tie.Need-loop-holds Inv-loop μ-loop
 loop-holds c = let r = c .before .before .valuations .ensures in (c .next-bit .ensures .inside, refl, refl, λ ks. groups-first _ _ _ (omega (arith, r)) _ (c .before .before .before .before .before .before .before .before .pre .1 .3) _ _ (c .next-bit .ensures))
 
+before-requires : tie.Need-before-requires Inv-loop μ-loop
+before-requires c κs = search needs
+
 bring-row-requires : tie.Need-bring-row-requires Inv-loop μ-loop
-bring-row-requires c κs = let p = c .before .before .before .before .before .before .before .before .before .before .before .before .pre in (p .0, (omega (arith, c .before .before .before .loop .inv .2, p .1 .0), omega (arith, c .before .before .before .loop .inv .1, p .1 .2), omega (arith, c .before .before .before .before .before .before .valuations .ensures)))
+unfolding unless
+bring-row-requires c κs =
+    let p = c .before .before .before .before .before .before .before .before .before .before .before .before .before .pre in
+    let l = c .before .before .before .before .loop .inv in
+    (p .0, (omega (arith, l .2, p .1 .0), omega (arith, l .1, p .1 .2), omega (arith, c .before .before .before .before .before .before .before .valuations .ensures), record { round = some (c .before .before .before .before .loop .g); reads = c .before2 .ensures }))
 
 add-next-bit : tie.Need-add-next-bit Inv-loop μ-loop
-add-next-bit c = omega (arith, c .before .before .before .before .before .before .before .before .before .before .row-words .ensures .most)
+add-next-bit c = omega (arith, c .before .before .before .before .before .before .before .before .before .before .before .row-words .ensures .most)
 
 next-bit-requires-2 : tie.Need-next-bit-requires-2 Inv-loop μ-loop
-next-bit-requires-2 c κs = let r = c .before .before .before .before .before .before .before .before .before .before .row-words .ensures in (omega (arith, r .under, c .before .before .before .before .before .before .before .before .before .before .before .valuations .ensures), r .most, omega arith, omega (arith, r .most, c .before .before .before .before .before .before .before .before .before .before .before .before .before .before .before .before .before .pre .1 .1))
+next-bit-requires-2 c κs = let r = c .before .before .before .before .before .before .before .before .before .before .before .row-words .ensures in (omega (arith, r .under, c .before .before .before .before .before .before .before .before .before .before .before .before .valuations .ensures), r .most, omega arith, omega (arith, r .most, c .before .before .before .before .before .before .before .before .before .before .before .before .before .before .before .before .before .before .pre .1 .1))
 
 loop-less : tie.Need-loop-less Inv-loop μ-loop
 loop-less c = omega (arith, c .next-bit2 .ensures .onward, c .next-bit2 .ensures .inside)
 
 loop-again : tie.Need-loop-again Inv-loop μ-loop
-loop-again c = let r = c .before .before .before .before .before .before .before .before .before .before .before .before .valuations .ensures in (c .next-bit2 .ensures .inside, omega arith, omega arith, λ ks. groups-more _ _ _ (omega (arith, r)) _ (c .before .before .before .before .before .before .before .before .before .before .before .before .before .before .before .before .before .before .pre .1 .3) _ _ _ _ _ (omega (arith, r)) (c .before .before .before .before .before .before .before .before .before .loop .inv .3 ks) (c .before .before .before .before .before .bring-row .ensures ks) (c .next-bit2 .ensures))
+unfolding unless
+loop-again c = let r = c .before .before .before .before .before .before .before .before .before .before .before .before .before .valuations .ensures in (c .next-bit2 .ensures .inside, omega arith, omega arith, λ ks. groups-more _ _ _ (omega (arith, r)) _ (c .before .before .before .before .before .before .before .before .before .before .before .before .before .before .before .before .before .before .before .pre .1 .3) _ _ _ _ _ (omega (arith, r)) (c .before .before .before .before .before .before .before .before .before .before .loop .inv .3 ks) (c .before .before .before .before .before .bring-row .ensures (some _) (c .before .before .before .before .before .before .before2 .ensures) ks) (c .next-bit2 .ensures))
 
 same-length : tie.Need-same-length Inv-loop μ-loop
 same-length c = search needs
@@ -75,6 +85,7 @@ bring-rows-spec =
     row-words-requires
     next-bit-requires
     loop-holds
+    before-requires
     bring-row-requires
     add-next-bit
     next-bit-requires-2

@@ -137,12 +137,13 @@ pub fn read_expression(e: &[u8], streams: u8) -> Outcome
     }
 }
 
-// The output that must be true in every round, where there is one.
+// The assumption: the output that must be true in every round, where there is one.
 pub enum Assumed {
     Nothing,
     Output(OutputNo),
 }
 
+// The assumption that byte 7 names, or the rule that it breaks.
 enum AssumedRead {
     Is(Assumed),
     Refused(Refusal),

@@ -26,7 +26,7 @@ use Rattle.claims.specs.Session as session
 use Rattle.claims.specs.Demands.{lent}
 use Rattle.claims.proofs.ThirdDemand.{third-demand}
 use Rattle.jigwaret.specs.Slices.{recordOf, numbersOf, sized}
-use Rattle.jigwaret.specs.Journal.{Slices, Written, BySizes, PreparationNumbered, RoundNumbered, ClosingNumbered}
+use Rattle.jigwaret.specs.Journal.{Slices, SlicesAfter, BySizes, PreparationNumbered, RoundNumbered, ClosingNumbered}
 use Rattle.jigwaret.proofs.JournalLaws.{few-outputs}
 use Rattle.calls.specs.Calls.{HeldSlices, Reply, slicesOf, ExportedStep, ExportedRun, finish, next, Shows, AllShow, empty, more, ExportedCalls}
 use Rattle.calls.proofs.ReplyLaws.{refusal-positive, zero-accepted, record-back, verdicts-shown, take-numbers, front-first, front-rest, both-first, both-second, both-rest}
@@ -85,7 +85,7 @@ module _ (bs : List ℕ) (h k : HeldSlices) (y : Reply) (w : Stands (h .numbers)
     Rounded o = RoundResult (OfSheet bs (λ x. RoundDone x (h .storage) (k .storage) (recordOf (h .numbers)) known val a)) (h .storage) (k .storage) (recordOf (h .numbers)) a o
 
     abbrev RoundWritten : Outcome → Type 0
-    RoundWritten o = Written (numbersOf (a .record)) (paste (y .before) 0 (a .verdicts) n) (slicesOf h y k) o
+    RoundWritten o = SlicesAfter (numbersOf (a .record)) (paste (y .before) 0 (a .verdicts) n) (slicesOf h y k) o
 
     round-holds : (o : Outcome) → Rounded o → RoundWritten o → Holds (k .numbers) (a .record)
     round-holds Accepted (x, e, d) p = holds (k .numbers) (a .record) (p .0) (d .counts .size)
@@ -107,7 +107,7 @@ module _ (bs : List ℕ) (h k : HeldSlices) (y : Reply) (w : Stands (h .numbers)
     ClosedBy o = ClosingResult (OfSheet bs (λ x. ClosingDone x (h .storage) (recordOf (h .numbers)) a)) (recordOf (h .numbers)) a o
 
     abbrev ClosingWritten : Outcome → Type 0
-    ClosingWritten o = Written (numbersOf (a .record)) (paste (paste (y .before) 0 (a .verdicts) n) n (a .shares) n) (slicesOf h y k) o
+    ClosingWritten o = SlicesAfter (numbersOf (a .record)) (paste (paste (y .before) 0 (a .verdicts) n) n (a .shares) n) (slicesOf h y k) o
 
     closing-holds : (o : Outcome) → ClosedBy o → ClosingWritten o → Holds (k .numbers) (a .record)
     closing-holds Accepted (x, e, d) p =
@@ -183,7 +183,7 @@ exported-calls bs s t z d cs ys k run =
     let p : PrepareAnswer = v .answer in
     let ok : p .outcome ≡ Accepted = zero-accepted (p .outcome) (v .number) in
     let prepared : OfSheet bs (λ x. Prepared x s t p) = subst (PrepareResult (OfSheet bs (λ x. Prepared x s t p)) s t p) ok (v .result .1) in
-    let new : z .rec′ ≡ numbersOf (p .record) = subst (Written (numbersOf (p .record)) (paste (z .ans) 0 (p .live ∷ []) 1) z) ok (v .written) .0 in
+    let new : z .rec′ ≡ numbersOf (p .record) = subst (SlicesAfter (numbersOf (p .record)) (paste (z .ans) 0 (p .live ∷ []) 1) z) ok (v .written) .0 in
     let q : Holds (z .rec′) (p .record) = holds (z .rec′) (p .record) new (ap length (prepared .2 .fresh .counts) ∙ length-replicate {A = ℕ} 28 0) in
     let all : AllAnswered bs (record { storage = t; numbers = z .rec′ }) cs ys k = all-calls bs (record { storage = t; numbers = z .rec′ }) k cs ys (q .stands) run in
     let told = third-demand bs s t (p .record) p

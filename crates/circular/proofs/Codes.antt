@@ -12,9 +12,9 @@ use borrow.Author.Tests.{ltb-true, ltb-false, leb-true, leb-false, lt-ltb, le-lt
 use Rattle.circular.proofs.Closure.{Entry, none, fin, unb, pick, larger, plus, blow, loop, top, Best}
 use Rattle.circular.proofs.Decide.{turned, atLeast0, circularAt, circular?, circular?-true, circular?-of}
 use Rattle.words.specs.Below.{anyBelow}
-use Rattle.words.proofs.AnyLaws.{some-any, none-any}
+use Rattle.words.proofs.AnyLaws.{any-cong, some-any, any-none, none-any}
 use Rattle.circular.specs.Circular.{Edge, Reach, last, then, Circular}
-use Rattle.circular.specs.Table.{pickN, largerN, clipN, plusN, loopN, cellN, bestN, topN, baseN, Next, Based, Closed}
+use Rattle.circular.specs.Table.{pickN, largerN, clipN, plusN, loopN, cellN, bestN, topN, baseN, Next, Based, Closed, levelBoth}
 
 -- bounds
 pick-le : (b : Bool) (x y : ℕ) → x ≤ 4096 → y ≤ 4096 → pickN b x y ≤ 4096
@@ -189,28 +189,32 @@ module _ (n : ℕ) (few : n ≤ 7) (E : ℕ → ℕ → ℕ → Bool) where
       (rep-up (2 ^ n) (Best E n s s) (bestN g n s s) (omega (arith, pow-le n few)) (rep-best E g base n s s few))
 
 -- the scan
-and-true : (a b x y : Bool) → x ≡ a → y ≡ b → x ≡ true → y ≡ true → a && b ≡ true
-and-true a b x y p q e f = rw (sym p ∙ e, sym q ∙ f) refl
+and-none : (a b : Bool) → b ≡ false → a && b ≡ false
+and-none true b e = e
+and-none false b e = refl
 
-and-false-l : (a b x : Bool) → x ≡ a → x ≡ false → a && b ≡ false
-and-false-l a b x p e = rw (sym p ∙ e) refl
-
-and-false-r : (a b y : Bool) → y ≡ b → y ≡ false → a && b ≡ false
-and-false-r true b y q f = sym q ∙ f
-and-false-r false b y q f = refl
+and-same : (a : Bool) → a && a ≡ false → a ≡ false
+and-same true e = e
+and-same false e = e
 
 pub any-more : (f : ℕ → Bool) (s : ℕ) → anyBelow s f ≡ false → f s ≡ false → anyBelow (s + 1) f ≡ false
 unfolding anyBelow
 any-more f s h e = rw add-one (rw e h)
 
--- what the scan comes to, by the definition
-yes-circular : (n : ℕ) (E : ℕ → ℕ → ℕ → Bool) (s : ℕ) → s < n → circularAt n E s ≡ true → Circular n E
-unfolding circular?
-yes-circular n E s h e = circular?-true n E (some-any n (circularAt n E) s h e)
+module _ (t u : List ℕ) (s : ℕ) where
+  pub level-at : (n : ℕ) → s < n → 1024 ≤ getD t (8 * s + s) 0 → 1024 ≤ getD u (8 * s + s) 0 → anyBelow n (levelBoth t u) ≡ true
+  level-at n h p q = some-any n (levelBoth t u) s h (rw (le-leb 1024 (getD t (8 * s + s) 0) p) (le-leb 1024 (getD u (8 * s + s) 0) q))
 
-pub not-circular : (n : ℕ) (E : ℕ → ℕ → ℕ → Bool) (s : ℕ) → s ≡ n → anyBelow s (circularAt n E) ≡ false → Circular n E → ⊥
+  pub not-first : getD t (8 * s + s) 0 < 1024 → levelBoth t u s ≡ false
+  not-first p = rw (lt-leb 1024 (getD t (8 * s + s) 0) p) refl
+
+  pub not-second : getD u (8 * s + s) 0 < 1024 → levelBoth t u s ≡ false
+  not-second q = and-none (leb 1024 (getD t (8 * s + s) 0)) (leb 1024 (getD u (8 * s + s) 0)) (lt-leb 1024 (getD u (8 * s + s) 0) q)
+
+-- what the scan comes to, by the definition
+not-circular : (n : ℕ) (E : ℕ → ℕ → ℕ → Bool) → anyBelow n (circularAt n E) ≡ false → Circular n E → ⊥
 unfolding circular?
-not-circular n E s e h c = false≢true (sym (rw e at h) ∙ circular?-of n E c)
+not-circular n E h c = false≢true (sym h ∙ circular?-of n E c)
 
 -- no reads at all
 pub none-reads : (n : ℕ) (E : ℕ → ℕ → ℕ → Bool) → ((s : ℕ) → s < n → (q o : ℕ) → E s q o ≡ false) → Circular n E → ⊥
@@ -228,27 +232,26 @@ module _ (n : ℕ) (few : n ≤ 7) (E : ℕ → ℕ → ℕ → Bool) (r : List 
   unfolding baseN
   rising-is = closed-is n few E (λ s q. baseN true (E s q)) (λ i j. rep-top (E i j 0) (E i j 1) (E i j 2)) r c
 
-  pub at-first : (s : ℕ) → s < n → getD r (8 * s + s) 0 < 1024 → circularAt n E s ≡ false
-  unfolding circularAt
-  at-first s h p = and-false-l (atLeast0 (Best E n s s)) (atLeast0 (Best (turned E) n s s)) (leb 1024 (getD r (8 * s + s) 0)) (rising-is s h) (lt-leb _ _ p)
-
   -- no closed walk of weight at least 0
-  pub none-rises : ((s : ℕ) → s < n → getD r (8 * s + s) 0 < 1024) → Circular n E → ⊥
-  none-rises f = not-circular n E n refl (none-any n (circularAt n E) (λ s h. at-first s h (f s h)))
+  pub none-rises : anyBelow n (levelBoth r r) ≡ false → Circular n E → ⊥
+  unfolding circularAt
+  none-rises e =
+      not-circular n E
+      (none-any n (circularAt n E)
+      (λ s h. rw (sym (rising-is s h) ∙ and-same (leb 1024 (getD r (8 * s + s) 0)) (any-none n (levelBoth r r) e s h)) refl))
 
   module _ (r′ : List ℕ) (c′ : Closed n (λ s q. baseN false (E s q)) r′) where
     falling-is : (s : ℕ) → s < n → leb 1024 (getD r′ (8 * s + s) 0) ≡ atLeast0 (Best (turned E) n s s)
     unfolding baseN turned
     falling-is = closed-is n few (turned E) (λ s q. baseN false (E s q)) (λ i j. rep-top (E i j 2) (E i j 1) (E i j 0)) r′ c′
 
-    pub at-both : (s : ℕ) → s < n → 1024 ≤ getD r (8 * s + s) 0 → 1024 ≤ getD r′ (8 * s + s) 0 → Circular n E
+    scan-is : anyBelow n (levelBoth r r′) ≡ anyBelow n (circularAt n E)
     unfolding circularAt
-    at-both s h p q =
-        yes-circular n E s h
-        (and-true (atLeast0 (Best E n s s)) (atLeast0 (Best (turned E) n s s)) (leb 1024 (getD r (8 * s + s) 0)) (leb 1024 (getD r′ (8 * s + s) 0))
-        (rising-is s h) (falling-is s h) (le-leb _ _ p) (le-leb _ _ q))
+    scan-is = any-cong n (levelBoth r r′) (circularAt n E) (λ s h. ap₂ _&&_ (rising-is s h) (falling-is s h))
 
-    pub at-second : (s : ℕ) → s < n → getD r′ (8 * s + s) 0 < 1024 → circularAt n E s ≡ false
-    unfolding circularAt
-    at-second s h q =
-        and-false-r (atLeast0 (Best E n s s)) (atLeast0 (Best (turned E) n s s)) (leb 1024 (getD r′ (8 * s + s) 0)) (falling-is s h) (lt-leb _ _ q)
+    pub scan-circular : anyBelow n (levelBoth r r′) ≡ true → Circular n E
+    unfolding circular?
+    scan-circular e = circular?-true n E (sym scan-is ∙ e)
+
+    pub scan-not-circular : anyBelow n (levelBoth r r′) ≡ false → Circular n E → ⊥
+    scan-not-circular e = not-circular n E (sym scan-is ∙ e)

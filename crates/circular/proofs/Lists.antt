@@ -20,10 +20,9 @@ use Rattle.sheet.specs.declared.Offset.the-variants.{Earlier, Now, Later}
 use Rattle.sheet.proofs.Formed.{Formed}
 use Rattle.lola.specs.Value.{value, near, neighbours}
 use Rattle.lola.specs.Equations.{equations, holds, first, Satisfies, letter, Letters, joined}
-use Rattle.lola.proofs.Places.{Values, joint, lookAt, right}
 use Rattle.circular.specs.Circular.{edges}
 use Rattle.circular.specs.Unique.{TraceOf}
-use Rattle.circular.proofs.Unique.{Place, Solves}
+use Rattle.circular.specs.Places.{Values, joint, lookAt, right, Place, Solves}
 use Rattle.circular.proofs.Sweep.{solves-of}
 use Rattle.circular.proofs.Values.{expressionOf, rightOf, value-same, right-reads}
 

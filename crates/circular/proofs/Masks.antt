@@ -84,13 +84,13 @@ read-word s f v k low e q o h =
     rw e (bit-shl (3 * q + o) (3 * s .0 + place f) (omega (arith, place-le f)) ∙ one-read (s .0) (place f) q o (place-le f) h)
 
 -- the word of an expression, byte by byte: the bits so far, and the reads of the bytes that are left
-pub record Kept (e : List ℕ) (i w : ℕ) : Type 0 where
+pub record MarksTo (e : List ℕ) (i w : ℕ) : Type 0 where
   pub whole : (q o : ℕ) → o ≤ 2 → bit (3 * q + o) w || bytesRead (drop i e) q o ≡ bytesRead e q o
 
-pub kept-start : (e : List ℕ) → Kept e 0 0
+pub kept-start : (e : List ℕ) → MarksTo e 0 0
 kept-start e = record { whole = λ q o h. rw (bit-none (3 * q + o)) refl }
 
-pub kept-more : (e : List ℕ) (i w x : ℕ) → i < length e → ((q o : ℕ) → o ≤ 2 → bit (3 * q + o) x ≡ opReads (opOf (getD e i 0)) q o) → Kept e i w → Kept e (i + 1) (bitOr w x)
+pub kept-more : (e : List ℕ) (i w x : ℕ) → i < length e → ((q o : ℕ) → o ≤ 2 → bit (3 * q + o) x ≡ opReads (opOf (getD e i 0)) q o) → MarksTo e i w → MarksTo e (i + 1) (bitOr w x)
 unfolding bytesRead
 kept-more e i w x h f k =
     record {
@@ -100,7 +100,7 @@ kept-more e i w x h f k =
           ∙ rw (drop-cons e i 0 h) at (k .whole q o l));
     }
 
-pub kept-end : (e : List ℕ) (i w : ℕ) → length e ≤ i → Kept e i w → Marks e w
+pub kept-end : (e : List ℕ) (i w : ℕ) → length e ≤ i → MarksTo e i w → Marks e w
 unfolding bytesRead
 kept-end e i w h k =
     record { bits = λ q o l. or-false (bit (3 * q + o) w) ∙ rw (drop-of-length-le e h) at (k .whole q o l) }

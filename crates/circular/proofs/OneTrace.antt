@@ -17,11 +17,11 @@ use Rattle.sheet.specs.Checks as sheet
 use Rattle.sheet.specs.RuleSheet.{RuleSheet, outputs, streams, accepted, readSheet}
 use Rattle.sheet.proofs.Formed.{Formed, read-formed}
 use Rattle.lola.specs.Equations.{Letters, joined}
-use Rattle.lola.proofs.Places.{Values}
 use Rattle.circular.specs.Circular.{CircularSheet, edges}
 use Rattle.circular.specs.Checks.{reading, circular, rule, Broken, checksOf}
 use Rattle.circular.specs.Unique.{TraceOf, OneTrace}
-use Rattle.circular.proofs.Unique.{Place, Solves, run}
+use Rattle.circular.specs.Places.{Values, Place, Solves}
+use Rattle.circular.proofs.Unique.{run}
 use Rattle.circular.proofs.Sweep.{solves-of}
 use Rattle.circular.proofs.Values.{rightOf, right-reads, a-solution, one-solution}
 use Rattle.circular.proofs.Lists.{inputsBy, outputsBy, letter-at, length-letters, trace-solves, trace-small, joined-trace}

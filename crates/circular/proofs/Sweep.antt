@@ -5,16 +5,8 @@ use Prim.Native.Nat.{ℕ, zero, suc, _*_, _≤_}
 use mathlib.Core.Bool.{Bool}
 use native.Mathlib.Omega.{arith}
 use Rattle.circular.specs.Circular.{Edge, Reach, last, then, Circular}
-use Rattle.circular.proofs.Unique.{Chain, stop, go, Place, Reads, Solves, round}
-
-module _ (n : ℕ) (E : ℕ → ℕ → ℕ → Bool) (N : ℕ) (sol : ℕ → ℕ → Bool) where
-  -- right if no chain of k reads starts here
-  abbrev pub RightAt : ℕ → (ℕ → ℕ → Bool) → ℕ → ℕ → Type 0
-  RightAt k v s t = (Chain n E N k s t → ⊥) → v s t ≡ sol s t
-
-  -- at every place
-  pub record Right (k : ℕ) (v : ℕ → ℕ → Bool) : Type 0 where
-    pub all : (s t : ℕ) → Place n N s t → RightAt k v s t
+use Rattle.circular.specs.Places.{Chain, stop, go, Place, Reads, Solves, RightAt, Right}
+use Rattle.circular.proofs.Unique.{round}
 
 shorter : {n : ℕ} {E : ℕ → ℕ → ℕ → Bool} {N k s t : ℕ} (j : ℕ) → j ≤ k → Chain n E N k s t → Chain n E N j s t
 shorter zero h c = stop

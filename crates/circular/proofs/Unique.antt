@@ -7,18 +7,8 @@ use native.Mathlib.Omega.{arith}
 use native.Mathlib.Nat.{mul-le-mul-left}
 use native.Mathlib.Decide.{decLt}
 use Rattle.circular.specs.Circular.{Read, Reach, last, then, Circular}
+use Rattle.circular.specs.Places.{Chain, stop, go, Place, Reads, Solves}
 use Rattle.circular.proofs.Pigeon.{pigeonhole}
-
--- k reads, one after the other
-pub data Chain (n : ℕ) (E : ℕ → ℕ → ℕ → Bool) (N : ℕ) : ℕ → ℕ → ℕ → Type 0 where
-  stop : {s t : ℕ} → Chain n E N 0 s t
-  go : {k s t q u : ℕ} → Read n E N s t q u → Chain n E N k q u → Chain n E N (suc k) s t
-
--- a place of the trace
-pub record Place (n N s t : ℕ) : Type 0 where
-  pub s-lt : s < n
-  pub t-low : 1 ≤ t
-  pub t-high : t ≤ N
 
 -- a place's number
 number : (n s t : ℕ) → ℕ
@@ -86,13 +76,6 @@ module _ {n : ℕ} {E : ℕ → ℕ → ℕ → Bool} {N : ℕ} where
         t = roundAt c (x .i);
         reach = subst₂ (λ a b. Reach n E N (outAt c (x .i)) (roundAt c (x .i)) a b) (sym (same .0)) (sym (same .1)) (reach-from c (x .i) (x .j) (x .less) (x .j-le));
       }
-
--- the equations: f v s t is the value of the right side of s in round t, at the values v
-pub record Reads (n : ℕ) (E : ℕ → ℕ → ℕ → Bool) (N : ℕ) (f : (ℕ → ℕ → Bool) → ℕ → ℕ → Bool) : Type 0 where
-  pub only : (v w : ℕ → ℕ → Bool) (s t : ℕ) → Place n N s t → ((q u : ℕ) → Read n E N s t q u → v q u ≡ w q u) → f v s t ≡ f w s t
-
-pub record Solves (n N : ℕ) (f : (ℕ → ℕ → Bool) → ℕ → ℕ → Bool) (v : ℕ → ℕ → Bool) : Type 0 where
-  pub all : (s t : ℕ) → Place n N s t → v s t ≡ f v s t
 
 -- k times over
 unfoldable pub run : ((ℕ → ℕ → Bool) → ℕ → ℕ → Bool) → ℕ → ℕ → ℕ → Bool

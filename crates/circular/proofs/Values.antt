@@ -13,11 +13,11 @@ use Rattle.sheet.specs.declared.Offset.{Offset}
 use Rattle.sheet.proofs.Formed.{Formed}
 use Rattle.lola.specs.Value.{Look, value}
 use Rattle.lola.specs.Reads.{place, hasRead}
-use Rattle.lola.proofs.Places.{Values, joint, lookAt, right}
 use Rattle.circular.specs.Circular.{CircularSheet, edges}
 use Rattle.circular.proofs.Bools.{or-l, or-r, and-both, and-l, and-r}
 use Rattle.circular.proofs.Masks.{place-le}
-use Rattle.circular.proofs.Unique.{Place, Reads, Solves, run, unique, solution}
+use Rattle.circular.specs.Places.{Values, joint, lookAt, right, Place, Reads, Solves}
+use Rattle.circular.proofs.Unique.{run, unique, solution}
 
 -- the expression of output s
 abbrev pub expressionOf : RuleSheet → ℕ → Expr

@@ -1,5 +1,6 @@
 pub mod Circular
 pub mod Table
 pub mod Masks
+pub mod Places
 pub mod Checks
 pub mod Unique

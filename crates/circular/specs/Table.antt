@@ -2,7 +2,7 @@
 -- tells the largest weight of a walk from output s to output q: 0 there is no walk, 1024 + w the weight w, 4096 the weights have no bound.
 use mathlib.Core.Path.{_≡_}
 use Prim.Native.Nat.{ℕ, zero, suc, _+_, _*_, _-_, _≤_, _<_}
-use mathlib.Core.Bool.{Bool, true, false}
+use mathlib.Core.Bool.{Bool, true, false, _&&_}
 use mathlib.Core.List.{List}
 use lib.ListN.{length, getD}
 use lib.Dec.{leb, ltb, eqb}
@@ -70,6 +70,10 @@ pub record Based (n : ℕ) (g : ℕ → ℕ → ℕ) (new : List ℕ) : Type 0 w
 -- all n stages
 pub record Closed (n : ℕ) (g : ℕ → ℕ → ℕ) (new : List ℕ) : Type 0 where
   pub cells : (i j : ℕ) → i < n → j < n → getD new (8 * i + j) 0 ≡ bestN g n i j
+
+-- both tables have a closed walk of weight at least 0 at output s
+abbrev pub levelBoth : List ℕ → List ℕ → ℕ → Bool
+levelBoth t u s = leb 1024 (getD t (8 * s + s) 0) && leb 1024 (getD u (8 * s + s) 0)
 
 -- the reads, from a table of masks: bit o of entry 7 * s + q
 unfoldable pub readsOf : List ℕ → ℕ → ℕ → ℕ → Bool

@@ -3,9 +3,10 @@ ghost use mathlib.Core.Path.{_≡_};
 ghost use mathlib.Core.Bool.{true, false};
 ghost use Prim.Native.Nat.{ℕ, _+_, _*_, _<_, _≤_};
 ghost use lib.ListN.{getD};
+ghost use Rattle.words.specs.Below.{anyBelow};
 ghost use Rattle.words.specs.Bits.{bit};
 ghost use Rattle.circular.specs.Circular.{Circular};
-ghost use Rattle.circular.specs.Table.{pickN, largerN, clipN, plusN, loopN, topN, baseN, readsOfWord, readsOfWords, Small, Part, Tails, joinedN, Next, Based, Closed};
+ghost use Rattle.circular.specs.Table.{pickN, largerN, clipN, plusN, loopN, topN, baseN, readsOfWord, readsOfWords, Small, Part, Tails, joinedN, Next, Based, Closed, levelBoth};
 use super::reads::mask_at;
 use sheet::OutputNo;
 
@@ -177,15 +178,18 @@ fn closed(words: &[u64; 7], m: u8, n: usize, up: bool) -> [u16; 64]
     t
 }
 
-// Whether some output has a closed walk of weight at least 0.
-fn has_level(t: &[u16; 64], n: usize) -> bool
+// Whether some output has a closed walk of weight at least 0 in both tables.
+fn level_in_both<'a>(t: &'a [u16; 64], u: &'a [u16; 64], n: usize) -> bool
     requires { ⌜ n ≤ 7 ⌝ }
-    ensures { λ r. ⌜ (r ≡ false → (s : ℕ) → s < n → getD (now (t .entry)) (8 * s + s) 0 < 1024) ⌝ }
+    ensures { λ r. ⌜ r ≡ anyBelow n (levelBoth (now (t .entry)) (now (u .entry))) ⌝ }
 {
     let mut s: usize = 0;
     while s < n {
-        if LEVEL <= t[8 * s + s] {
-            return true;
+        let at = 8 * s + s;
+        if LEVEL <= t[at] {
+            if LEVEL <= u[at] {
+                return true;
+            }
         }
         s += 1;
     }
@@ -219,19 +223,9 @@ pub fn circular(words: &[u64; 7], m: u8, n: usize) -> bool
         return false;
     }
     let rising = closed(words, m, n, true);
-    if !has_level(&rising, n) {
+    if !level_in_both(&rising, &rising, n) {
         return false;
     }
     let falling = closed(words, m, n, false);
-    let mut s: usize = 0;
-    while s < n {
-        let at = 8 * s + s;
-        if LEVEL <= rising[at] {
-            if LEVEL <= falling[at] {
-                return true;
-            }
-        }
-        s += 1;
-    }
-    false
+    level_in_both(&rising, &falling, n)
 }

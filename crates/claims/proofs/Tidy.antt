@@ -17,7 +17,7 @@ use Rattle.completions.specs.Steps.{Within}
 use Rattle.pairs.specs.Storage.{place, slot, stored, used}
 use Rattle.pairs.proofs.Sets.{place-lt, unused}
 use Rattle.record.specs.declared.JournalRecord.{JournalRecord}
-use Rattle.monitor.specs.Results.{width, heard, nextSet, below, Zero, Prepared, RoundDone, OfSheet, RoundResult}
+use Rattle.monitor.specs.Results.{width, heard, nextSet, partBelow, Zero, Prepared, RoundDone, OfSheet, RoundResult}
 use Rattle.monitor.specs.declared.PrepareAnswer.{PrepareAnswer}
 use Rattle.monitor.specs.declared.RoundAnswer.{RoundAnswer}
 use Rattle.claims.specs.Book.{Call, Answer}
@@ -53,7 +53,7 @@ zero-none from to t z base b c hb hc l g =
 
 prepared-tidy : (x : RuleSheet) (s t : List ℕ) (p : PrepareAnswer) → Prepared x s t p → Tidy (width x) t
 prepared-tidy x s t p d = record {
-  reached = λ b c hb hc. within-zero (ltb b (width x)) (below (width x) c) (stored t 1028 b c) (zero-none 1028 3084 t (d .empty) 1028 b c hb hc (omega arith) (omega arith));
+  reached = λ b c hb hc. within-zero (ltb b (width x)) (partBelow (width x) c) (stored t 1028 b c) (zero-none 1028 3084 t (d .empty) 1028 b c hb hc (omega arith) (omega arith));
   scratch = λ b c hb hc. zero-none 1028 3084 t (d .empty) 2056 b c hb hc (omega arith) (omega arith);
 }
 
@@ -61,8 +61,8 @@ round-tidy : (x : RuleSheet) (s t : List ℕ) (r : JournalRecord) (known val : �
 round-tidy x s t r known val a d y = record {
   reached = λ b c hb hc.
       d .reached b c hb hc
-      ∙ within-next (ltb b (width x)) (below (width x) c) (used (width x) b c) (N b c) (stored s 1028 b c) (unused (width x) b c) (y .reached b c hb hc)
-      ∙ ap (λ (u : Bool). ltb b (width x) && (below (width x) c && u)) (sym (d .reached b c hb hc));
+      ∙ within-next (ltb b (width x)) (partBelow (width x) c) (used (width x) b c) (N b c) (stored s 1028 b c) (unused (width x) b c) (y .reached b c hb hc)
+      ∙ ap (λ (u : Bool). ltb b (width x) && (partBelow (width x) c && u)) (sym (d .reached b c hb hc));
   scratch = λ b c hb hc. d .scratch b c hb hc ∙ none-left (used (width x) b c) (stored s 2056 b c) (y .scratch b c hb hc);
 }
   where

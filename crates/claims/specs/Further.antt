@@ -19,7 +19,7 @@ use Rattle.pairs.specs.Storage.{stored}
 use Rattle.record.specs.Record.{sumAt}
 use Rattle.record.specs.declared.JournalRecord.{JournalRecord}
 use Rattle.monitor.specs.Checks as checks
-use Rattle.monitor.specs.Results.{width, within, OfSheet, Prepared}
+use Rattle.monitor.specs.Results.{width, pairsWithin, OfSheet, Prepared}
 use Rattle.monitor.specs.declared.PrepareAnswer.{PrepareAnswer}
 use Rattle.claims.specs.Book.{Call, Answer, Book, BookRun}
 use Rattle.claims.specs.Session.{Held, Session}
@@ -92,7 +92,7 @@ StaysInOrder =
 -- after a preparation and any calls the scratch set is empty, and the reached set has no pair beyond the sheet's valuations: nothing is left in
 -- the words that rounds don't write (builders' choice, docs/LAYOUT)
 pub record Tidy (w : ℕ) (t : List ℕ) : Type 0 where
-  pub reached : (b : ℕ) (c : Option ℕ) → b < 256 → Within 256 c → stored t 1028 b c ≡ within w (stored t 1028) b c
+  pub reached : (b : ℕ) (c : Option ℕ) → b < 256 → Within 256 c → stored t 1028 b c ≡ pairsWithin w (stored t 1028) b c
   pub scratch : (b : ℕ) (c : Option ℕ) → b < 256 → Within 256 c → stored t 2056 b c ≡ false
 
 abbrev pub StaysTidy : Type 0

@@ -19,7 +19,7 @@ use Rattle.monitor.specs.Checks.{Given, CallCheck, sheet, Broken, rule, entryCh
 use Rattle.sheet.proofs.Formed.{counts-of, read-formed}
 use Rattle.monitor.specs.Results.{OfSheet}
 use Rattle.jigwaret.specs.Slices.{sized}
-use Rattle.jigwaret.specs.Journal.{Slices, Written, BySizes}
+use Rattle.jigwaret.specs.Journal.{Slices, SlicesAfter, BySizes}
 
 -- ---- sizes
 
@@ -48,11 +48,11 @@ sizes-right Done s t z r e h d = subst (λ (b : Bool). BySizes b Done s t z r) (
 
 -- ---- by the outcome
 
-pub written : (new answer : List ℕ) (z : Slices) (o : Outcome) → o ≡ Accepted → z .rec′ ≡ new → z .ans′ ≡ answer → Written new answer z o
-written new answer z o e p q = subst (Written new answer z) (sym e) (p, q)
+pub written : (new answer : List ℕ) (z : Slices) (o : Outcome) → o ≡ Accepted → z .rec′ ≡ new → z .ans′ ≡ answer → SlicesAfter new answer z o
+written new answer z o e p q = subst (SlicesAfter new answer z) (sym e) (p, q)
 
-pub not-written : (new answer : List ℕ) (z : Slices) (o : Outcome) (r : Refusal) → o ≡ Refused r → z .rec′ ≡ z .rec → z .ans′ ≡ z .ans → Written new answer z o
-not-written new answer z o r e p q = subst (Written new answer z) (sym e) (p, q)
+pub not-written : (new answer : List ℕ) (z : Slices) (o : Outcome) (r : Refusal) → o ≡ Refused r → z .rec′ ≡ z .rec → z .ans′ ≡ z .ans → SlicesAfter new answer z o
+not-written new answer z o r e p q = subst (SlicesAfter new answer z) (sym e) (p, q)
 
 pub number-of : (o : Outcome) (r : Refusal) (n : ℕ) → o ≡ Refused r → n ≡ refusalNo r → n ≡ outcomeNo o
 number-of o r n e f = f ∙ sym (ap outcomeNo e)

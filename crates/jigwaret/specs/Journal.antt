@@ -24,30 +24,30 @@ pub record Slices : Type 0 where
   pub ans′ : List ℕ
 
 -- by the outcome: the record and the answer are written, or both are as they were
-abbrev pub Written : List ℕ → List ℕ → Slices → Outcome → Type 0
-Written new answer z Accepted = (z .rec′ ≡ new) × (z .ans′ ≡ answer)
-Written new answer z (Refused e) = (z .rec′ ≡ z .rec) × (z .ans′ ≡ z .ans)
+abbrev pub SlicesAfter : List ℕ → List ℕ → Slices → Outcome → Type 0
+SlicesAfter new answer z Accepted = (z .rec′ ≡ new) × (z .ans′ ≡ answer)
+SlicesAfter new answer z (Refused e) = (z .rec′ ≡ z .rec) × (z .ans′ ≡ z .ans)
 
 -- preparation: a fresh record, and the number of live pairs
 pub record PreparationNumbered (bs s t : List ℕ) (z : Slices) (r : ℕ) : Type 0 where
   pub answer : PrepareAnswer
   pub result : PreparedBytes bs s t answer
   pub number : r ≡ outcomeNo (answer .outcome)
-  pub written : Written (numbersOf (answer .record)) (paste (z .ans) 0 (answer .live ∷ []) 1) z (answer .outcome)
+  pub written : SlicesAfter (numbersOf (answer .record)) (paste (z .ans) 0 (answer .live ∷ []) 1) z (answer .outcome)
 
 -- a round: the verdict numbers of the n outputs
 pub record RoundNumbered (bs s t : List ℕ) (known val : ℕ) (z : Slices) (r : ℕ) : Type 0 where
   pub answer : RoundAnswer
   pub result : RoundBytes bs s t (recordOf (z .rec)) known val answer
   pub number : r ≡ outcomeNo (answer .outcome)
-  pub written : Written (numbersOf (answer .record)) (paste (z .ans) 0 (answer .verdicts) (outputsOf bs)) z (answer .outcome)
+  pub written : SlicesAfter (numbersOf (answer .record)) (paste (z .ans) 0 (answer .verdicts) (outputsOf bs)) z (answer .outcome)
 
 -- a closing: those, and behind them the n shares
 pub record ClosingNumbered (bs s : List ℕ) (z : Slices) (r : ℕ) : Type 0 where
   pub answer : ClosingAnswer
   pub result : ClosingBytes bs s (recordOf (z .rec)) answer
   pub number : r ≡ outcomeNo (answer .outcome)
-  pub written : Written (numbersOf (answer .record)) (paste (paste (z .ans) 0 (answer .verdicts) (outputsOf bs)) (outputsOf bs) (answer .shares) (outputsOf bs)) z (answer .outcome)
+  pub written : SlicesAfter (numbersOf (answer .record)) (paste (paste (z .ans) 0 (answer .verdicts) (outputsOf bs)) (outputsOf bs) (answer .shares) (outputsOf bs)) z (answer .outcome)
 
 -- by the sizes of the slices: where they are wrong, 255, and nothing has altered
 abbrev pub BySizes : Bool → Type 0 → List ℕ → List ℕ → Slices → ℕ → Type 0

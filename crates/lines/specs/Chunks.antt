@@ -3,7 +3,7 @@
 -- Manual: "The program".
 use mathlib.Core.Path.{_≡_}
 use mathlib.Core.Bool.{true}
-use mathlib.Core.List.{List, [], _∷_, _++_}
+use mathlib.Core.List.{List, [], _∷_, _++_, flatten}
 use Prim.Native.Nat.{ℕ}
 use Rattle.refusal.specs.declared.Refusal.{Refusal}
 use Rattle.refusal.specs.declared.Outcome.the-variants.{Accepted, Refused}
@@ -25,13 +25,9 @@ pub data Run (sheet : List ℕ) : List (List ℕ) → List ℕ → Type 0 where
   turnedDown : (r : Started) (t wrote : List ℕ) {chunks : List (List ℕ)} {q : Refusal} → r .outcome ≡ Refused q → Begun sheet r t wrote (r .outcome) → Run sheet chunks wrote
   taken : (r : Started) (t wrote : List ℕ) {text : List ℕ} {chunks : List (List ℕ)} → r .outcome ≡ Accepted → Begun sheet r t wrote (r .outcome) → Rest (r .sheet) (r .state) t chunks text → Run sheet chunks text
 
-unfoldable pub joined : List (List ℕ) → List ℕ
-joined [] = []
-joined (c ∷ cs) = c ++ joined cs
-
 -- however the input is cut
 abbrev pub AnyChunks : Type 0
-AnyChunks = (sheet : List ℕ) (chunks : List (List ℕ)) (text : List ℕ) → Run sheet chunks text → Printed sheet (joined chunks) text
+AnyChunks = (sheet : List ℕ) (chunks : List (List ℕ)) (text : List ℕ) → Run sheet chunks text → Printed sheet (flatten chunks) text
 
 -- no two texts fit a sheet and an input
 abbrev pub OneText : Type 0

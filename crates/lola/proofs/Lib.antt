@@ -1,4 +1,3 @@
-pub mod Places
 pub mod Stack
 pub mod TreeReads
 pub mod ValueLaws

@@ -29,7 +29,7 @@ use Rattle.rounds.specs.Rows.{among}
 use Rattle.rounds.specs.Round.{Rounded}
 use Rattle.rounds.specs.Firsts.{Passing, Told}
 use Rattle.monitor.specs.Checks.{given}
-use Rattle.monitor.specs.Results.{width, heard, nextSet, within, Verdicts, RoundDone, ClosingDone}
+use Rattle.monitor.specs.Results.{width, heard, nextSet, pairsWithin, Verdicts, RoundDone, ClosingDone}
 use Rattle.monitor.specs.Steps.{RoundReady, Shares}
 use Rattle.monitor.specs.declared.RoundAnswer.{RoundAnswer}
 use Rattle.monitor.specs.declared.ClosingAnswer.{ClosingAnswer}
@@ -81,10 +81,10 @@ module _ (x : Sheet) (u : Usable x) where
   round-done s t r known val letters a ready f d v e₁ e₂ e₃ =
       let H : among letters ≡ heard X (masked known val) = heard-as X letters known val (u .ranges .inputs) (ready .masks) f in
       let R : Pairs = nextSet X (stored s 0) (r .rounds) (stored s 1028) (heard X (masked known val)) in
-      let same : (b : ℕ) (c : Option ℕ) → b < 256 → Within 256 c → stored t 1028 b c ≡ cond (used (width X) b c) (within (width X) R b c) (stored s 1028 b c) =
+      let same : (b : ℕ) (c : Option ℕ) → b < 256 → Within 256 c → stored t 1028 b c ≡ cond (used (width X) b c) (pairsWithin (width X) R b c) (stored s 1028 b c) =
       λ b c hb hc.
       d .reached b c hb hc
-      ∙ ap₂ (λ (w : ℕ) (S : Pairs). cond (used w b c) (within w S b c) (stored s 1028 b c)) (sym (sheet-width x)) (ap (nextSet X (stored s 0) (r .rounds) (stored s 1028)) H) in
+      ∙ ap₂ (λ (w : ℕ) (S : Pairs). cond (used w b c) (pairsWithin w S b c) (stored s 1028 b c)) (sym (sheet-width x)) (ap (nextSet X (stored s 0) (r .rounds) (stored s 1028)) H) in
       record {
         kept = record { same-length = d .same-length; beyond = d .beyond };
         live = d .live;

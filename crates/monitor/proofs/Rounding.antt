@@ -26,7 +26,7 @@ use Rattle.pairs.proofs.Sets.{used-below}
 use Rattle.rounds.specs.Rows.{among}
 use Rattle.rounds.specs.Round.{Rounded}
 use Rattle.rounds.specs.Firsts.{Passing}
-use Rattle.monitor.specs.Results.{width, heard, nextSet, within}
+use Rattle.monitor.specs.Results.{width, heard, nextSet, pairsWithin}
 
 -- ---- the sheet's numbers
 
@@ -63,13 +63,13 @@ pairs-verdict-as w S R g e =
     (pair-cong w (λ b c. S b c && not (g b)) (λ b c. R b c && not (g b)) (λ b c h k. ap (λ (z : Bool). z && not (g b)) (e b c h k)))
 
 -- a set cut down to the valuations below w is the same there
-pub within-same : (w : ℕ) (S : Pairs) (b : ℕ) (c : Option ℕ) → b < w → Within w c → within w S b c ≡ S b c
+pub within-same : (w : ℕ) (S : Pairs) (b : ℕ) (c : Option ℕ) → b < w → Within w c → pairsWithin w S b c ≡ S b c
 within-same w S b none h i = rw (lt-ltb b w h)
 within-same w S b (some c) h i = rw (lt-ltb b w h, lt-ltb c w i)
 
 -- and so is a set that is so cut down in the words that w valuations use
-pub reached-below : (w : ℕ) (S : Pairs) (l : Bool) (b : ℕ) (c : Option ℕ) → b < w → Within w c → cond (used w b c) (within w S b c) l ≡ S b c
-reached-below w S l b c h i = ap (λ (u : Bool). cond u (within w S b c) l) (used-below w b c h) ∙ within-same w S b c h i
+pub reached-below : (w : ℕ) (S : Pairs) (l : Bool) (b : ℕ) (c : Option ℕ) → b < w → Within w c → cond (used w b c) (pairsWithin w S b c) l ≡ S b c
+reached-below w S l b c h i = ap (λ (u : Bool). cond u (pairsWithin w S b c) l) (used-below w b c h) ∙ within-same w S b c h i
 
 pub wider : (w : ℕ) → w ≤ 256 → (c : Option ℕ) → Within w c → Within 256 c
 wider w h none i = tt

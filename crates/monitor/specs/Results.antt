@@ -39,13 +39,13 @@ nextSet x L zero S r = startSet x L r
 nextSet x L (suc t) S r = stepSet x (width x) L S r
 
 -- c is the end mark or a valuation below w
-abbrev pub below : ℕ → Option ℕ → Bool
-below w none = true
-below w (some c) = ltb c w
+abbrev pub partBelow : ℕ → Option ℕ → Bool
+partBelow w none = true
+partBelow w (some c) = ltb c w
 
 -- the pairs of valuations below w that are in the set
-abbrev pub within : ℕ → Pairs → Pairs
-within w S b c = ltb b w && (below w c && S b c)
+abbrev pub pairsWithin : ℕ → Pairs → Pairs
+pairsWithin w S b c = ltb b w && (partBelow w c && S b c)
 
 -- the words that the sets don't take are untouched
 pub record Kept (s t : List ℕ) : Type 0 where
@@ -78,7 +78,7 @@ pub record RoundDone (x : RuleSheet) (s t : List ℕ) (r : JournalRecord) (known
   pub live : (k : ℕ) → k < 1028 → getD t k 0 ≡ getD s k 0
   pub reached : (b : ℕ) (c : Option ℕ) → b < 256 → Within 256 c
       → stored t 1028 b c
-      ≡ cond (used (width x) b c) (within (width x) (nextSet x (stored s 0) (r .rounds) (stored s 1028) (heard x (masked known val))) b c) (stored s 1028 b c)
+      ≡ cond (used (width x) b c) (pairsWithin (width x) (nextSet x (stored s 0) (r .rounds) (stored s 1028) (heard x (masked known val))) b c) (stored s 1028 b c)
   pub scratch : (b : ℕ) (c : Option ℕ) → b < 256 → Within 256 c → stored t 2056 b c ≡ cond (used (width x) b c) false (stored s 2056 b c)
   pub verdicts : Verdicts (outputs x)
       (λ k. pairsVerdict (width x) (nextSet x (stored s 0) (r .rounds) (stored s 1028) (heard x (masked known val))) (output x k)) (a .verdicts)

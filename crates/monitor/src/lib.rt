@@ -38,7 +38,7 @@ pub struct RoundAnswer {
     pub verdicts: [u8; 7],
 }
 
-// What a closing answers: the same, with each output's share.
+// What a closing answers: the same for a journal that ends here, its record closed, with each output's share.
 pub struct ClosingAnswer {
     pub outcome: Outcome,
     pub record: JournalRecord,
@@ -180,7 +180,7 @@ pub fn prepare_read(x: Sheet, storage: &mut [u64]) -> PrepareAnswer
 {
     let outcome = form::check_form(x);
     match outcome {
-        Outcome::Refused(e) => refused_preparation(e),
+        Outcome::Refused(broken) => refused_preparation(broken),
         Outcome::Accepted => prepare_on(x, storage),
     }
 }
@@ -278,7 +278,7 @@ pub fn round_read(
 {
     let outcome = form::check_form(x);
     match outcome {
-        Outcome::Refused(e) => refused_round(e, before),
+        Outcome::Refused(broken) => refused_round(broken, before),
         Outcome::Accepted => round_on(x, storage, before, known, value),
     }
 }
@@ -356,7 +356,7 @@ pub fn close_read(x: Sheet, storage: &[u64], before: JournalRecord) -> ClosingAn
 {
     let outcome = form::check_form(x);
     match outcome {
-        Outcome::Refused(e) => refused_closing(e, before),
+        Outcome::Refused(broken) => refused_closing(broken, before),
         Outcome::Accepted => closing_on(x, storage, before),
     }
 }

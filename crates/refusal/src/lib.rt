@@ -1,6 +1,6 @@
 // Why a call is turned down, and the verdicts: the enums that every entry answers with, and the numbers they stand for.
 ghost use mathlib.Core.Path.{_≡_};
-ghost use Rattle.refusal.specs.Numbers.{refusalNo, outcomeNo, verdictNo};
+ghost use Rattle.refusal.specs.Numbers.{refusalNo, outcomeNo};
 
 // One case for each rule of the table, in the table's order.
 pub enum Refusal {
@@ -30,7 +30,8 @@ pub enum Outcome {
     Refused(Refusal),
 }
 
-// What is known of an output in a round.
+// The verdict on an output in a round, or at a closing: false or true in every completion, open where they differ, broken where there is
+// no completion.
 pub enum Verdict {
     False,
     True,
@@ -70,16 +71,5 @@ pub fn outcome_number(o: Outcome) -> u32
     match o {
         Outcome::Accepted => 0,
         Outcome::Refused(r) => refusal_number(r),
-    }
-}
-
-pub fn verdict_number(v: Verdict) -> u32
-    ensures { λ x. ⌜ x ≡ verdictNo v ⌝ }
-{
-    match v {
-        Verdict::False => 0,
-        Verdict::True => 1,
-        Verdict::Open => 2,
-        Verdict::Broken => 3,
     }
 }

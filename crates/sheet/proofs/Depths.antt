@@ -95,14 +95,14 @@ pub grows : (s : ℕ) (op : Op) (d k : ℕ) → depthAfter s op d ≡ Is k → k
 grows s op d k h = subst (λ (x : Depth). count x ≤ d + 1) h (count-bound s op d)
 
 -- the reading of the whole is the reading of the rest, from a stack as long as the count says
-abbrev pub Kept : ℕ → List ℕ → ℕ → ℕ → Type 0
-Kept s e d i = (st : List Expr) × (length st ≡ d) × (parse s [] e ≡ parse s st (drop i e))
+abbrev pub DepthTo : ℕ → List ℕ → ℕ → ℕ → Type 0
+DepthTo s e d i = (st : List Expr) × (length st ≡ d) × (parse s [] e ≡ parse s st (drop i e))
 
-module _ (s : ℕ) (e : List ℕ) (i d : ℕ) (h : i < length e) (kept : Kept s e d i) where
+module _ (s : ℕ) (e : List ℕ) (i d : ℕ) (h : i < length e) (kept : DepthTo s e d i) where
   split : parse s [] e ≡ parse s (kept .0) (getD e i 0 ∷ drop (suc i) e)
   split = kept .2 ∙ ap (parse s (kept .0)) (drop-cons e i 0 h)
 
-  pub turn : (k : ℕ) → depthAfter s (opOf (getD e i 0)) d ≡ Is k → Kept s e k (i + 1)
+  pub turn : (k : ℕ) → depthAfter s (opOf (getD e i 0)) d ≡ Is k → DepthTo s e k (i + 1)
   turn k q =
       let r = taken-on s (kept .0) (getD e i 0) (drop (suc i) e) d k (kept .1) q in
       (r .0, r .1, split ∙ r .2 ∙ ap (λ (n : ℕ). parse s (r .0) (drop n e)) (sym (add-one i)))
@@ -110,7 +110,7 @@ module _ (s : ℕ) (e : List ℕ) (i d : ℕ) (h : i < length e) (kept : Kept s 
   pub stop : (r : Refusal) → depthAfter s (opOf (getD e i 0)) d ≡ Refused r → parse s [] e ≡ broken r
   stop r q = split ∙ stopped s (kept .0) (getD e i 0) (drop (suc i) e) d r (kept .1) q
 
-module _ (s : ℕ) (e : List ℕ) (i d : ℕ) (h : i ≡ length e) (kept : Kept s e d i) where
+module _ (s : ℕ) (e : List ℕ) (i d : ℕ) (h : i ≡ length e) (kept : DepthTo s e d i) where
   at-end : parse s [] e ≡ parse s (kept .0) []
   at-end = kept .2 ∙ ap (parse s (kept .0)) (ap (λ (n : ℕ). drop n e) h ∙ drop-length e)
 

@@ -10,7 +10,7 @@ use lib.Dec.{leb, ltb, eqb}
 use borrow.Author.Tests.{lt-ltb, ltb-true, leb-true, eqb-true}
 use Rattle.sheet.specs.Bytes.{opOf, readsOf, readOf, within}
 use Rattle.sheet.specs.Expression.{Expr, constant, negation, conjunction, disjunction, read, stack, breaks, Parsed, tree, broken, applyOp, final, go-on, parse}
-use Rattle.sheet.specs.Postfix.{readByte, written, Kept, InSheet}
+use Rattle.sheet.specs.Postfix.{readByte, written, DefaultFits, InSheet}
 use Rattle.sheet.proofs.Ops.{is-now, is-earlier-false, is-earlier-true, is-later-false, is-later-true}
 use Rattle.sheet.proofs.Sheets.{and-split}
 use Rattle.sheet.specs.declared.StreamNo.{StreamNo}
@@ -28,7 +28,7 @@ streamNo q = record { 0 = q }
 shifted : (base q : ℕ) (o : Offset) (v : Bool) → readOf base (base + q) o v ≡ Read (streamNo q) o v
 shifted base q o v = ap (λ (n : ℕ). Read (streamNo n) o v) (add-sub-cancel-left base q)
 
-op-of-read : (q : ℕ) (o : Offset) (v : Bool) → q < 8 → Kept o v → opOf (readByte q o v) ≡ Read (streamNo q) o v
+op-of-read : (q : ℕ) (o : Offset) (v : Bool) → q < 8 → DefaultFits o v → opOf (readByte q o v) ≡ Read (streamNo q) o v
 unfolding readByte
 op-of-read q Now v h k = is-now (0x40 + q) (omega arith) (omega arith) ∙ shifted 0x40 q Now false ∙ ap (Read (streamNo q) Now) (sym k)
 op-of-read q Earlier false h k = is-earlier-false (0x50 + q) (omega arith) (omega arith) ∙ shifted 0x50 q Earlier false
@@ -36,7 +36,7 @@ op-of-read q Earlier true h k = is-earlier-true (0x58 + q) (omega arith) (omega 
 op-of-read q Later false h k = is-later-false (0x60 + q) (omega arith) (omega arith) ∙ shifted 0x60 q Later false
 op-of-read q Later true h k = is-later-true (0x68 + q) (omega arith) (omega arith) ∙ shifted 0x68 q Later true
 
-read-read : (s q : ℕ) (o : Offset) (v : Bool) → q < s → q < 8 → Kept o v → (st : List Expr) (f : List Expr → Parsed) → go-on (applyOp s (opOf (readByte q o v)) st) f ≡ f (read q o v ∷ st)
+read-read : (s q : ℕ) (o : Offset) (v : Bool) → q < s → q < 8 → DefaultFits o v → (st : List Expr) (f : List Expr → Parsed) → go-on (applyOp s (opOf (readByte q o v)) st) f ≡ f (read q o v ∷ st)
 unfolding applyOp
 read-read s q o v h i k st f = rw (op-of-read q o v i k) (simp (lt-ltb q s h))
 
@@ -63,7 +63,7 @@ Means b (Const true) = b ≡ 0x01
 Means b Not = b ≡ 0x02
 Means b And = b ≡ 0x03
 Means b Or = b ≡ 0x04
-Means b (Read q o v) = (b ≡ readByte (q .0) o v) × (q .0 < 8) × Kept o v
+Means b (Read q o v) = (b ≡ readByte (q .0) o v) × (q .0 < 8) × DefaultFits o v
 Means b (Rejected r) = Unit {0}
 
 pick-means : (b : ℕ) (t : Bool) (x y : Op) → (t ≡ true → Means b x) → Means b y → Means b (cond t x y)

@@ -91,13 +91,13 @@ one-more s code len code′ len′ e k h g =
     rw (add-one k) (ap₂ (λ (ts : List Expr) (x : List ℕ). ts ++ (treeOf (parse s [] x) ∷ [])) (trees-same s code len code′ len′ k h) g)
 
 -- what the loop keeps: k outputs were read, and the next one is at `at`
-pub record Kept (bs : List ℕ) (s n : ℕ) (len code : List ℕ) (at k : ℕ) : Type 0 where
+pub record OutputsTo (bs : List ℕ) (s n : ℕ) (len code : List ℕ) (at k : ℕ) : Type 0 where
   pub count : k ≤ n
   pub place : at ≤ length bs
   pub held : Held s k len code
   pub rest : readOutputs s n (drop 8 bs) ≡ after (treesOf s code len k) (readOutputs s (n - k) (drop at bs))
 
-module _ (bs : List ℕ) (s n : ℕ) (len code : List ℕ) (at k : ℕ) (kept : Kept bs s n len code at k) where
+module _ (bs : List ℕ) (s n : ℕ) (len code : List ℕ) (at k : ℕ) (kept : OutputsTo bs s n len code at k) where
   -- the expression of the next output lies in the sheet
   pub record Lies (l : ℕ) : Type 0 where
     pub short : l ≤ 64
@@ -111,7 +111,7 @@ module _ (bs : List ℕ) (s n : ℕ) (len code : List ℕ) (at k : ℕ) (kept : 
       record { short = r .short; inside = i; size = length-take-le l (drop (at + 1) bs) (omega (arith, length-drop (at + 1) bs)) }
 
   pub next : k < n → n ≤ 7 → (l : ℕ) → outputAt s (drop at bs) ≡ Bytes l → (new : List ℕ) → Put (64 * k) (take l (drop (at + 1) bs)) code new
-      → Kept bs s n (set len k l) new (at + 1 + l) (k + 1)
+      → OutputsTo bs s n (set len k l) new (at + 1 + l) (k + 1)
   next lt seven l h new put =
       let r : Step s (n - (k + 1)) (drop at bs) l = read-step s (n - (k + 1)) (drop at bs) l h in
       let i = lies l h in
@@ -176,7 +176,7 @@ after-none : (o : Outputs) → after [] o ≡ o
 after-none (trees ts) = refl
 after-none (breaks r) = refl
 
-pub begins : (bs : List ℕ) (s n : ℕ) (len code : List ℕ) → 8 ≤ length bs → length len ≡ 7 → length code ≡ 448 → Kept bs s n len code 8 0
+pub begins : (bs : List ℕ) (s n : ℕ) (len code : List ℕ) → 8 ≤ length bs → length len ≡ 7 → length code ≡ 448 → OutputsTo bs s n len code 8 0
 unfolding treesOf
 begins bs s n len code h i j =
     record {

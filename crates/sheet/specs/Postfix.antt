@@ -28,10 +28,10 @@ written (disjunction a b) = written a ++ (written b ++ (0x04 ∷ []))
 written (read q o v) = readByte q o v ∷ []
 
 -- a read of the current round has no value for a missing round; it is kept as false
-abbrev pub Kept : Offset → Bool → Type 0
-Kept Now v = v ≡ false
-Kept Earlier v = Unit {0}
-Kept Later v = Unit {0}
+abbrev pub DefaultFits : Offset → Bool → Type 0
+DefaultFits Now v = v ≡ false
+DefaultFits Earlier v = Unit {0}
+DefaultFits Later v = Unit {0}
 
 -- every read is of one of the s streams, and of one of the 8 that a byte can name
 unfoldable pub InSheet : ℕ → Expr → Type 0
@@ -39,4 +39,4 @@ InSheet s (constant v) = Unit {0}
 InSheet s (negation a) = InSheet s a
 InSheet s (conjunction a b) = InSheet s a × InSheet s b
 InSheet s (disjunction a b) = InSheet s a × InSheet s b
-InSheet s (read q o v) = (q < s) × (q < 8) × Kept o v
+InSheet s (read q o v) = (q < s) × (q < 8) × DefaultFits o v

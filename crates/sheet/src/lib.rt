@@ -1,7 +1,6 @@
 // Reads a rule sheet: its header, and each output's expression as its own stretch of the sheet. Rules 1 to 9.
 ghost use mathlib.Core.Path.{_≡_};
-ghost use Prim.Native.Nat.{_+_, _<_, _≤_};
-ghost use Prim.Native.Nat.{_^_};
+ghost use Prim.Native.Nat.{_+_, _%_, _^_, _<_, _≤_};
 ghost use mathlib.Core.List.{[]};
 ghost use Rattle.sheet.specs.Bytes.{opOf};
 ghost use Rattle.sheet.specs.Expression.{parse, outcomeOf};
@@ -45,6 +44,13 @@ pub enum Op {
     Rejected(Refusal),
 }
 
+// The read of the stream that the last three bits of a byte number.
+fn read(byte: u8, offset: Offset, none: bool) -> Op
+    ensures { λ r. ⌜ r ≡ Op.Read (record { 0 = byte % 8 }) offset none ⌝ }
+{
+    Op::Read(StreamNo(byte % 8), offset, none)
+}
+
 // The meaning of an expression byte.
 pub fn operation(byte: u8) -> Op
     ensures { λ r. ⌜ r ≡ opOf byte ⌝ }
@@ -55,11 +61,11 @@ pub fn operation(byte: u8) -> Op
         0x02 => Op::Not,
         0x03 => Op::And,
         0x04 => Op::Or,
-        0x40..=0x47 => Op::Read(StreamNo(byte % 8), Offset::Now, false),
-        0x50..=0x57 => Op::Read(StreamNo(byte % 8), Offset::Earlier, false),
-        0x58..=0x5F => Op::Read(StreamNo(byte % 8), Offset::Earlier, true),
-        0x60..=0x67 => Op::Read(StreamNo(byte % 8), Offset::Later, false),
-        0x68..=0x6F => Op::Read(StreamNo(byte % 8), Offset::Later, true),
+        0x40..=0x47 => read(byte, Offset::Now, false),
+        0x50..=0x57 => read(byte, Offset::Earlier, false),
+        0x58..=0x5F => read(byte, Offset::Earlier, true),
+        0x60..=0x67 => read(byte, Offset::Later, false),
+        0x68..=0x6F => read(byte, Offset::Later, true),
         _ => Op::Rejected(Refusal::Byte),
     }
 }
@@ -79,32 +85,28 @@ fn after_byte(byte: u8, streams: u8, depth: usize) -> Depth
         Op::Const(_) => Depth::Is(depth + 1),
         Op::Not => {
             if depth < 1 {
-                Depth::Refused(Refusal::Values)
-            } else {
-                Depth::Is(depth)
+                return Depth::Refused(Refusal::Values);
             }
+            Depth::Is(depth)
         }
         Op::And => {
             if depth < 2 {
-                Depth::Refused(Refusal::Values)
-            } else {
-                Depth::Is(depth - 1)
+                return Depth::Refused(Refusal::Values);
             }
+            Depth::Is(depth - 1)
         }
         Op::Or => {
             if depth < 2 {
-                Depth::Refused(Refusal::Values)
-            } else {
-                Depth::Is(depth - 1)
+                return Depth::Refused(Refusal::Values);
             }
+            Depth::Is(depth - 1)
         }
         Op::Read(stream, _, _) => {
             let q = stream.0;
             if q < streams {
-                Depth::Is(depth + 1)
-            } else {
-                Depth::Refused(Refusal::Byte)
+                return Depth::Is(depth + 1);
             }
+            Depth::Refused(Refusal::Byte)
         }
         Op::Rejected(r) => Depth::Refused(r),
     }
@@ -135,12 +137,13 @@ pub fn read_expression(e: &[u8], streams: u8) -> Outcome
     }
 }
 
-// The output that must be true in every round, where there is one.
+// The assumption: the output that must be true in every round, where there is one.
 pub enum Assumed {
     Nothing,
     Output(OutputNo),
 }
 
+// The assumption that byte 7 names, or the rule that it breaks.
 enum AssumedRead {
     Is(Assumed),
     Refused(Refusal),

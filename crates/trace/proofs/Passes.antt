@@ -8,9 +8,8 @@ use native.Mathlib.Omega.{arith}
 use native.Mathlib.Decide.{ℕ-discrete, decLt}
 use lib.ListN.{length, getD}
 use Rattle.words.specs.Bits.{bit}
-use Rattle.lola.proofs.Places.{Values}
-use Rattle.circular.proofs.Unique.{Place, Reads, Solves}
-use Rattle.circular.proofs.Sweep.{Right, RightAt, fresh-right}
+use Rattle.circular.specs.Places.{Values, Place, Reads, Solves, RightAt, Right}
+use Rattle.circular.proofs.Sweep.{fresh-right}
 use Rattle.trace.specs.Passes.{valuesOf, Filled, BitPut, Passed}
 
 pub filled-after : {m n N : ℕ} {f : Values → Values} {P : ℕ → ℕ → Type 0} {letters old new : List ℕ} {changed : Bool}

@@ -19,9 +19,9 @@ use Rattle.sheet.specs.declared.Offset.the-variants.{Earlier, Now, Later}
 use Rattle.lola.specs.Value.{value}
 use Rattle.lola.proofs.ValueLaws.{value-of-bytes}
 use Rattle.lola.specs.Slots.{slots}
-use Rattle.lola.proofs.Places.{joint, lookAt, right}
+use Rattle.circular.specs.Places.{joint, lookAt, right}
 use Rattle.sheet.specs.Reading.{codeAt}
-use Rattle.trace.specs.Passes.{valuesOf, seen, treeIn, sides, Setting, Filled, Beside, Environment}
+use Rattle.trace.specs.Passes.{valuesOf, seen, treeIn, sides, Setting, Filled, SeenRound, Environment}
 
 -- the bits of a round's valuation
 stream-of-round : (m : ℕ) (letters buf : List ℕ) (at q : ℕ) → 2 ≤ at → getD letters (at - 2) 0 < 2 ^ m
@@ -47,7 +47,7 @@ module _ (letters : List ℕ) (at : ℕ) where
 
 module _ (m : ℕ) (letters buf : List ℕ) (at : ℕ) where
   -- no such round
-  pub beside-none : (leb 2 at && leb at (suc (length letters))) ≡ false → Beside m letters buf at 0xff00
+  pub beside-none : (leb 2 at && leb at (suc (length letters))) ≡ false → SeenRound m letters buf at 0xff00
   unfolding seen
   beside-none e =
       record {
@@ -67,7 +67,7 @@ module _ (m : ℕ) (letters buf : List ℕ) (at : ℕ) where
         let g : 2 ^ (m + n) ≤ 2 ^ 8 = pow-mono {i = m + n} {j = 8} (filled .streams) in
         omega (arith, join-lt m n (getD letters (at - 2) 0) (getD buf (at - 2) 0) below (filled .bytes-below (at - 2) (omega (arith, filled .same))))
 
-    pub beside-some : Beside m letters buf at (v + 256 * v)
+    pub beside-some : SeenRound m letters buf at (v + 256 * v)
     unfolding seen
     beside-some =
         record {
@@ -91,7 +91,7 @@ module _ (c e l : ℕ) (cl : c < 2 ^ 16) (el : e < 2 ^ 16) where
   third q k p = ap (λ (z : ℕ). bit z word) p ∙ bit-above 16 (16 + k) c (e + 65536 * l) cl ∙ bit-above 16 k e l el
 
 pub environment-of : (m : ℕ) (letters buf : List ℕ) (t c e l : ℕ) → 1 ≤ t → t ≤ length letters
-    → Beside m letters buf (t + 1) c → Beside m letters buf t e → Beside m letters buf (t + 2) l
+    → SeenRound m letters buf (t + 1) c → SeenRound m letters buf t e → SeenRound m letters buf (t + 2) l
     → Environment m letters buf t (c + 65536 * (e + 65536 * l))
 unfolding slots lookAt seen
 environment-of m letters buf t c e l h g bc be bl =

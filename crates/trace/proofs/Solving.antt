@@ -6,9 +6,9 @@ use Prim.Native.Nat.{ℕ, _+_, _*_, _^_, _<_, _≤_}
 use native.Mathlib.Numerals.{add-one}
 use native.Mathlib.Nat.{mul-le-mul}
 use lib.ListN.{length, getD}
-use Rattle.lola.proofs.Places.{Values}
-use Rattle.circular.proofs.Unique.{Reads, Solves, run, solution}
-use Rattle.circular.proofs.Sweep.{Right, right-start, right-end, solves-of}
+use Rattle.circular.specs.Places.{Values, Reads, Solves, Right}
+use Rattle.circular.proofs.Unique.{run, solution}
+use Rattle.circular.proofs.Sweep.{right-start, right-end, solves-of}
 use Rattle.trace.specs.Passes.{valuesOf, Filled, Passed, Solved}
 
 -- k passes are done

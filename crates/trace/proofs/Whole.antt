@@ -19,12 +19,11 @@ use Rattle.sheet.proofs.Sheets.{tree-at, length-trees}
 use Rattle.sheet.proofs.Formed.{Formed, usable-formed}
 use Rattle.lola.specs.Value.{value}
 use Rattle.lola.specs.Equations.{Satisfies, Letters, joined}
-use Rattle.lola.proofs.Places.{Values, lookAt, right}
 use Rattle.circular.specs.Circular.{Circular, CircularSheet, edges}
-use Rattle.circular.proofs.Unique.{Reads, Solves}
+use Rattle.circular.specs.Places.{Values, lookAt, right, Reads, Solves}
 use Rattle.circular.proofs.Values.{rightOf, right-reads}
 use Rattle.circular.proofs.Lists.{inputsBy, outputsBy, joined-trace}
-use Rattle.trace.specs.Evaluated.{Written, Evaluated}
+use Rattle.trace.specs.Evaluated.{OutputsWritten, Evaluated}
 use Rattle.trace.specs.Passes.{valuesOf, sides, Setting, Filled, Solved, Ready, Left}
 
 pub setting-of : (x : Sheet) → Usable x → Setting (x .inputs) (x .outputs) (x .code) (x .len)
@@ -134,7 +133,7 @@ module _ (x : Sheet) (u : Usable x) (letters out c : List ℕ) (ready : Ready (x
     below : (i : ℕ) → i < length a → getD a i 0 < 2 ^ x .outputs
     below = solved .below (filled-start .bytes-below)
 
-    pub written-of : Written (ruleSheet x) letters out (a ++ drop (length letters) (c ++ drop (length letters) out))
+    pub written-of : OutputsWritten (ruleSheet x) letters out (a ++ drop (length letters) (c ++ drop (length letters) out))
     written-of =
         record {
           len =

@@ -12,7 +12,7 @@ use Rattle.lola.specs.Equations.{Satisfies, joined}
 
 -- For each of the N letters the byte whose bit k is output k: no bit beyond the outputs is set, and the valuations that letters and
 -- bytes make satisfy all equations, nothing before the first and nothing after the last. Bytes after the first N keep their contents.
-pub record Written (x : RuleSheet) (letters old new : List ℕ) : Type 0 where
+pub record OutputsWritten (x : RuleSheet) (letters old new : List ℕ) : Type 0 where
   pub len : length new ≡ length old
   pub rest : drop (length letters) new ≡ drop (length letters) old
   pub bytes : (i : ℕ) → i < length letters → getD new i 0 < 2 ^ outputs x
@@ -20,5 +20,5 @@ pub record Written (x : RuleSheet) (letters old new : List ℕ) : Type 0 where
 
 -- accepted: the bytes by the sheet that was read; a refusal leaves the buffer that was handed in
 abbrev pub Evaluated : List ℕ → List ℕ → List ℕ → List ℕ → Outcome → Type 0
-Evaluated bs letters old new Accepted = (x : RuleSheet) × (readSheet bs ≡ accepted x) × Written x letters old new
+Evaluated bs letters old new Accepted = (x : RuleSheet) × (readSheet bs ≡ accepted x) × OutputsWritten x letters old new
 Evaluated bs letters old new (Refused r) = new ≡ old

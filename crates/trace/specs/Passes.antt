@@ -13,11 +13,9 @@ use Rattle.sheet.specs.Reading.{treeOf, codeAt}
 use Rattle.sheet.specs.RuleSheet.{RuleSheet}
 use Rattle.sheet.specs.declared.Offset.{Offset}
 use Rattle.lola.specs.Slots.{slots}
-use Rattle.lola.proofs.Places.{Values, joint, lookAt, right}
-use Rattle.trace.specs.Evaluated.{Written}
+use Rattle.trace.specs.Evaluated.{OutputsWritten}
 use Rattle.circular.specs.Circular.{Circular}
-use Rattle.circular.proofs.Unique.{Place, Reads, Solves}
-use Rattle.circular.proofs.Sweep.{Right, RightAt}
+use Rattle.circular.specs.Places.{Values, joint, lookAt, right, Place, Reads, Solves, RightAt, Right}
 
 -- bit s of the byte of round t
 unfoldable pub valuesOf : List ℕ → Values
@@ -53,7 +51,7 @@ seen m letters buf at q d =
     cond (leb 2 at && leb at (suc (length letters))) (joint m (valuesOf letters) (valuesOf buf) q (at - 1)) d
 
 -- two bytes: the streams of that round, false in the low one and true in the high one where there is none
-pub record Beside (m : ℕ) (letters buf : List ℕ) (at r : ℕ) : Type 0 where
+pub record SeenRound (m : ℕ) (letters buf : List ℕ) (at r : ℕ) : Type 0 where
   pub small : r < 2 ^ 16
   pub low : (q : ℕ) → q < 8 → bit q r ≡ seen m letters buf at q false
   pub high : (q : ℕ) → q < 8 → bit (8 + q) r ≡ seen m letters buf at q true
@@ -111,5 +109,5 @@ pub record Ready (m : ℕ) (letters : List ℕ) (room : ℕ) : Type 0 where
 
 -- what is left in the buffer, for a sheet that was read
 abbrev pub Left : RuleSheet → List ℕ → List ℕ → List ℕ → Outcome → Type 0
-Left x letters old new Accepted = Written x letters old new
+Left x letters old new Accepted = OutputsWritten x letters old new
 Left x letters old new (Refused r) = new ≡ old

@@ -7,7 +7,7 @@ ghost use Rattle.refusal.specs.Decided.{Decided};
 ghost use Rattle.sheet.specs.Reading.{ruleSheet, Usable, whenAccepted};
 ghost use Rattle.circular.specs.Circular.{CircularSheet};
 ghost use Rattle.trace.specs.Checks.{rule, Broken, extent, letterChecks, checksOf};
-ghost use Rattle.trace.specs.Evaluated.{Written, Evaluated};
+ghost use Rattle.trace.specs.Evaluated.{OutputsWritten, Evaluated};
 ghost use Rattle.trace.specs.Passes.{FirstBad, Ready, Left};
 use refusal::Outcome;
 use refusal::Refusal;
@@ -69,7 +69,7 @@ fn check_run(m: usize, letters: &[u8], room: usize) -> Outcome
 // Writes the output bytes of a sheet that was accepted.
 fn fill(x: Sheet, letters: &[u8], out: &mut [u8])
     requires { ⌜ Usable x × (CircularSheet (ruleSheet x) → ⊥) × Ready (x .inputs) (now letters) (length (now out)) ⌝ }
-    ensures { λ r. ⌜ Written (ruleSheet x) (now (letters .entry)) (now (out .entry)) (now (out .exit)) ⌝ }
+    ensures { λ r. ⌜ OutputsWritten (ruleSheet x) (now (letters .entry)) (now (out .entry)) (now (out .exit)) ⌝ }
 {
     let code = x.code;
     let len = x.len;

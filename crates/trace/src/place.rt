@@ -2,7 +2,7 @@
 ghost use mathlib.Core.Path.{_≡_};
 ghost use Prim.Native.Nat.{_+_, _*_, _<_, _≤_, _^_};
 ghost use lib.ListN.{length, getD};
-ghost use Rattle.trace.specs.Passes.{Setting, Filled, Beside, Environment, BitPut, Refreshed};
+ghost use Rattle.trace.specs.Passes.{Setting, Filled, SeenRound, Environment, BitPut, Refreshed};
 
 pub fn wide(x: u8) -> u64
     ensures { λ r. ⌜ r ≡ x ⌝ }
@@ -21,7 +21,7 @@ fn valuation(m: usize, letters: &[u8], buf: &[u8], i: usize) -> u64
 // The streams of round at - 1 twice, or false and true where there is no such round.
 fn beside(m: usize, n: usize, letters: &[u8], buf: &[u8], at: usize) -> u64
     requires { ⌜ Filled m n (now letters) (now buf) ⌝ }
-    ensures { λ r. ⌜ Beside m (now (letters .entry)) (now (buf .entry)) at r ⌝ }
+    ensures { λ r. ⌜ SeenRound m (now (letters .entry)) (now (buf .entry)) at r ⌝ }
 {
     if at < 2 {
         return 0xff00;

@@ -4,12 +4,12 @@ use mathlib.Core.Path.{refl, sym, _∙_}
 use Prim.Native.Nat.{_-_}
 use denote.Ref.{now}
 use native.Mathlib.Nat.{add-sub-cancel-left}
-use Rattle.sheet.proofs.Sheets.{Kept, begins, lies, next, stopped, left-over, nothing-left, all-held}
+use Rattle.sheet.proofs.Sheets.{OutputsTo, begins, lies, next, stopped, left-over, nothing-left, all-held}
 use Rattle.sheet.proofs.read_outputs.Statement.{statement}
 use Rattle.sheet.proofs.read_outputs.Tie as tie
 
 abbrev Inv-loop : tie.InvT-loop
-Inv-loop s streams n len₀ code₀ outputs at₀ k₀ len code at k = Kept s streams n len code at k
+Inv-loop s streams n len₀ code₀ outputs at₀ k₀ len code at k = OutputsTo s streams n len code at k
 
 abbrev μ-loop : tie.MeasureT-loop
 μ-loop s streams n len₀ code₀ outputs at₀ k₀ len code at k = n - k

@@ -2,12 +2,12 @@ use Prim.Native.Nat.{_≤_, _-_}
 use native.Mathlib.Omega.{arith}
 use lib.ListN.{length}
 use borrow.Author.Needs.{needs}
-use Rattle.circular.proofs.Masks.{Kept, kept-start, kept-more, kept-end}
+use Rattle.circular.proofs.Masks.{MarksTo, kept-start, kept-more, kept-end}
 use Rattle.circular.proofs.reads.expression_reads.Statement.{statement}
 use Rattle.circular.proofs.reads.expression_reads.Tie as tie
 
 abbrev Inv-loop : tie.InvT-loop
-Inv-loop e word₀ i₀ word i = (i ≤ length e) × Kept e i word
+Inv-loop e word₀ i₀ word i = (i ≤ length e) × MarksTo e i word
 
 abbrev μ-loop : tie.MeasureT-loop
 μ-loop e word₀ i₀ word i = length e - i

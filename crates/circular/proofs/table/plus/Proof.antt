@@ -23,7 +23,9 @@ pick-requires-4 c κs = search needs
 
 returns : tie.Need-returns
 unfolding plusN
-returns c = cc
+returns c =
+    rw (c .before .before .before .before .clip .ensures)
+    at (rw (c .before .before .before .pick .ensures) at (rw (c .before .before .pick2 .ensures) at (rw (c .before .pick3 .ensures) at (c .pick4 .ensures))))
 
 pub plus-spec : {M : Type 1} → statement M
 plus-spec =

@@ -14,7 +14,7 @@ pick-requires-3 c κs = search needs
 
 returns : tie.Need-returns
 unfolding topN
-returns c = cc
+returns c = rw (c .before .before .pick .ensures) at (rw (c .before .pick2 .ensures) at (c .pick3 .ensures))
 
 pub top-spec : {M : Type 1} → statement M
 top-spec = tie.close (tie.spec pick-requires pick-requires-2 pick-requires-3 returns)

@@ -11,7 +11,8 @@ use Rattle.words.proofs.JoinLaws.{bit-low, bit-above}
 use Rattle.sheet.specs.declared.Offset.{Offset}
 use Rattle.sheet.specs.declared.Offset.the-variants.{Earlier, Now, Later}
 use Rattle.lola.specs.Value.{near, neighbours}
-use Rattle.lanes.specs.Around.{slot, readAt, laneLook, Beside, Before, Seen, Ahead, unless}
+use Rattle.lola.specs.Slots.{readNo}
+use Rattle.lanes.specs.Around.{readAt, laneLook, Beside, Before, Seen, Ahead, unless}
 
 -- ---- the word
 
@@ -77,7 +78,7 @@ own-stream env f v k q e g = own-read env f v k e ∙ ap (λ (r : ℕ). bit r v)
 
 pub seen-look : (env : ℕ) (p : Option ℕ) (b : ℕ) → Seen env p b → (v q : ℕ) (o : Offset) (d : Bool) → q < 8
     → laneLook env 2 v q o d ≡ neighbours p b (some v) q o d
-unfolding slot near
+unfolding readNo near
 seen-look env p b s v q Now d l = shared-read env 2 v q (λ e. omega arith) ∙ s .here q l
 seen-look env p b s v q Earlier false l = shared-read env 2 v (16 + q) (λ e. omega arith) ∙ s .unset q l
 seen-look env p b s v q Earlier true l = shared-read env 2 v (24 + q) (λ e. omega arith) ∙ s .set q l
@@ -86,7 +87,7 @@ seen-look env p b s v q Later true l = own-stream env 2 v (40 + q) q (omega arit
 
 pub ahead-look : (env b : ℕ) (c : Option ℕ) → Ahead env b c → (v q : ℕ) (o : Offset) (d : Bool) → q < 8
     → laneLook env 1 v q o d ≡ neighbours (some v) b c q o d
-unfolding slot near
+unfolding readNo near
 ahead-look env b c s v q Now d l = shared-read env 1 v q (λ e. omega arith) ∙ s .here q l
 ahead-look env b c s v q Earlier false l = own-stream env 1 v (16 + q) q (omega arith) (omega arith)
 ahead-look env b c s v q Earlier true l = own-stream env 1 v (24 + q) q (omega arith) (omega arith)
@@ -102,7 +103,7 @@ module _ (env : ℕ) (p : Option ℕ) (b : ℕ) (s : Seen env p b) where
   high k q e = ap (λ (i : ℕ). bit i (env + 0xff00_0000_0000)) e ∙ bit-above 32 q env 0xff00 (s .small)
 
   pub ender-look : (v q : ℕ) (o : Offset) (d : Bool) → q < 8 → laneLook (env + 0xff00_0000_0000) 0 v q o d ≡ neighbours p v none q o d
-  unfolding slot near
+  unfolding readNo near
   ender-look v q Now d l = own-stream (env + 0xff00_0000_0000) 0 v q q (omega arith) (omega arith)
   ender-look v q Earlier false l = shared-read (env + 0xff00_0000_0000) 0 v (16 + q) (λ e. omega arith) ∙ low (16 + q) (omega arith) ∙ s .unset q l
   ender-look v q Earlier true l = shared-read (env + 0xff00_0000_0000) 0 v (24 + q) (λ e. omega arith) ∙ low (24 + q) (omega arith) ∙ s .set q l

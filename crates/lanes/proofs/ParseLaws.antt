@@ -20,7 +20,8 @@ use Rattle.refusal.specs.declared.Refusal.{Refusal}
 use Rattle.refusal.specs.declared.Refusal.the-variants.{Byte, Values}
 use Rattle.lola.specs.Value.{Look, value}
 use Rattle.lanes.specs.Machine.{negTop, andTop, orTop, stepped}
-use Rattle.lanes.specs.Around.{slot, readAt, laneLook, below, laneStack, Stepped}
+use Rattle.lola.specs.Slots.{readNo}
+use Rattle.lanes.specs.Around.{readAt, laneLook, below, laneStack, Stepped}
 use Rattle.lanes.proofs.StackLaws.{byte-read, byte-const, byte-not, byte-and, byte-or}
 
 -- the values of a stack of trees, which lie on r
@@ -30,7 +31,7 @@ values look r (x ∷ st) = value look x ∷ values look r st
 
 -- the reads of an environment of read bytes
 abbrev reads : (ℕ → Bool) → Look
-reads env q o d = env (slot q o d)
+reads env q o d = env (readNo q o d)
 
 -- ---- what a byte's operation does to the stack of values
 
@@ -39,7 +40,7 @@ Means env b (Const v) = (s : List Bool) → v ∷ s ≡ stepped env b s
 Means env b Not = (s : List Bool) → negTop s ≡ stepped env b s
 Means env b And = (s : List Bool) → andTop s ≡ stepped env b s
 Means env b Or = (s : List Bool) → orTop s ≡ stepped env b s
-Means env b (Read q o d) = (s : List Bool) → env (slot (q .0) o d) ∷ s ≡ stepped env b s
+Means env b (Read q o d) = (s : List Bool) → env (readNo (q .0) o d) ∷ s ≡ stepped env b s
 Means env b (Rejected r) = Unit {0}
 
 pick : (env : ℕ → Bool) (b : ℕ) (t : Bool) (x y : Op) → (t ≡ true → Means env b x) → Means env b y → Means env b (cond t x y)
@@ -51,7 +52,7 @@ and-split true b e = (refl, e)
 and-split false b e = absurd (let y : _≡_ {A = ℕ} 0 1 = cc in omega arith)
 
 -- a read of one of the five families, whose byte is lo + q, has the word k + q, where k = lo - 0x40
-family : (env : ℕ → Bool) (lo hi k b : ℕ) (o : Offset) (d : Bool) → ((q : ℕ) → slot q o d ≡ k + q) → lo ≡ 0x40 + k → hi ≤ 0x6F → within lo hi b ≡ true
+family : (env : ℕ → Bool) (lo hi k b : ℕ) (o : Offset) (d : Bool) → ((q : ℕ) → readNo q o d ≡ k + q) → lo ≡ 0x40 + k → hi ≤ 0x6F → within lo hi b ≡ true
     → Means env b (readOf lo b o d)
 family env lo hi k b o d f e h w s =
     let r = and-split (leb lo b) (leb b hi) w in
@@ -67,7 +68,7 @@ or-is : (env : ℕ → Bool) (b : ℕ) (s : List Bool) → b ≡ 4 → orTop s �
 or-is env b s e = byte-or env b s (omega arith) (λ q. omega arith) (λ q. omega arith) (omega arith)
 
 pub op-means : (env : ℕ → Bool) (b : ℕ) → Means env b (opOf b)
-unfolding opOf readsOf slot
+unfolding opOf readsOf readNo
 op-means env b =
     pick env b (eqb b 0) _ _ (λ e s. const-is env b s 0 false (eqb-true b 0 e) (omega arith) refl)
     (pick env b (eqb b 1) _ _ (λ e s. const-is env b s 1 true (eqb-true b 1 e) (omega arith) refl)
@@ -109,7 +110,7 @@ module _ (env : ℕ → Bool) (r : List Bool) (s : ℕ) (x : Expr) (b : ℕ) (bs
     where
       go : (u : Bool) → go-on (cond u (stack (read (q .0) o d ∷ st)) (breaks Byte)) (λ st′. parse s st′ bs) ≡ tree x
           → Stacked (reads env) r s x bs (stepped env b vs)
-      go true k = record { trees = read (q .0) o d ∷ st; left = k; same = sym (m vs) ∙ ap (λ (z : List Bool). env (slot (q .0) o d) ∷ z) e }
+      go true k = record { trees = read (q .0) o d ∷ st; left = k; same = sym (m vs) ∙ ap (λ (z : List Bool). env (readNo (q .0) o d) ∷ z) e }
       go false k = absurd (wrong Byte x k)
   by-op (Rejected f) m st e h = absurd (wrong f x h)
 

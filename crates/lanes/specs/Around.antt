@@ -9,18 +9,9 @@ use Prim.Native.Nat.{ℕ, zero, suc, _+_, _*_, _/_, _%_, _^_, _<_, _≤_}
 use lib.Dec.{eqb, leb, ltb}
 use lib.ListN.{getD}
 use Rattle.words.specs.Bits.{bit}
-use Rattle.sheet.specs.declared.Offset.{Offset}
-use Rattle.sheet.specs.declared.Offset.the-variants.{Earlier, Now, Later}
 use Rattle.lola.specs.Value.{Look, near}
+use Rattle.lola.specs.Slots.{readNo}
 use Rattle.lanes.specs.Machine.{stepped}
-
--- the number of a read's bit: its byte less 0x40
-unfoldable pub slot : ℕ → Offset → Bool → ℕ
-slot q Now d = q
-slot q Earlier false = 16 + q
-slot q Earlier true = 24 + q
-slot q Later false = 32 + q
-slot q Later true = 40 + q
 
 -- the read with the number k, in the lane of the valuation v: of the family f (0 now, 1 earlier, 2 later) the streams of v are read
 unfoldable pub readAt : ℕ → ℕ → ℕ → ℕ → Bool
@@ -28,7 +19,7 @@ readAt env f v k = cond (eqb (k / 16) f) (bit (k % 8) v) (bit k env)
 
 -- the reads in that lane
 abbrev pub laneLook : ℕ → ℕ → ℕ → Look
-laneLook env f v q o d = readAt env f v (slot q o d)
+laneLook env f v q o d = readAt env f v (readNo q o d)
 
 -- the round itself in the lane of v: where its own reads are the lane's, it is v
 abbrev pub here : ℕ → ℕ → ℕ → ℕ

@@ -24,7 +24,7 @@ use Rattle.sheet.specs.declared.Op.the-variants.{Const, Not, And, Or, Read, Rej
 use Rattle.refusal.specs.declared.Refusal.{Refusal}
 use Rattle.refusal.specs.declared.Refusal.the-variants.{Byte, Values}
 use Rattle.lola.specs.Value.{Look, value}
-use Rattle.lola.specs.Slots.{slots, Works}
+use Rattle.lola.specs.Slots.{readNo, slots, Works}
 
 -- the number of a stack of trees: the value of the top is its lowest digit
 unfoldable pub number : Look → List Expr → ℕ
@@ -60,7 +60,7 @@ family env lo hi k b o d f e h w =
     (omega (arith, r .0), omega (arith, r .1), f (b - lo) ∙ ap (λ (z : ℕ). bit z env) (omega (arith, r .0)))
 
 op-means : (env b : ℕ) → Means env b (opOf b)
-unfolding opOf readsOf slots
+unfolding opOf readsOf slots readNo
 op-means env b =
     pick env b (eqb b 0) _ _ (λ e. let h : b ≡ 0 = eqb-true b 0 e in (omega arith, h))
     (pick env b (eqb b 1) _ _ (λ e. let h : b ≡ 1 = eqb-true b 1 e in (omega arith, h))

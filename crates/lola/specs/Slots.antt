@@ -1,18 +1,23 @@
 -- For the contracts of private functions: the reads of a round in one word, and the stack of bits in one word.
 use mathlib.Core.Path.{_≡_}
-use mathlib.Core.Bool.{true, false}
+use mathlib.Core.Bool.{Bool, true, false}
 use Prim.Native.Nat.{ℕ, _+_, _-_, _*_, _/_, _%_, _≤_, _<_}
 use Rattle.words.specs.Bits.{bit, digit}
+use Rattle.sheet.specs.declared.Offset.{Offset}
 use Rattle.sheet.specs.declared.Offset.the-variants.{Earlier, Now, Later}
 use Rattle.lola.specs.Value.{Look}
 
--- the reads in a word: five families of eight bits, each at its byte less 0x40
+-- the number of a read: its byte less 0x40, in five families of eight
+unfoldable pub readNo : ℕ → Offset → Bool → ℕ
+readNo q Now d = q
+readNo q Earlier false = 16 + q
+readNo q Earlier true = 24 + q
+readNo q Later false = 32 + q
+readNo q Later true = 40 + q
+
+-- the reads in a word, each at the bit of its number
 unfoldable pub slots : ℕ → Look
-slots env q Now d = bit q env
-slots env q Earlier false = bit (16 + q) env
-slots env q Earlier true = bit (24 + q) env
-slots env q Later false = bit (32 + q) env
-slots env q Later true = bit (40 + q) env
+slots env q o d = bit (readNo q o d) env
 
 -- what the byte b makes of the stack w: not, and, or, a constant or a read
 pub record Works (env w b r : ℕ) : Type 0 where

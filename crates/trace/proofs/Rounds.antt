@@ -18,7 +18,7 @@ use Rattle.sheet.specs.declared.Offset.{Offset}
 use Rattle.sheet.specs.declared.Offset.the-variants.{Earlier, Now, Later}
 use Rattle.lola.specs.Value.{value}
 use Rattle.lola.proofs.ValueLaws.{value-of-bytes}
-use Rattle.lola.specs.Slots.{slots}
+use Rattle.lola.specs.Slots.{readNo, slots}
 use Rattle.circular.specs.Places.{joint, lookAt, right}
 use Rattle.sheet.specs.Reading.{codeAt}
 use Rattle.trace.specs.Passes.{valuesOf, seen, treeIn, sides, Setting, Filled, SeenRound, Environment}
@@ -93,7 +93,7 @@ module _ (c e l : ℕ) (cl : c < 2 ^ 16) (el : e < 2 ^ 16) where
 pub environment-of : (m : ℕ) (letters buf : List ℕ) (t c e l : ℕ) → 1 ≤ t → t ≤ length letters
     → SeenRound m letters buf (t + 1) c → SeenRound m letters buf t e → SeenRound m letters buf (t + 2) l
     → Environment m letters buf t (c + 65536 * (e + 65536 * l))
-unfolding slots lookAt seen
+unfolding slots readNo lookAt seen
 environment-of m letters buf t c e l h g bc be bl =
     record { reads = at }
   where

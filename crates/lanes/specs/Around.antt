@@ -1,6 +1,6 @@
 -- For the contracts of private functions: the reads of a round in one word, bit byte - 0x40 for the read byte, and stacks of words.
--- The reads of one family, one round earlier or one round later, may differ from lane to lane: each lane stands for a valuation of that
--- round.
+-- The reads of one family, of the round itself, one earlier or one later, may differ from lane to lane: each lane stands for a valuation of
+-- that round.
 use mathlib.Core.Path.{_≡_}
 use mathlib.Core.Bool.{Bool, true, false, cond, _&&_}
 use mathlib.Core.List.{List, [], _∷_}

@@ -1,5 +1,6 @@
 // Expressions evaluated in a row of words at once, 64 lanes each: two words for up to 128 valuations, else four. What the expressions read is one
-// word, bit byte - 0x40 for the read byte; the reads of one family, one round earlier or one round later, are of the lane's own valuation instead.
+// word, bit byte - 0x40 for the read byte; the reads of one family, of the round itself, one earlier or one later, are of the lane's own valuation
+// instead.
 ghost use mathlib.Core.Path.{_≡_};
 ghost use mathlib.Core.Bool.{true, false, not, Bool·beq, _&&_};
 ghost use mathlib.Core.List.{List, []};

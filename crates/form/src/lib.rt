@@ -36,7 +36,7 @@ fn check_output(streams: u8, code: &[u8], len: &[usize], k: usize) -> Outcome
 }
 
 // The outputs, one by one.
-fn check_outputs(streams: u8, code: &[u8], len: &[usize], n: usize) -> Outcome
+fn check_outputs<'a>(streams: u8, code: &'a [u8], len: &'a [usize], n: usize) -> Outcome
     requires { ⌜ (n ≤ 7) × (length (now code) ≡ 448) × (length (now len) ≡ 7) ⌝ }
     ensures { λ r. ⌜ r ≡ outputsForm streams (now (code .entry)) (now (len .entry)) n ⌝ }
 {
@@ -66,7 +66,5 @@ pub fn check_form(x: Sheet) -> Outcome
     if !assumed_fits(assumed, x.outputs) {
         return Outcome::Refused(Refusal::Assumption);
     }
-    let code = x.code;
-    let len = x.len;
-    check_outputs(x.inputs + x.outputs, &code, &len, x.outputs as usize)
+    check_outputs(x.inputs + x.outputs, &x.code, &x.len, x.outputs as usize)
 }

@@ -8,6 +8,7 @@ use native.Mathlib.Omega.{arith}
 use native.Mathlib.Numerals.{add-one}
 use native.Mathlib.Decide.{ℕ-discrete, decLt}
 use lib.Bits.{bitAnd, bitOr}
+use lib.Pow.{pow-lt}
 use lib.Dec.{eqb, leb, ltb}
 use lib.ListN.{length, getD, drop, drop-of-length-le}
 use lib.Seq.{drop-cons}
@@ -44,8 +45,12 @@ byte-there : (e q : ℕ) → 0x50 ≤ e → e < 0x60 → eqb q (e % 8) ≡ earli
 unfolding earlierByte
 byte-there e q l h = sym (rw (le-leb 0x50 e l, lt-ltb e 0x60 h))
 
-pub byte-earlier : (e q : ℕ) → 0x50 ≤ e → e < 0x60 → bit q (1 * 2 ^ (e % 8) % 2 ^ 64) ≡ earlierByte e q
-byte-earlier e q l h = bit-shl q (e % 8) (omega arith) ∙ byte-there e q l h
+pub byte-earlier : (e q : ℕ) → 0x50 ≤ e → e < 0x60 → bit q (1 * 2 ^ (e % 8) % 2 ^ 8) ≡ earlierByte e q
+byte-earlier e q l h =
+    let k : e % 8 < 8 = omega arith in
+    let r : 2 ^ (e % 8) < 2 ^ 8 = pow-lt k in
+    let same : 1 * 2 ^ (e % 8) % 2 ^ 8 ≡ 1 * 2 ^ (e % 8) % 2 ^ 64 = omega arith in
+    ap (bit q) same ∙ bit-shl q (e % 8) (omega arith) ∙ byte-there e q l h
 
 -- ---- the same, of the byte's operation
 

@@ -447,7 +447,7 @@ pub fn predecessors(
 // ---- What the equations see of the round before
 
 // The stream that a byte reads one round earlier, as a mask.
-fn byte_mask(e: u8) -> usize
+fn byte_mask(e: u8) -> u8
     ensures { λ r. ⌜ ((q : ℕ) → bit q r ≡ earlierByte e q) ⌝ }
 {
     if e < 0x50 {
@@ -456,14 +456,14 @@ fn byte_mask(e: u8) -> usize
     if e >= 0x60 {
         return 0;
     }
-    1 << (e % 8)
+    1u8 << (e % 8)
 }
 
 // The streams that an expression reads one round earlier.
-fn expression_mask(expr: &[u8]) -> usize
+fn expression_mask(expr: &[u8]) -> u8
     ensures { λ r. ⌜ ((s : ℕ) (x : Expr) → parse s [] (now (expr .entry)) ≡ tree x → (q : ℕ) → bit q r ≡ hasRead x q 0) ⌝ }
 {
-    let mut w: usize = 0;
+    let mut w: u8 = 0;
     let mut i: usize = 0;
     while i < expr.len() {
         w = w | byte_mask(expr[i]);
@@ -472,12 +472,18 @@ fn expression_mask(expr: &[u8]) -> usize
     w
 }
 
+fn wide(x: u8) -> usize
+    ensures { λ r. ⌜ r ≡ x ⌝ }
+{
+    x as usize
+}
+
 // The streams that some expression reads one round earlier: the equations see no other of the round before.
 pub fn earlier_mask(code: &[u8], len: &[usize], m: usize, n: usize) -> usize
     requires { ⌜ Coded m n (now code) (now len) ⌝ }
     ensures { λ r. ⌜ ((ks : List ℕ) (a b : ℕ) (c : Option ℕ) → holds (sheetOf m n (now (code .entry)) (now (len .entry)) ks) (some a) b c ≡ holds (sheetOf m n (now (code .entry)) (now (len .entry)) ks) (some (bitAnd a r)) b c) ⌝ }
 {
-    let mut w: usize = 0;
+    let mut w: u8 = 0;
     let mut k: usize = 0;
     while k < n {
         let from = 64 * k;
@@ -485,5 +491,5 @@ pub fn earlier_mask(code: &[u8], len: &[usize], m: usize, n: usize) -> usize
         w = w | expression_mask(&code[from..to]);
         k += 1;
     }
-    w
+    wide(w)
 }

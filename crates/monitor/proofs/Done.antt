@@ -27,7 +27,7 @@ use Rattle.record.specs.Columns.{AreVerdicts}
 use Rattle.record.specs.declared.JournalRecord.{JournalRecord}
 use Rattle.rounds.specs.Rows.{among}
 use Rattle.rounds.specs.Round.{Rounded}
-use Rattle.rounds.specs.Firsts.{Passing, Told}
+use Rattle.verdicts.specs.Firsts.{Passing, Told}
 use Rattle.monitor.specs.Checks.{given}
 use Rattle.monitor.specs.Results.{width, heard, nextSet, pairsWithin, Verdicts, RoundDone, ClosingDone}
 use Rattle.monitor.specs.Steps.{RoundReady, Shares}

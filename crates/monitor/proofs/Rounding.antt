@@ -25,7 +25,7 @@ use Rattle.pairs.proofs.Bools.{and-false}
 use Rattle.pairs.proofs.Sets.{used-below}
 use Rattle.rounds.specs.Rows.{among}
 use Rattle.rounds.specs.Round.{Rounded}
-use Rattle.rounds.specs.Firsts.{Passing}
+use Rattle.verdicts.specs.Firsts.{Passing}
 use Rattle.monitor.specs.Results.{width, heard, nextSet, pairsWithin}
 
 -- ---- the sheet's numbers

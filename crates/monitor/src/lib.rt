@@ -188,10 +188,10 @@ pub fn prepare_read(x: Sheet, storage: &mut [u64]) -> PrepareAnswer
 // ---- Rounds
 
 // One step of the reached set; the first round is known by the record's rounds.
-fn step(
+fn step<'a>(
     storage: &mut [u64],
-    code: &[u8],
-    len: &[usize],
+    code: &'a [u8],
+    len: &'a [usize],
     m: usize,
     n: usize,
     rounds: u32,
@@ -218,13 +218,11 @@ fn accepted_round(
     requires { ⌜ Usable x × RoundReady (x .inputs) (x .outputs) (given (length (now storage)) r known value) ⌝ }
     ensures { λ a. ⌜ (a .outcome ≡ Outcome.Accepted) × RoundDone (ruleSheet x) (now (storage .entry)) (now (storage .exit)) r known value a ⌝ }
 {
-    let code = x.code;
-    let len = x.len;
     let m = x.inputs as usize;
     let n = x.outputs as usize;
     let letters = letters::letters_of(known, value);
-    step(storage, &code, &len, m, n, r.rounds, letters);
-    let verdicts = rounds::round_verdicts(storage, m, n, letters);
+    step(storage, &x.code, &x.len, m, n, r.rounds, letters);
+    let verdicts = verdicts::round_verdicts(storage, m, n, letters);
     let next = record::with_round(r, n, &verdicts);
     RoundAnswer {
         outcome: Outcome::Accepted,
@@ -307,7 +305,7 @@ fn accepted_closing(x: Sheet, storage: &[u64], r: JournalRecord) -> ClosingAnswe
 {
     let m = x.inputs as usize;
     let n = x.outputs as usize;
-    let verdicts = rounds::closing_verdicts(storage, m, n);
+    let verdicts = verdicts::closing_verdicts(storage, m, n);
     let shares = shares(r, n);
     let counts = r.counts;
     let next = JournalRecord {

@@ -3,4 +3,3 @@ pub mod RowLaws
 pub mod EndLaws
 pub mod WordLaws
 pub mod RoundLaws
-pub mod VerdictLaws

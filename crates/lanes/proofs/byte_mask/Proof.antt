@@ -13,9 +13,6 @@ returns c = λ q. bit-none q ∙ byte-elsewhere _ q (λ l h. omega arith)
 returns-2 : tie.Need-returns-2
 returns-2 c = λ q. bit-none q ∙ byte-elsewhere _ q (λ l h. omega arith)
 
-cast-result : tie.Need-cast-result
-cast-result c = search needs
-
 shl-result : tie.Need-shl-result
 shl-result c = search needs
 
@@ -23,4 +20,4 @@ returns-3 : tie.Need-returns-3
 returns-3 c = λ q. byte-earlier _ q (omega arith) (omega arith)
 
 pub byte-mask-spec : {M : Type 1} → statement M
-byte-mask-spec = tie.close (tie.spec returns returns-2 cast-result shl-result returns-3)
+byte-mask-spec = tie.close (tie.spec returns returns-2 shl-result returns-3)

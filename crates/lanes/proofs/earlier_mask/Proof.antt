@@ -50,8 +50,11 @@ loop-again : tie.Need-loop-again Inv-loop μ-loop
 loop-again c =
     (omega arith, covers-more _ _ _ _ _ _ (c .before .before .before .before .loop .inv .1) (c .expression-mask .ensures _ _ (part-parses _ _ _ _ (c .before .before .before .before .before .before .before .pre) _ (c .before .before .before .loop-test .taken))))
 
+wide-requires : tie.Need-wide-requires Inv-loop μ-loop
+wide-requires c κs = search needs
+
 returns : tie.Need-returns Inv-loop μ-loop
-returns c = blind _ _ _ _ (c .before .before .before .before .pre) _ (covers-all _ _ _ _ _ _ (c .loop-test .left) (c .before .loop .inv .1))
+returns c = rw (c .wide .ensures) (blind _ _ _ _ (c .before .before .before .before .before .pre) _ (covers-all _ _ _ _ _ _ (c .before .loop-test .left) (c .before .before .loop .inv .1)))
 
 pub earlier-mask-spec : {M : Type 1} → statement M
 earlier-mask-spec =
@@ -71,4 +74,5 @@ earlier-mask-spec =
     add-k
     loop-less
     loop-again
+    wide-requires
     returns)

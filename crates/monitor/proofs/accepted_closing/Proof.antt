@@ -8,7 +8,7 @@ use Rattle.monitor.proofs.accepted_closing.Tie as tie
 use Rattle.monitor.proofs.accepted_closing.Reads as reads
 use Rattle.monitor.proofs.accepted_closing.Lts as lts
 use Rattle.monitor.proofs.shares.Reads as shares-reads
-use Rattle.rounds.proofs.closing_verdicts.Reads as closing-verdicts-reads
+use Rattle.verdicts.proofs.closing_verdicts.Reads as closing-verdicts-reads
 
 cast-m : tie.Need-cast-m
 cast-m c = search needs

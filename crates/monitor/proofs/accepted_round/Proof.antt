@@ -16,12 +16,6 @@ cast-n c = search needs
 letters-of-requires : tie.Need-letters-of-requires
 letters-of-requires c κs = search needs
 
-slice-aggregate-step : tie.Need-slice-aggregate-step
-slice-aggregate-step c = search needs
-
-slice-aggregate-step-2 : tie.Need-slice-aggregate-step-2
-slice-aggregate-step-2 c = search needs
-
 step-requires : tie.Need-step-requires
 step-requires c κs = search needs
 
@@ -33,10 +27,11 @@ slice-aggregate-with-round c = search needs
 
 with-round-requires : tie.Need-with-round-requires
 with-round-requires c κs =
-    let a = c .before .before .before .before .before .before .before .before .before .before .before .before .before .before .before .args in
-    let p = c .before .before .before .before .before .before .before .before .before .before .before .before .before .before .before .pre in
+    let a = c .before .before .before .before .before .before .before .before .before .before .before .before .before .before in
+    let x = a .args .t1 in
+    let p = a .pre in
     let d = c .before .before .before .before .before .step in
-    let t = c .before .round-verdicts .ensures (heard-firsts (a .x) (p .0) (now (a .storage)) (d .last .0) (a .r .rounds) (c .before .before .before .before .before .before .before .before .before .letters-of .result) (d .ensures (requiredOf (a .x .assumed)))) in
+    let t = c .before .round-verdicts .ensures (heard-firsts x (p .0) (now (a .args .storage)) (d .last .0) (a .args .r .rounds) (c .before .before .before .before .before .before .before .before .before .before .before .before .letters-of .result) (d .ensures (requiredOf (x .assumed)))) in
     (p .0 .ranges .outputs, p .1 .right, p .1 .room, t .size, told-are _ _ _ t)
 
 same-length : tie.Need-same-length
@@ -44,15 +39,16 @@ same-length c = search needs
 
 returns : tie.Need-returns
 returns c =
-    let a = c .before .before .before .before .before .before .before .before .before .before .before .before .before .before .before .before .args in
-    let p = c .before .before .before .before .before .before .before .before .before .before .before .before .before .before .before .before .pre in
-    let l = c .before .before .before .before .before .before .before .before .before .before .letters-of in
+    let a = c .before .before .before .before .before .before .before .before .before .before .before .before .before .before .before .args in
+    let x = a .t1 in
+    let p = c .before .before .before .before .before .before .before .before .before .before .before .before .before .before .before .pre in
+    let l = c .before .before .before .before .before .before .before .before .before .before .before .before .before .letters-of in
     let t = c .before .before .before .before .before .before .step .last .0 in
-    let d = c .before .before .before .before .before .before .step .ensures (requiredOf (a .x .assumed)) in
+    let d = c .before .before .before .before .before .before .step .ensures (requiredOf (x .assumed)) in
     let w = c .with-round .ensures in (
       refl,
-      round-done (a .x) (p .0) (now (a .storage)) t (a .r) (a .known) (a .value) (l .result) _ (p .1) (l .ensures) d
-          (c .before .before .round-verdicts .ensures (heard-firsts (a .x) (p .0) (now (a .storage)) t (a .r .rounds) (l .result) d)) (w .0) (w .1) (w .2),
+      round-done x (p .0) (now (a .storage)) t (a .r) (a .known) (a .value) (l .result) _ (p .1) (l .ensures) d
+          (c .before .before .round-verdicts .ensures (heard-firsts x (p .0) (now (a .storage)) t (a .r .rounds) (l .result) d)) (w .0) (w .1) (w .2),
     )
 
 pub accepted-round-spec : {M : Type 1} → statement M
@@ -62,8 +58,6 @@ accepted-round-spec =
     cast-m
     cast-n
     letters-of-requires
-    slice-aggregate-step
-    slice-aggregate-step-2
     step-requires
     round-verdicts-requires
     slice-aggregate-with-round

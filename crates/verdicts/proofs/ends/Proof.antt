@@ -1,4 +1,4 @@
--- `rounds::ends` meets its contract: the words below j are done. Assumes nothing.
+-- `verdicts::ends` meets its contract: the words below j are done. Assumes nothing.
 use borrow.Author.Needs.{needs}
 use mathlib.Core.Path.{refl}
 use Prim.Native.Nat.{_-_}
@@ -6,9 +6,9 @@ use mathlib.Core.Option.{none}
 use mathlib.Core.Bool.{_&&_}
 use lib.Dec.{ltb}
 use Rattle.pairs.specs.Storage.{stored}
-use Rattle.rounds.proofs.VerdictLaws.{Filling, filling-none, filling-more, filling-all, ends-lane}
-use Rattle.rounds.proofs.ends.Statement.{statement}
-use Rattle.rounds.proofs.ends.Tie as tie
+use Rattle.verdicts.proofs.VerdictLaws.{Filling, filling-none, filling-more, filling-all, ends-lane}
+use Rattle.verdicts.proofs.ends.Statement.{statement}
+use Rattle.verdicts.proofs.ends.Tie as tie
 
 abbrev Inv-loop : tie.InvT-loop
 Inv-loop s v w f₀ j₀ f j = Filling w (λ b. ltb b v && stored s 1028 b none) f j

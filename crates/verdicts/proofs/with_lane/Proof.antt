@@ -1,8 +1,8 @@
--- `rounds::with_lane` meets its contract. Assumes nothing.
+-- `verdicts::with_lane` meets its contract. Assumes nothing.
 use borrow.Author.Needs.{needs}
-use Rattle.rounds.proofs.VerdictLaws.{lane-set, lane-kept}
-use Rattle.rounds.proofs.with_lane.Statement.{statement}
-use Rattle.rounds.proofs.with_lane.Tie as tie
+use Rattle.verdicts.proofs.VerdictLaws.{lane-set, lane-kept}
+use Rattle.verdicts.proofs.with_lane.Statement.{statement}
+use Rattle.verdicts.proofs.with_lane.Tie as tie
 
 shl-result : tie.Need-shl-result
 shl-result c = search needs

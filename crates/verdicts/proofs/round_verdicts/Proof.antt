@@ -1,9 +1,9 @@
--- `rounds::round_verdicts` meets its contract. Assumes nothing.
+-- `verdicts::round_verdicts` meets its contract. Assumes nothing.
 use native.Mathlib.Omega.{arith}
 use borrow.Author.Needs.{needs}
-use Rattle.rounds.proofs.VerdictLaws.{told-as, firsts-verdict}
-use Rattle.rounds.proofs.round_verdicts.Statement.{statement}
-use Rattle.rounds.proofs.round_verdicts.Tie as tie
+use Rattle.verdicts.proofs.VerdictLaws.{told-as, firsts-verdict}
+use Rattle.verdicts.proofs.round_verdicts.Statement.{statement}
+use Rattle.verdicts.proofs.round_verdicts.Tie as tie
 
 valuations-requires : tie.Need-valuations-requires
 valuations-requires c κs = search needs

@@ -1,14 +1,14 @@
--- `rounds::verdicts` meets its contract: the outputs below k are done. Assumes nothing.
+-- `verdicts::verdicts` meets its contract: the outputs below k are done. Assumes nothing.
 use borrow.Author.Needs.{needs}
 use Prim.Native.Nat.{ℕ, _+_, _-_}
 use mathlib.Core.Path.{ap, _∙_}
 use mathlib.Core.Bool.{true, false}
 use Rattle.refusal.specs.Numbers.{verdictNo}
 use Rattle.completions.specs.Steps.{verdictOf}
-use Rattle.rounds.specs.Firsts.{shows}
-use Rattle.rounds.proofs.VerdictLaws.{Telling, telling-none, telling-more, telling-all}
-use Rattle.rounds.proofs.verdicts.Statement.{statement}
-use Rattle.rounds.proofs.verdicts.Tie as tie
+use Rattle.verdicts.specs.Firsts.{shows}
+use Rattle.verdicts.proofs.VerdictLaws.{Telling, telling-none, telling-more, telling-all}
+use Rattle.verdicts.proofs.verdicts.Statement.{statement}
+use Rattle.verdicts.proofs.verdicts.Tie as tie
 
 abbrev Inv-loop : tie.InvT-loop
 Inv-loop f w m n vs₀ k₀ vs k = Telling n (λ k. verdictOf (shows w f (m + k) true) (shows w f (m + k) false)) vs k

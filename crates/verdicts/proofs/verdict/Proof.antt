@@ -1,9 +1,9 @@
--- `rounds::verdict` meets its contract. Assumes nothing.
+-- `verdicts::verdict` meets its contract. Assumes nothing.
 use mathlib.Core.Path.{sym, _∙_}
-use Rattle.rounds.proofs.VerdictLaws.{verdict-is}
+use Rattle.verdicts.proofs.VerdictLaws.{verdict-is}
 use borrow.Author.Needs.{needs}
-use Rattle.rounds.proofs.verdict.Statement.{statement}
-use Rattle.rounds.proofs.verdict.Tie as tie
+use Rattle.verdicts.proofs.verdict.Statement.{statement}
+use Rattle.verdicts.proofs.verdict.Tie as tie
 
 shown-requires : tie.Need-shown-requires
 shown-requires c κs = search needs

@@ -1,9 +1,9 @@
--- `rounds::closing_verdicts` meets its contract. Assumes nothing.
+-- `verdicts::closing_verdicts` meets its contract. Assumes nothing.
 use native.Mathlib.Omega.{arith}
 use borrow.Author.Needs.{needs}
-use Rattle.rounds.proofs.VerdictLaws.{told-as, ends-verdict}
-use Rattle.rounds.proofs.closing_verdicts.Statement.{statement}
-use Rattle.rounds.proofs.closing_verdicts.Tie as tie
+use Rattle.verdicts.proofs.VerdictLaws.{told-as, ends-verdict}
+use Rattle.verdicts.proofs.closing_verdicts.Statement.{statement}
+use Rattle.verdicts.proofs.closing_verdicts.Tie as tie
 
 valuations-requires : tie.Need-valuations-requires
 valuations-requires c κs = search needs

@@ -25,10 +25,10 @@ use Rattle.pairs.specs.Storage.{stored}
 use Rattle.pairs.specs.Changes.{rowBit}
 use Rattle.pairs.proofs.Bools.{and-true, and-false, or-false, and-assoc, iff}
 use Rattle.pairs.proofs.Sets.{lane-end}
 use Rattle.rounds.specs.Rows.{among, Wide}
-use Rattle.rounds.specs.Firsts.{Passing, Words, shows, Told}
+use Rattle.verdicts.specs.Firsts.{Passing, Words, shows, Told}
 use Rattle.rounds.proofs.Bools.{and-split, found}
 use Rattle.rounds.proofs.WordLaws.{heard-lane}
 
 -- ---- whether a row has a member
 

@@ -1,10 +1,10 @@
--- `rounds::is_first` meets its contract. Assumes nothing.
+-- `verdicts::is_first` meets its contract. Assumes nothing.
 use native.Mathlib.Omega.{arith}
 use mathlib.Core.Path.{sym, _∙_}
-use Rattle.rounds.proofs.VerdictLaws.{first-end, first-rest}
+use Rattle.verdicts.proofs.VerdictLaws.{first-end, first-rest}
 use borrow.Author.Needs.{needs}
-use Rattle.rounds.proofs.is_first.Statement.{statement}
-use Rattle.rounds.proofs.is_first.Tie as tie
+use Rattle.verdicts.proofs.is_first.Statement.{statement}
+use Rattle.verdicts.proofs.is_first.Tie as tie
 
 has-end-requires : tie.Need-has-end-requires
 has-end-requires c κs = search needs

@@ -1,4 +1,4 @@
--- `rounds::firsts` meets its contract: the words below j are done. Assumes nothing.
+-- `verdicts::firsts` meets its contract: the words below j are done. Assumes nothing.
 use native.Mathlib.Omega.{arith}
 use borrow.Author.Needs.{needs}
 use mathlib.Core.Path.{refl}
@@ -7,10 +7,10 @@ use mathlib.Core.Bool.{_&&_}
 use lib.Dec.{ltb}
 use Rattle.completions.specs.Steps.{anyNext}
 use Rattle.pairs.specs.Storage.{stored}
 use Rattle.rounds.specs.Rows.{among}
-use Rattle.rounds.proofs.VerdictLaws.{Filling, filling-none, filling-more, filling-all}
-use Rattle.rounds.proofs.firsts.Statement.{statement}
-use Rattle.rounds.proofs.firsts.Tie as tie
+use Rattle.verdicts.proofs.VerdictLaws.{Filling, filling-none, filling-more, filling-all}
+use Rattle.verdicts.proofs.firsts.Statement.{statement}
+use Rattle.verdicts.proofs.firsts.Tie as tie
 
 abbrev Inv-loop : tie.InvT-loop
 Inv-loop s v w letters f₀ j₀ f j = Filling w (λ b. (ltb b v && among letters b) && anyNext v (stored s 1028 b)) f j

@@ -1,4 +1,4 @@
--- `rounds::shown` meets its contract: no word below j shows it. Assumes nothing.
+-- `verdicts::shown` meets its contract: no word below j shows it. Assumes nothing.
 use native.Mathlib.Omega.{arith}
 use borrow.Author.Needs.{needs}
 use mathlib.Core.Path.{_≡_, refl, sym, ap, ap₂, _∙_}
@@ -7,9 +7,9 @@ use mathlib.Core.Bool.{Bool, false, not, _||_, Bool·beq}
 use borrow.Author.Tests.{ne-eqb, eq-eqb}
 use Rattle.words.specs.Below.{anyBelow}
 use Rattle.words.proofs.AnyLaws.{some-any, any-one}
-use Rattle.rounds.proofs.VerdictLaws.{shownIn, shows-words, shown-word}
-use Rattle.rounds.proofs.shown.Statement.{statement}
-use Rattle.rounds.proofs.shown.Tie as tie
+use Rattle.verdicts.proofs.VerdictLaws.{shownIn, shows-words, shown-word}
+use Rattle.verdicts.proofs.shown.Statement.{statement}
+use Rattle.verdicts.proofs.shown.Tie as tie
 
 abbrev Inv-loop : tie.InvT-loop
 Inv-loop f w q b j₀ j = (j ≤ w) × (anyBelow j (shownIn f q b) ≡ false)

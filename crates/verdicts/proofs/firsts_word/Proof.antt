@@ -1,4 +1,4 @@
--- `rounds::firsts_word` meets its contract: the lanes that are no longer in `rest` are done. Assumes nothing.
+-- `verdicts::firsts_word` meets its contract: the lanes that are no longer in `rest` are done. Assumes nothing.
 use native.Mathlib.Omega.{arith}
 use mathlib.Core.Path.{ap, _∙_}
 use mathlib.Core.Bool.{Bool, _&&_}
@@ -7,9 +7,9 @@ use lib.Bits.{and-le-l}
 use lib.Count.{trailing-le}
 use Rattle.completions.specs.Steps.{anyNext}
 use Rattle.pairs.specs.Storage.{stored}
-use Rattle.rounds.proofs.VerdictLaws.{Looking, looking-start, looking-next, looking-more, looking-done, lane-less, heard-below}
-use Rattle.rounds.proofs.firsts_word.Statement.{statement}
-use Rattle.rounds.proofs.firsts_word.Tie as tie
+use Rattle.verdicts.proofs.VerdictLaws.{Looking, looking-start, looking-next, looking-more, looking-done, lane-less, heard-below}
+use Rattle.verdicts.proofs.firsts_word.Statement.{statement}
+use Rattle.verdicts.proofs.firsts_word.Tie as tie
 
 abbrev Inv-loop : tie.InvT-loop
 Inv-loop s v w letters j word₀ rest₀ word rest = Looking (λ k. anyNext v (stored s 1028 (64 * j + k))) rest₀ word rest

@@ -11,11 +11,12 @@ use Rattle.refusal.specs.Decided.{Decided}
 use Rattle.refusal.proofs.Decisions.{decided-once}
 use Rattle.sheet.specs.RuleSheet.{RuleSheet, outputs, accepted, readSheet}
 use Rattle.sheet.specs.Checks.{outputsOf}
-use Rattle.sheet.specs.Reading.{ruleSheet, whenAccepted}
+use Rattle.sheet.specs.Reading.{ruleSheet, Usable, whenAccepted}
 use Rattle.sheet.specs.declared.Sheet.{Sheet}
 use Rattle.sheet.proofs.Formed.{counts-of}
 use Rattle.record.specs.declared.JournalRecord.{JournalRecord}
 use Rattle.form.specs.Form.{formOf}
+use Rattle.form.proofs.FormLaws.{usable-form}
 use Rattle.monitor.specs.Checks.{given, Given, callRule, CallBroken, closed, closingChecks, prepareChecks, Broken, rule, entryChecks}
 use Rattle.monitor.specs.Results.{OfSheet, AfterForm, Prepared, RoundDone, ClosingDone, PrepareResult, RoundResult, ClosingResult}
 use Rattle.monitor.specs.declared.PrepareAnswer.{PrepareAnswer}
@@ -33,6 +34,10 @@ use Rattle.claims.proofs.ReadSheet.{prepared-bytes, round-bytes, closing-bytes}
 use Rattle.claims.proofs.BookLaws.{step-unique}
 use Rattle.claims.proofs.ThirdDemand.{third-demand}
 use Rattle.lines.specs.Machine.{held, Serves, Answered}
+
+-- of a sheet that can be used, the form is right
+pub after-form : (x : Sheet) → Usable x → (Call : Outcome → Type 0) (o : Outcome) → Call o → AfterForm (formOf x) Call o
+after-form x u Call o d = subst (λ (f : Outcome). AfterForm f Call o) (sym (usable-form x u)) d
 
 -- ---- runs of the book
 

@@ -58,10 +58,11 @@ fn answer_round(
     known: u8,
     value: u8,
 ) -> RoundAnswer
+    requires { ⌜ Usable x ⌝ }
     ensures by_the_book { λ a. ⌜ ((sheet : List ℕ) (b : Book) → Accepts sheet x → Serves sheet (ruleSheet x) b (held (now (storage .entry)) r) → Answered sheet (ruleSheet x) b (round known value) (roundSays (x .outputs) a (a .outcome)) (held (now (storage .exit)) (a .record))) ⌝ }
     ensures done { λ a. ⌜ whenAccepted (a .outcome) ((a .record .closed ≡ r .closed) × (length (a .verdicts) ≡ 7)) ⌝ }
 {
-    monitor::round_read(x, storage, r, known, value)
+    monitor::round_on(x, storage, r, known, value)
 }
 
 fn answer_closing(x: Sheet, storage: &[u64], r: JournalRecord) -> ClosingAnswer

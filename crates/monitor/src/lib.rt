@@ -231,8 +231,14 @@ fn accepted_round(
     }
 }
 
-// A round with a sheet that can be used.
-fn round_on(x: Sheet, storage: &mut [u64], r: JournalRecord, known: u8, value: u8) -> RoundAnswer
+// A round with a sheet that can be used, which callers have to show: no entry, but what the entries and the journal program share.
+pub fn round_on(
+    x: Sheet,
+    storage: &mut [u64],
+    r: JournalRecord,
+    known: u8,
+    value: u8,
+) -> RoundAnswer
     requires { ⌜ Usable x ⌝ }
     ensures decided { λ a. ⌜ Decided (CallBroken (x .inputs) (x .outputs) (given (length (now (storage .entry))) r known value)) callRule roundChecks (a .outcome) ⌝ }
     ensures result { λ a. ⌜ RoundResult (RoundDone (ruleSheet x) (now (storage .entry)) (now (storage .exit)) r known value a) (now (storage .entry)) (now (storage .exit)) r a (a .outcome) ⌝ }

@@ -146,18 +146,21 @@ fn step_in<const W: usize>(
         gain::<W>(sheet, live, reached, earlier, heard);
     } else {
         let mask = sheet.earlier;
-        (0..size).for_each(|a| join_row(scratch, a & mask, row::<W>(reached, a)));
-        clear_rows(reached, size);
-        let mut group = 0;
-        loop {
-            let joined = take_row::<W>(scratch, group);
-            let earlier = reads(0, Some(group), None);
-            gain::<W>(sheet, live, reached, earlier, and(joined, heard));
-            group = group.wrapping_sub(mask) & mask;
-            if group == 0 {
-                break;
+        // The groups of which anything was heard.
+        let mut groups = [0; W];
+        for a in 0..size {
+            let found = and(row::<W>(reached, a), heard);
+            if found != [0; W] {
+                let group = a & mask;
+                join_row(scratch, group, found);
+                groups[group / 64] |= 1 << (group % 64);
             }
         }
+        clear_rows(reached, size);
+        each_lane(groups, |group| {
+            let joined = take_row::<W>(scratch, group);
+            gain::<W>(sheet, live, reached, reads(0, Some(group), None), joined);
+        });
     }
     let mut firsts = [0; 4];
     each_lane(heard, |b| {

@@ -17,7 +17,7 @@ use Rattle.record.specs.declared.JournalRecord.{JournalRecord}
 use Rattle.monitor.specs.Results.{Verdicts}
 use Rattle.claims.specs.Session.{numberList}
 use Rattle.claims.proofs.ThirdDemand.{verdict-back}
-use Rattle.jigwaret.specs.Slices.{recordOf, numbersOf}
+use Rattle.slices.specs.Slices.{recordOf, numbersOf}
 
 -- ---- numbers of outcomes
 

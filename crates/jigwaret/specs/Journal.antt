@@ -14,7 +14,7 @@ use Rattle.monitor.specs.declared.PrepareAnswer.{PrepareAnswer}
 use Rattle.monitor.specs.declared.RoundAnswer.{RoundAnswer}
 use Rattle.monitor.specs.declared.ClosingAnswer.{ClosingAnswer}
 use Rattle.claims.specs.ReadSheet.{PreparedBytes, RoundBytes, ClosingBytes}
-use Rattle.jigwaret.specs.Slices.{recordOf, numbersOf, sized}
+use Rattle.slices.specs.Slices.{recordOf, numbersOf, sized}
 
 -- the record's and the answer's slices before and after
 pub record Slices : Type 0 where

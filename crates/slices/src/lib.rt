@@ -1,13 +1,23 @@
 // The journal record and the answers as slices of 32-bit numbers.
 ghost use mathlib.Core.Path.{_≡_};
 ghost use Prim.Native.Nat.{_+_, _≤_};
-ghost use mathlib.Core.Bool.{cond};
-ghost use lib.Dec.{ltb};
+ghost use mathlib.Core.Bool.{cond, _&&_};
+ghost use lib.Dec.{eqb, ltb, leb};
 ghost use lib.ListN.{length};
 ghost use Rattle.words.specs.Below.{one};
 ghost use lib.Seq.{paste};
-ghost use Rattle.jigwaret.specs.Slices.{recordOf, numbersOf};
+ghost use Rattle.slices.specs.Slices.{recordOf, numbersOf};
 use record::JournalRecord;
+
+// The record has 30 numbers, and the answer room for 16.
+pub fn sized(journal: usize, answer: usize) -> bool
+    ensures { λ r. ⌜ r ≡ (eqb journal 30 && leb 16 answer) ⌝ }
+{
+    if journal != 30 {
+        return false;
+    }
+    16 <= answer
+}
 
 fn wide(x: u8) -> u32
     ensures { λ r. ⌜ r ≡ x ⌝ }

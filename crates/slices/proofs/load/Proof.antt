@@ -2,14 +2,14 @@ use Prim.Native.Nat.{_-_, _≤_}
 use mathlib.Core.Path.{_≡_, refl}
 use denote.Ref.{now}
 use lib.ListN.{drop}
-use Rattle.jigwaret.proofs.SliceLaws.{TakenTo, taken-more, taken-all}
+use Rattle.slices.proofs.SliceLaws.{TakenTo, taken-more, taken-all}
 use native.Mathlib.Omega.{arith}
 use borrow.Author.Needs.{needs}
-use Rattle.jigwaret.proofs.slices.load.Statement.{statement}
-use Rattle.jigwaret.proofs.slices.load.Tie as tie
-use Rattle.jigwaret.proofs.slices.load.Reads as reads
-use Rattle.jigwaret.proofs.slices.load.Lts as lts
-use Rattle.jigwaret.proofs.slices.rounds_by.Reads as rounds-by-reads
+use Rattle.slices.proofs.load.Statement.{statement}
+use Rattle.slices.proofs.load.Tie as tie
+use Rattle.slices.proofs.load.Reads as reads
+use Rattle.slices.proofs.load.Lts as lts
+use Rattle.slices.proofs.rounds_by.Reads as rounds-by-reads
 
 abbrev Inv-loop : tie.InvT-loop
 Inv-loop ns counts₀ i₀ counts i = (i ≤ 28) × TakenTo i ns counts

@@ -1,14 +1,14 @@
 use Prim.Native.Nat.{_-_, _≤_}
 use mathlib.Core.Path.{_≡_}
 use denote.Ref.{now}
-use Rattle.jigwaret.proofs.SliceLaws.{PutTo, put-none, put-more}
+use Rattle.slices.proofs.SliceLaws.{PutTo, put-none, put-more}
 use native.Mathlib.Omega.{arith}
 use borrow.Author.Needs.{needs}
-use Rattle.jigwaret.proofs.slices.put_bytes.Statement.{statement}
-use Rattle.jigwaret.proofs.slices.put_bytes.Tie as tie
-use Rattle.jigwaret.proofs.slices.put_bytes.Reads as reads
-use Rattle.jigwaret.proofs.slices.put_bytes.Lts as lts
-use Rattle.jigwaret.proofs.slices.wide.Reads as wide-reads
+use Rattle.slices.proofs.put_bytes.Statement.{statement}
+use Rattle.slices.proofs.put_bytes.Tie as tie
+use Rattle.slices.proofs.put_bytes.Reads as reads
+use Rattle.slices.proofs.put_bytes.Lts as lts
+use Rattle.slices.proofs.wide.Reads as wide-reads
 
 abbrev Inv-loop : tie.InvT-loop
 Inv-loop into₀ at xs n i₀ into i = (i ≤ n) × PutTo i at xs into₀ into

@@ -1,12 +1,12 @@
 use Prim.Native.Nat.{_-_, _≤_}
 use mathlib.Core.Path.{_≡_, refl}
 use denote.Ref.{now}
-use Rattle.jigwaret.proofs.SliceLaws.{PutTo, put-none, put-more}
+use Rattle.slices.proofs.SliceLaws.{PutTo, put-none, put-more}
 use native.Mathlib.Omega.{arith}
-use Rattle.jigwaret.proofs.slices.put_numbers.Statement.{statement}
-use Rattle.jigwaret.proofs.slices.put_numbers.Tie as tie
-use Rattle.jigwaret.proofs.slices.put_numbers.Reads as reads
-use Rattle.jigwaret.proofs.slices.put_numbers.Lts as lts
+use Rattle.slices.proofs.put_numbers.Statement.{statement}
+use Rattle.slices.proofs.put_numbers.Tie as tie
+use Rattle.slices.proofs.put_numbers.Reads as reads
+use Rattle.slices.proofs.put_numbers.Lts as lts
 
 abbrev Inv-loop : tie.InvT-loop
 Inv-loop into₀ at xs n i₀ into i = (i ≤ n) × PutTo i at xs into₀ into

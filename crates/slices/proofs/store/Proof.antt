@@ -3,14 +3,14 @@ use denote.Ref.{now}
 use native.Mathlib.Omega.{arith}
 use lib.ListN.{length, set, length-set}
 use lib.Seq.{length-paste}
-use Rattle.jigwaret.proofs.SliceLaws.{stored-numbers}
+use Rattle.slices.proofs.SliceLaws.{stored-numbers}
 use borrow.Author.Needs.{needs}
-use Rattle.jigwaret.proofs.slices.store.Statement.{statement}
-use Rattle.jigwaret.proofs.slices.store.Tie as tie
-use Rattle.jigwaret.proofs.slices.store.Reads as reads
-use Rattle.jigwaret.proofs.slices.store.Lts as lts
-use Rattle.jigwaret.proofs.slices.mark_of.Reads as mark-of-reads
-use Rattle.jigwaret.proofs.slices.put_numbers.Reads as put-numbers-reads
+use Rattle.slices.proofs.store.Statement.{statement}
+use Rattle.slices.proofs.store.Tie as tie
+use Rattle.slices.proofs.store.Reads as reads
+use Rattle.slices.proofs.store.Lts as lts
+use Rattle.slices.proofs.mark_of.Reads as mark-of-reads
+use Rattle.slices.proofs.put_numbers.Reads as put-numbers-reads
 
 slice-write-ns : tie.Need-slice-write-ns
 slice-write-ns c = search needs

@@ -14,11 +14,12 @@ use Rattle.sheet.specs.RuleSheet.{RuleSheet, outputs, accepted, readSheet}
 use Rattle.sheet.specs.Checks.{outputsOf}
 use Rattle.sheet.proofs.Formed.{counts-of}
 use Rattle.record.specs.declared.JournalRecord.{JournalRecord}
-use Rattle.monitor.specs.Checks as checks
-use Rattle.monitor.specs.Results.{OfSheet, Prepared, RoundDone, ClosingDone, PrepareResult, RoundResult, ClosingResult}
-use Rattle.monitor.specs.declared.PrepareAnswer.{PrepareAnswer}
-use Rattle.monitor.specs.declared.RoundAnswer.{RoundAnswer}
-use Rattle.monitor.specs.declared.ClosingAnswer.{ClosingAnswer}
+use Rattle.checks.specs.Checks as checks
+use Rattle.accepted.specs.Results.{Prepared, RoundDone, ClosingDone}
+use Rattle.monitor.specs.Entries.{OfSheet, PrepareResult, RoundResult, ClosingResult}
+use Rattle.accepted.specs.declared.PrepareAnswer.{PrepareAnswer}
+use Rattle.accepted.specs.declared.RoundAnswer.{RoundAnswer}
+use Rattle.accepted.specs.declared.ClosingAnswer.{ClosingAnswer}
 use Rattle.claims.specs.Book.{Call, round, closing, Answer}
 use Rattle.claims.specs.Session.{Held, roundSays, closingSays, SessionStep, a-round, a-closing, Session}
 use Rattle.claims.specs.Session as session

@@ -16,9 +16,9 @@ use Rattle.refusal.specs.Decided.{Decided}
 use Rattle.sheet.specs.RuleSheet.{RuleSheet}
 use Rattle.sheet.specs.Checks.{outputsOf, short, checksOf, broken?}
 use Rattle.circular.specs.Checks.{reading}
-use Rattle.monitor.specs.Checks.{Given, CallCheck, sheet, Broken, rule, entryChecks}
+use Rattle.checks.specs.Checks.{Given, CallCheck, sheet, Broken, rule, entryChecks}
 use Rattle.sheet.proofs.Formed.{counts-of, read-formed}
-use Rattle.monitor.specs.Results.{OfSheet}
+use Rattle.monitor.specs.Entries.{OfSheet}
 use Rattle.slices.specs.Slices.{sized}
 use Rattle.slices.proofs.SliceLaws.{Sizes, right-sizes}
 use Rattle.jigwaret.specs.Journal.{Slices, slices, SlicesAfter, BySizes}

@@ -16,13 +16,14 @@ use Rattle.sheet.specs.declared.Sheet.{Sheet}
 use Rattle.sheet.proofs.Formed.{counts-of}
 use Rattle.record.specs.declared.JournalRecord.{JournalRecord}
 use Rattle.form.specs.Form.{formOf}
-use Rattle.monitor.specs.Checks.{given, Given, callRule, CallBroken, closed, closingChecks, prepareChecks, Broken, rule, entryChecks}
-use Rattle.monitor.specs.Results.{OfSheet, AfterForm, Prepared, RoundDone, ClosingDone, PrepareResult, RoundResult, ClosingResult}
-use Rattle.monitor.specs.declared.PrepareAnswer.{PrepareAnswer}
-use Rattle.monitor.specs.declared.RoundAnswer.{RoundAnswer}
-use Rattle.monitor.specs.declared.ClosingAnswer.{ClosingAnswer}
-use Rattle.monitor.proofs.Rounding.{sheet-outputs}
-use Rattle.monitor.proofs.Checking.{past-storage, none-left}
+use Rattle.checks.specs.Checks.{given, Given, callRule, CallBroken, closed, closingChecks, prepareChecks, Broken, rule, entryChecks}
+use Rattle.accepted.specs.Results.{Prepared, RoundDone, ClosingDone}
+use Rattle.monitor.specs.Entries.{OfSheet, AfterForm, PrepareResult, RoundResult, ClosingResult}
+use Rattle.accepted.specs.declared.PrepareAnswer.{PrepareAnswer}
+use Rattle.accepted.specs.declared.RoundAnswer.{RoundAnswer}
+use Rattle.accepted.specs.declared.ClosingAnswer.{ClosingAnswer}
+use Rattle.accepted.proofs.Rounding.{sheet-outputs}
+use Rattle.checks.proofs.Checking.{past-storage, none-left}
 use Rattle.monitor.proofs.Entries.{sheet-accepted}
 use Rattle.claims.specs.Book.{Call, round, closing, Answer, Book, emptyBook, BookStep, BookRun}
 use Rattle.claims.specs.Book as book

@@ -11,7 +11,7 @@ use Rattle.claims.specs.ReadSheet.{ClosingBytes}
 use Rattle.slices.specs.Slices.{numbersOf}
 use Rattle.slices.proofs.SliceLaws.{Sizes, sizes-tested}
 use Rattle.jigwaret.specs.Journal.{slices, ClosingNumbered}
-use Rattle.monitor.specs.Checks.{given, closingChecks}
+use Rattle.checks.specs.Checks.{given, closingChecks}
 use Rattle.jigwaret.proofs.JournalLaws.{sizes-wrong, sizes-right, written, not-written, number-of, front-size, put-behind, sheet-long, few-outputs}
 use borrow.Author.Needs.{needs}
 use Rattle.jigwaret.proofs.jigwaret_close.Statement.{statement}

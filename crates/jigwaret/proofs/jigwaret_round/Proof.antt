@@ -11,7 +11,7 @@ use Rattle.claims.specs.ReadSheet.{RoundBytes}
 use Rattle.slices.specs.Slices.{numbersOf}
 use Rattle.slices.proofs.SliceLaws.{Sizes, sizes-tested}
 use Rattle.jigwaret.specs.Journal.{slices, RoundNumbered}
-use Rattle.monitor.specs.Checks.{given, roundChecks}
+use Rattle.checks.specs.Checks.{given, roundChecks}
 use Rattle.jigwaret.proofs.JournalLaws.{sizes-wrong, sizes-right, written, not-written, number-of, sheet-long, few-outputs}
 use borrow.Author.Needs.{needs}
 use Rattle.jigwaret.proofs.jigwaret_round.Statement.{statement}

@@ -1,6 +1,6 @@
 use mathlib.Core.Path.{refl, sym}
 use native.Mathlib.Omega.{arith}
-use Rattle.monitor.proofs.Rounding.{sheet-outputs}
+use Rattle.accepted.proofs.Rounding.{sheet-outputs}
 use Rattle.lines.proofs.LineEnds.{refused-ends, closing-ends, room-least, over-bound}
 use borrow.Author.Needs.{needs}
 use Rattle.lines.proofs.ended.closing_line.Statement.{statement}

@@ -4,11 +4,11 @@ use lib.ListN.{getD}
 use native.Mathlib.Omega.{arith}
 use Rattle.record.specs.Record.{share}
 use Rattle.record.proofs.Tallies.{record-is}
-use Rattle.monitor.proofs.Sharing.{SharesTo, shares-none, shares-more, shares-all}
-use Rattle.monitor.proofs.shares.Statement.{statement}
-use Rattle.monitor.proofs.shares.Tie as tie
-use Rattle.monitor.proofs.shares.Reads as reads
-use Rattle.monitor.proofs.shares.Lts as lts
+use Rattle.accepted.proofs.Sharing.{SharesTo, shares-none, shares-more, shares-all}
+use Rattle.accepted.proofs.shares.Statement.{statement}
+use Rattle.accepted.proofs.shares.Tie as tie
+use Rattle.accepted.proofs.shares.Reads as reads
+use Rattle.accepted.proofs.shares.Lts as lts
 use Rattle.record.proofs.share_of.Reads as share-of-reads
 
 abbrev Inv-loop : tie.InvT-loop

@@ -1,13 +1,13 @@
 use Prim.Native.Nat.{_-_}
 use mathlib.Core.Path.{refl}
 use denote.Ref.{now}
-use Rattle.monitor.proofs.Done.{closing-done}
+use Rattle.accepted.proofs.Done.{closing-done}
 use borrow.Author.Needs.{needs}
-use Rattle.monitor.proofs.accepted_closing.Statement.{statement}
-use Rattle.monitor.proofs.accepted_closing.Tie as tie
-use Rattle.monitor.proofs.accepted_closing.Reads as reads
-use Rattle.monitor.proofs.accepted_closing.Lts as lts
-use Rattle.monitor.proofs.shares.Reads as shares-reads
+use Rattle.accepted.proofs.closing.Statement.{statement}
+use Rattle.accepted.proofs.closing.Tie as tie
+use Rattle.accepted.proofs.closing.Reads as reads
+use Rattle.accepted.proofs.closing.Lts as lts
+use Rattle.accepted.proofs.shares.Reads as shares-reads
 use Rattle.rounds.proofs.closing_verdicts.Reads as closing-verdicts-reads
 
 cast-m : tie.Need-cast-m
@@ -26,6 +26,6 @@ returns : tie.Need-returns
 returns c =
     (refl, closing-done (c .before .before .before .before .before .before .args .x) (c .before .before .before .before .before .before .pre .0) (now (c .before .before .before .before .before .before .args .storage)) (c .before .before .before .before .before .before .args .r) _ (c .before .before .closing-verdicts .ensures) (c .before .shares .ensures) refl refl refl)
 
-pub accepted-closing-spec : {M : Type 1} → statement M
-accepted-closing-spec =
+pub closing-spec : {M : Type 1} → statement M
+closing-spec =
     tie.close (tie.spec cast-m cast-n closing-verdicts-requires shares-requires returns)

@@ -1,5 +1,5 @@
 -- From what a step leaves in the storage to what a round is defined to do.
-use mathlib.Core.Path.{_≡_, ap, ap₂, _∙_, fun-ext}
+use mathlib.Core.Path.{_≡_, refl, ap, ap₂, _∙_, fun-ext}
 use mathlib.Core.Bool.{Bool, false, cond, not, _&&_, _||_}
 use mathlib.Core.List.{List}
 use mathlib.Core.Option.{Option, none, some}
@@ -26,7 +26,7 @@ use Rattle.pairs.proofs.Sets.{used-below}
 use Rattle.rounds.specs.Rows.{among}
 use Rattle.rounds.specs.Round.{Rounded}
 use Rattle.rounds.specs.Firsts.{Passing}
-use Rattle.monitor.specs.Results.{width, heard, nextSet, pairsWithin}
+use Rattle.accepted.specs.Results.{width, heard, nextSet, pairsWithin}
 
 -- ---- the sheet's numbers
 
@@ -35,6 +35,16 @@ sheet-outputs x = length-trees (x .inputs + x .outputs) (x .code) (x .len) (x .o
 
 pub sheet-width : (x : Sheet) → width (ruleSheet x) ≡ 2 ^ (x .inputs + x .outputs)
 sheet-width x = ap (λ (n : ℕ). 2 ^ (x .inputs + n)) (sheet-outputs x)
+
+-- ---- the step that a number of rounds asks for
+
+pub next-first : (x : RuleSheet) (L S : Pairs) (r : ℕ → Bool) (t : ℕ) → t ≡ 0 → nextSet x L t S r ≡ startSet x L r
+next-first x L S r zero e = refl
+next-first x L S r (suc t) e = absurd (omega arith)
+
+pub next-later : (x : RuleSheet) (L S : Pairs) (r : ℕ → Bool) (t : ℕ) → (t ≡ 0 → ⊥) → nextSet x L t S r ≡ stepSet x (width x) L S r
+next-later x L S r zero e = absurd (e refl)
+next-later x L S r (suc t) e = refl
 
 -- ---- the letters of a round
 

@@ -5,13 +5,13 @@ use native.Mathlib.Omega.{arith}
 use borrow.Author.Tests.{not-true, not-false}
 use Rattle.refusal.specs.declared.Outcome.the-variants.{Accepted, Refused}
 use Rattle.refusal.specs.declared.Refusal.the-variants.{Letter, Closed, Full, Record}
-use Rattle.monitor.specs.Checks.{given, tallies, closed, masks, full}
-use Rattle.monitor.proofs.Checking.{short-storage, past-storage, wrong-record, past-record, is-closed, past-closed, wrong-masks, past-masks, is-full, not-full}
+use Rattle.checks.specs.Checks.{given, tallies, closed, masks, full}
+use Rattle.checks.proofs.Checking.{short-storage, past-storage, wrong-record, past-record, is-closed, past-closed, wrong-masks, past-masks, is-full, not-full}
 use borrow.Author.Needs.{needs}
-use Rattle.monitor.proofs.check_round.Statement.{statement}
-use Rattle.monitor.proofs.check_round.Tie as tie
-use Rattle.monitor.proofs.check_round.Reads as reads
-use Rattle.monitor.proofs.check_round.Lts as lts
+use Rattle.checks.proofs.check_round.Statement.{statement}
+use Rattle.checks.proofs.check_round.Tie as tie
+use Rattle.checks.proofs.check_round.Reads as reads
+use Rattle.checks.proofs.check_round.Lts as lts
 use Rattle.letters.proofs.bad_masks.Reads as bad-masks-reads
 use Rattle.record.proofs.record_ok.Reads as record-ok-reads
 

@@ -6,11 +6,11 @@ use Rattle.completions.specs.Live.{Pairs}
 use Rattle.pairs.specs.Storage.{stored}
 use Rattle.rounds.specs.Rows.{among}
 use Rattle.rounds.specs.Round.{Rounded}
-use Rattle.monitor.proofs.Entries.{next-first}
-use Rattle.monitor.proofs.Done.{later-step}
+use Rattle.accepted.proofs.Rounding.{next-first}
+use Rattle.accepted.proofs.Done.{later-step}
 use borrow.Author.Needs.{needs}
-use Rattle.monitor.proofs.step.Statement.{statement}
-use Rattle.monitor.proofs.step.Tie as tie
+use Rattle.accepted.proofs.step.Statement.{statement}
+use Rattle.accepted.proofs.step.Tie as tie
 
 first-round-requires : tie.Need-first-round-requires
 first-round-requires c κs = search needs

@@ -5,14 +5,14 @@ use native.Mathlib.Omega.{arith}
 use borrow.Author.Tests.{not-true, not-false}
 use Rattle.refusal.specs.declared.Outcome.the-variants.{Accepted, Refused}
 use Rattle.refusal.specs.declared.Refusal.the-variants.{Closed, NoRound, Record}
-use Rattle.monitor.specs.Checks.{given, tallies, closed, noRound}
-use Rattle.monitor.proofs.Checking.{nonzero}
-use Rattle.monitor.proofs.Checking.{short-storage, past-storage, wrong-record, past-record, is-closed, past-closed, no-round, some-round}
+use Rattle.checks.specs.Checks.{given, tallies, closed, noRound}
+use Rattle.checks.proofs.Checking.{nonzero}
+use Rattle.checks.proofs.Checking.{short-storage, past-storage, wrong-record, past-record, is-closed, past-closed, no-round, some-round}
 use borrow.Author.Needs.{needs}
-use Rattle.monitor.proofs.check_closing.Statement.{statement}
-use Rattle.monitor.proofs.check_closing.Tie as tie
-use Rattle.monitor.proofs.check_closing.Reads as reads
-use Rattle.monitor.proofs.check_closing.Lts as lts
+use Rattle.checks.proofs.check_closing.Statement.{statement}
+use Rattle.checks.proofs.check_closing.Tie as tie
+use Rattle.checks.proofs.check_closing.Reads as reads
+use Rattle.checks.proofs.check_closing.Lts as lts
 use Rattle.record.proofs.record_ok.Reads as record-ok-reads
 
 returns : tie.Need-returns

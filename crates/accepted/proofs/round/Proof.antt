@@ -2,10 +2,10 @@ use Prim.Native.Nat.{_-_}
 use mathlib.Core.Path.{refl}
 use denote.Ref.{now}
 use Rattle.sheet.specs.RuleSheet.{requiredOf}
-use Rattle.monitor.proofs.Done.{told-are, heard-firsts, round-done}
+use Rattle.accepted.proofs.Done.{told-are, heard-firsts, round-done}
 use borrow.Author.Needs.{needs}
-use Rattle.monitor.proofs.accepted_round.Statement.{statement}
-use Rattle.monitor.proofs.accepted_round.Tie as tie
+use Rattle.accepted.proofs.round.Statement.{statement}
+use Rattle.accepted.proofs.round.Tie as tie
 
 cast-m : tie.Need-cast-m
 cast-m c = search needs
@@ -55,8 +55,8 @@ returns c =
           (c .before .before .round-verdicts .ensures (heard-firsts (a .x) (p .0) (now (a .storage)) t (a .r .rounds) (l .result) d)) (w .0) (w .1) (w .2),
     )
 
-pub accepted-round-spec : {M : Type 1} → statement M
-accepted-round-spec =
+pub round-spec : {M : Type 1} → statement M
+round-spec =
     tie.close
     (tie.spec
     cast-m

@@ -28,13 +28,14 @@ use Rattle.record.specs.declared.JournalRecord.{JournalRecord}
 use Rattle.rounds.specs.Rows.{among}
 use Rattle.rounds.specs.Round.{Rounded}
 use Rattle.rounds.specs.Firsts.{Passing, Told}
-use Rattle.monitor.specs.Checks.{given}
-use Rattle.monitor.specs.Results.{width, heard, nextSet, pairsWithin, Verdicts, RoundDone, ClosingDone}
-use Rattle.monitor.specs.Steps.{RoundReady, Shares}
-use Rattle.monitor.specs.declared.RoundAnswer.{RoundAnswer}
-use Rattle.monitor.specs.declared.ClosingAnswer.{ClosingAnswer}
-use Rattle.monitor.proofs.Rounding.{sheet-outputs, sheet-width, heard-as, pairs-verdict-as, reached-below, wider, only-heard}
-use Rattle.monitor.proofs.Entries.{next-later}
+use Rattle.checks.specs.Checks.{given}
+use Rattle.accepted.specs.Results.{width, heard, nextSet, pairsWithin, Verdicts, RoundDone, ClosingDone}
+use Rattle.checks.specs.Ready.{RoundReady}
+use Rattle.accepted.specs.Shares.{Shares}
+use Rattle.accepted.specs.declared.RoundAnswer.{RoundAnswer}
+use Rattle.accepted.specs.declared.ClosingAnswer.{ClosingAnswer}
+use Rattle.accepted.proofs.Rounding.{sheet-outputs, sheet-width, heard-as, pairs-verdict-as, reached-below, wider, only-heard}
+use Rattle.accepted.proofs.Rounding.{next-later}
 
 verdict-small : (v : Verdict) → verdictNo v ≤ 3
 verdict-small False = omega arith

@@ -10,8 +10,8 @@ use Rattle.refusal.specs.declared.Outcome.the-variants.{Accepted, Refused}
 use Rattle.refusal.specs.Decided.{Decided}
 use Rattle.letters.specs.Masks.{badMasks}
 use Rattle.record.specs.Record.{recordOk}
-use Rattle.monitor.specs.Checks.{CallCheck, storage, tallies, closed, masks, full, noRound, callRule, Given, CallBroken}
-use Rattle.monitor.proofs.Chain.{cons-holds, cons-breaks, nil-holds}
+use Rattle.checks.specs.Checks.{CallCheck, storage, tallies, closed, masks, full, noRound, callRule, Given, CallBroken}
+use Rattle.checks.proofs.Chain.{cons-holds, cons-breaks, nil-holds}
 
 module _ (m n : ℕ) (g : Given) where
   abbrev B : CallCheck → Type 0

@@ -1,4 +1,4 @@
--- What preparation, rounds and closing answer, and what they leave in the storage (01, "Completions and verdicts", "Tallies"). On
+-- What an accepted preparation, round and closing answer, and what they leave in the storage (01, "Completions and verdicts", "Tallies"). On
 -- storage that preparation never filled, rounds and closing follow the same steps on the sets found there.
 -- Manual: "Preparation".
 use mathlib.Core.Path.{_≡_}
@@ -7,13 +7,11 @@ use mathlib.Core.List.{List}
 use mathlib.Core.Option.{Option, none, some}
 use Prim.Native.Nat.{ℕ, zero, suc, _+_, _^_, _<_, _≤_}
 use lib.Dec.{ltb}
-use lib.ListN.{length, getD, replicate}
-use Rattle.refusal.specs.declared.Outcome.{Outcome}
-use Rattle.refusal.specs.declared.Outcome.the-variants.{Accepted, Refused}
+use lib.ListN.{length, getD}
 use Rattle.refusal.specs.declared.Verdict.{Verdict}
 use Rattle.refusal.specs.declared.Verdict.the-variants.{True}
 use Rattle.refusal.specs.Numbers.{verdictNo}
-use Rattle.sheet.specs.RuleSheet.{RuleSheet, outputs, streams, accepted, readSheet}
+use Rattle.sheet.specs.RuleSheet.{RuleSheet, outputs, streams}
 use Rattle.lola.specs.Equations.{output, letter}
 use Rattle.completions.specs.Live.{Pairs, Live, countPairs}
 use Rattle.completions.specs.Completion.{LetterSet, masked}
@@ -21,9 +19,9 @@ use Rattle.completions.specs.Steps.{Within, Represents, startSet, stepSet, pair
 use Rattle.pairs.specs.Storage.{stored, used}
 use Rattle.record.specs.Record.{Fresh, Counted, countAt, share}
 use Rattle.record.specs.declared.JournalRecord.{JournalRecord}
-use Rattle.monitor.specs.declared.PrepareAnswer.{PrepareAnswer}
-use Rattle.monitor.specs.declared.RoundAnswer.{RoundAnswer}
-use Rattle.monitor.specs.declared.ClosingAnswer.{ClosingAnswer}
+use Rattle.accepted.specs.declared.PrepareAnswer.{PrepareAnswer}
+use Rattle.accepted.specs.declared.RoundAnswer.{RoundAnswer}
+use Rattle.accepted.specs.declared.ClosingAnswer.{ClosingAnswer}
 
 -- how many valuations the sheet has
 abbrev pub width : RuleSheet → ℕ
@@ -95,26 +93,3 @@ pub record ClosingDone (x : RuleSheet) (s : List ℕ) (r : JournalRecord) (a : C
   pub rounds : a .record .rounds ≡ r .rounds
   pub closed : a .record .closed ≡ true
   pub counts : a .record .counts ≡ r .counts
-
--- P holds of the sheet that the bytes read as
-abbrev pub OfSheet : List ℕ → (RuleSheet → Type 0) → Type 0
-OfSheet bs P = (x : RuleSheet) × (readSheet bs ≡ accepted x) × P x
-
--- The outcome of an entry that takes the sheet already read: the form decides, and where it is right, the call's checks do.
-abbrev pub AfterForm : Outcome → (Outcome → Type 0) → Outcome → Type 0
-AfterForm Accepted Call o = Call o
-AfterForm (Refused r) Call o = o ≡ Refused r
-
--- What each entry gives by its outcome: what is done where it is accepted; where it is refused nothing but the refusal, and what was
--- lent or handed in has not altered.
-abbrev pub PrepareResult : Type 0 → List ℕ → List ℕ → PrepareAnswer → Outcome → Type 0
-PrepareResult Done s t a Accepted = Done
-PrepareResult Done s t a (Refused e) = (t ≡ s) × Fresh (a .record) × (a .live ≡ 0)
-
-abbrev pub RoundResult : Type 0 → List ℕ → List ℕ → JournalRecord → RoundAnswer → Outcome → Type 0
-RoundResult Done s t r a Accepted = Done
-RoundResult Done s t r a (Refused e) = (t ≡ s) × (a .record ≡ r) × (a .verdicts ≡ replicate 7 0)
-
-abbrev pub ClosingResult : Type 0 → JournalRecord → ClosingAnswer → Outcome → Type 0
-ClosingResult Done r a Accepted = Done
-ClosingResult Done r a (Refused e) = (a .record ≡ r) × (a .verdicts ≡ replicate 7 0) × (a .shares ≡ replicate 7 0)

@@ -6,7 +6,6 @@ use Prim.Native.Nat.{ℕ, _+_, _≤_}
 use native.Mathlib.Omega.{arith}
 use lib.ListN.{length, take, drop, length-replicate}
 use lib.Seq.{paste}
-use borrow.Author.Tests.{le-leb, eq-eqb}
 use Rattle.refusal.specs.declared.Outcome.{Outcome}
 use Rattle.refusal.specs.declared.Outcome.the-variants.{Accepted, Refused}
 use Rattle.refusal.specs.Numbers.{outcomeNo}
@@ -15,17 +14,19 @@ use Rattle.sheet.specs.RuleSheet.{RuleSheet, outputs, accepted, readSheet}
 use Rattle.sheet.specs.Checks.{outputsOf}
 use Rattle.sheet.proofs.Formed.{counts-of}
 use Rattle.record.specs.declared.JournalRecord.{JournalRecord}
-use Rattle.monitor.specs.Checks as checks
-use Rattle.monitor.specs.Results.{OfSheet, Prepared, RoundDone, ClosingDone, PrepareResult, RoundResult, ClosingResult}
-use Rattle.monitor.specs.declared.PrepareAnswer.{PrepareAnswer}
-use Rattle.monitor.specs.declared.RoundAnswer.{RoundAnswer}
-use Rattle.monitor.specs.declared.ClosingAnswer.{ClosingAnswer}
+use Rattle.checks.specs.Checks as checks
+use Rattle.accepted.specs.Results.{Prepared, RoundDone, ClosingDone}
+use Rattle.monitor.specs.Entries.{OfSheet, PrepareResult, RoundResult, ClosingResult}
+use Rattle.accepted.specs.declared.PrepareAnswer.{PrepareAnswer}
+use Rattle.accepted.specs.declared.RoundAnswer.{RoundAnswer}
+use Rattle.accepted.specs.declared.ClosingAnswer.{ClosingAnswer}
 use Rattle.claims.specs.Book.{Call, round, closing, Answer}
 use Rattle.claims.specs.Session.{Held, roundSays, closingSays, SessionStep, a-round, a-closing, Session}
 use Rattle.claims.specs.Session as session
 use Rattle.claims.specs.Demands.{lent}
 use Rattle.claims.proofs.ThirdDemand.{third-demand}
-use Rattle.jigwaret.specs.Slices.{recordOf, numbersOf, sized}
+use Rattle.slices.specs.Slices.{recordOf, numbersOf, sized}
+use Rattle.slices.proofs.SliceLaws.{right-sizes}
 use Rattle.jigwaret.specs.Journal.{Slices, SlicesAfter, BySizes, PreparationNumbered, RoundNumbered, ClosingNumbered}
 use Rattle.jigwaret.proofs.JournalLaws.{few-outputs}
 use Rattle.calls.specs.Calls.{HeldSlices, Reply, slicesOf, ExportedStep, ExportedRun, finish, next, Shows, AllShow, empty, more, ExportedCalls}
@@ -33,11 +34,8 @@ use Rattle.calls.proofs.ReplyLaws.{refusal-positive, zero-accepted, rec
 
 -- ---- sizes
 
-sizes-right : (rec ans : List ℕ) → length rec ≡ 30 → 16 ≤ length ans → sized rec ans ≡ true
-sizes-right rec ans e h = simp (eq-eqb (length rec) 30 e, le-leb 16 (length ans) h)
-
 done : (D : Type 0) (s t : List ℕ) (z : Slices) (r : ℕ) → length (z .rec) ≡ 30 → 16 ≤ length (z .ans) → BySizes (sized (z .rec) (z .ans)) D s t z r → D
-done D s t z r e h d = subst (λ (b : Bool). BySizes b D s t z r) (sizes-right (z .rec) (z .ans) e h) d
+done D s t z r e h d = subst (λ (b : Bool). BySizes b D s t z r) (right-sizes (z .rec) (z .ans) e h) d
 
 -- the numbers are those of a record with its 28 counts
 record Stands (ns : List ℕ) : Type 0 where

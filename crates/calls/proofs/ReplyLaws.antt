@@ -14,10 +14,10 @@ use Rattle.refusal.specs.declared.Outcome.the-variants.{Accepted, Refused}
 use Rattle.refusal.specs.declared.Verdict.{Verdict}
 use Rattle.refusal.specs.Numbers.{refusalNo, outcomeNo, verdictNo, verdictAt, verdictList}
 use Rattle.record.specs.declared.JournalRecord.{JournalRecord}
-use Rattle.monitor.specs.Results.{Verdicts}
+use Rattle.accepted.specs.Results.{Verdicts}
 use Rattle.claims.specs.Session.{numberList}
 use Rattle.claims.proofs.ThirdDemand.{verdict-back}
-use Rattle.jigwaret.specs.Slices.{recordOf, numbersOf}
+use Rattle.slices.specs.Slices.{recordOf, numbersOf}
 
 -- ---- numbers of outcomes
 

@@ -10,7 +10,7 @@ use Rattle.sheet.specs.RuleSheet.{RuleSheet, outputs, accepted, readSheet}
 use Rattle.record.specs.declared.JournalRecord.{JournalRecord}
 use Rattle.claims.specs.Book.{Call, round, closing, Answer, refused, verdicts, closed, Book, emptyBook, BookRun}
 use Rattle.claims.specs.Session.{Matches}
-use Rattle.jigwaret.specs.Slices.{numbersOf}
+use Rattle.slices.specs.Slices.{numbersOf}
 use Rattle.jigwaret.specs.Journal.{Slices, slices, PreparedAs, RoundAs, ClosedAs}
 
 -- what a caller in C or Rust holds between two calls: the storage, and the record as its numbers

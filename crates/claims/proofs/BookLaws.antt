@@ -19,7 +19,7 @@ use Rattle.completions.proofs.Runs.{Round, Reached}
 use Rattle.completions.proofs.Steps.{start-exact, step-exact}
 use Rattle.completions.proofs.Verdicts.{one-verdict, test-verdict, test-closing}
 use Rattle.completions.proofs.Letters.{onLetter, onLetters, letters-verdict, letters-closing}
-use Rattle.monitor.specs.Results.{width, nextSet}
+use Rattle.accepted.specs.Results.{width, nextSet}
 use Rattle.record.specs.Record.{share}
 use Rattle.claims.specs.Book.{Call, closing, Answer, refused, verdicts, closed, Book, counted, refusal, Each, BookStep, refuse, accept, close, BookRun, finish, next}
 use Rattle.claims.specs.Further.{OneBook}

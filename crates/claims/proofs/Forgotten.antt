@@ -11,7 +11,7 @@ use Rattle.pairs.specs.Storage.{stored}
 use Rattle.preparation.proofs.Layers.{iff}
 use Rattle.record.specs.Record.{Fresh}
 use Rattle.record.specs.declared.JournalRecord.{JournalRecord}
-use Rattle.monitor.specs.Results.{Zero}
+use Rattle.accepted.specs.Results.{Zero}
 use Rattle.claims.specs.Further.{StorageForgotten}
 use Rattle.claims.proofs.Tidy.{zero-none}
 

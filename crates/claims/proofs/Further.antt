@@ -12,8 +12,8 @@ use Rattle.completions.specs.Steps.{Represents}
 use Rattle.completions.proofs.Verdicts.{one-verdict}
 use Rattle.completions.proofs.Letters.{onLetter, onLetters, completion-of, run-of}
 use Rattle.completions.proofs.Backward.{liveWithin, settled-exact, settles, prefix-short, small-256}
-use Rattle.monitor.specs.Results.{width}
-use Rattle.monitor.proofs.Rounding.{wider}
+use Rattle.accepted.specs.Results.{width}
+use Rattle.accepted.proofs.Rounding.{wider}
 use Rattle.record.proofs.Tallies.{RecordOk, record-is}
 use Rattle.claims.specs.Book.{Book, Call, Answer, emptyBook}
 use Rattle.claims.specs.Session.{Held, Session, finish, next}

@@ -11,11 +11,12 @@ use Rattle.sheet.specs.declared.Sheet.{Sheet}
 use Rattle.form.specs.Form.{formOf}
 use Rattle.form.proofs.FormLaws.{usable-form}
 use Rattle.record.specs.declared.JournalRecord.{JournalRecord}
-use Rattle.monitor.specs.Checks.{given, Given, CallCheck, CallBroken, callRule, Broken, rule, entryChecks, prepareChecks, roundChecks, closingChecks}
-use Rattle.monitor.specs.Results.{OfSheet, AfterForm, Prepared, RoundDone, ClosingDone}
-use Rattle.monitor.specs.declared.PrepareAnswer.{PrepareAnswer}
-use Rattle.monitor.specs.declared.RoundAnswer.{RoundAnswer}
-use Rattle.monitor.specs.declared.ClosingAnswer.{ClosingAnswer}
+use Rattle.checks.specs.Checks.{given, Given, CallCheck, CallBroken, callRule, Broken, rule, entryChecks, prepareChecks, roundChecks, closingChecks}
+use Rattle.accepted.specs.Results.{Prepared, RoundDone, ClosingDone}
+use Rattle.monitor.specs.Entries.{OfSheet, AfterForm}
+use Rattle.accepted.specs.declared.PrepareAnswer.{PrepareAnswer}
+use Rattle.accepted.specs.declared.RoundAnswer.{RoundAnswer}
+use Rattle.accepted.specs.declared.ClosingAnswer.{ClosingAnswer}
 use Rattle.monitor.proofs.Entries.{sheet-accepted, prepare-of, round-of, closing-of}
 use Rattle.claims.specs.ReadSheet.{Accepts, PreparedRead, PreparedBytes, RoundRead, RoundBytes, ClosingRead, ClosingBytes, ReadAsBytes}
 

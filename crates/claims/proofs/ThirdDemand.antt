@@ -36,12 +36,13 @@ use Rattle.pairs.proofs.Sets.{stored-same}
 use Rattle.record.specs.Record.{Fresh, countAt, sumAt, addUp, recordOk, share}
 use Rattle.record.specs.declared.JournalRecord.{JournalRecord}
 use Rattle.record.proofs.Tallies.{record-is, record-more}
-use Rattle.monitor.specs.Checks as checks
-use Rattle.monitor.specs.Results.{width, nextSet, Prepared, RoundDone, ClosingDone, Verdicts, OfSheet, RoundResult, ClosingResult}
-use Rattle.monitor.proofs.Rounding.{reached-below, wider}
-use Rattle.monitor.specs.declared.PrepareAnswer.{PrepareAnswer}
-use Rattle.monitor.specs.declared.RoundAnswer.{RoundAnswer}
-use Rattle.monitor.specs.declared.ClosingAnswer.{ClosingAnswer}
+use Rattle.checks.specs.Checks as checks
+use Rattle.accepted.specs.Results.{width, nextSet, Prepared, RoundDone, ClosingDone, Verdicts}
+use Rattle.monitor.specs.Entries.{OfSheet, RoundResult, ClosingResult}
+use Rattle.accepted.proofs.Rounding.{reached-below, wider}
+use Rattle.accepted.specs.declared.PrepareAnswer.{PrepareAnswer}
+use Rattle.accepted.specs.declared.RoundAnswer.{RoundAnswer}
+use Rattle.accepted.specs.declared.ClosingAnswer.{ClosingAnswer}
 use Rattle.claims.specs.Book.{Call, round, closing, Answer, refused, verdicts, closed, Book, emptyBook, isAt, counted, refusal, Each, BookStep, refuse, accept, close, BookRun}
 use Rattle.claims.specs.Book as book
 use Rattle.claims.specs.Session.{Held, numberList, roundSays, closingSays, handed, SessionStep, a-round, a-closing, Session, finish, next, Matches}

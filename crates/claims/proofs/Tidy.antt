@@ -17,9 +17,10 @@ use Rattle.completions.specs.Steps.{Within}
 use Rattle.pairs.specs.Storage.{place, slot, stored, used}
 use Rattle.pairs.proofs.Sets.{place-lt, unused}
 use Rattle.record.specs.declared.JournalRecord.{JournalRecord}
-use Rattle.monitor.specs.Results.{width, heard, nextSet, partBelow, Zero, Prepared, RoundDone, OfSheet, RoundResult}
-use Rattle.monitor.specs.declared.PrepareAnswer.{PrepareAnswer}
-use Rattle.monitor.specs.declared.RoundAnswer.{RoundAnswer}
+use Rattle.accepted.specs.Results.{width, heard, nextSet, partBelow, Zero, Prepared, RoundDone}
+use Rattle.monitor.specs.Entries.{OfSheet, RoundResult}
+use Rattle.accepted.specs.declared.PrepareAnswer.{PrepareAnswer}
+use Rattle.accepted.specs.declared.RoundAnswer.{RoundAnswer}
 use Rattle.claims.specs.Book.{Call, Answer}
 use Rattle.claims.specs.Session.{Held, SessionStep, a-round, a-closing, Session, finish, next}
 use Rattle.claims.specs.Further.{Tidy, StaysTidy}

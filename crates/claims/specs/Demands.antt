@@ -15,14 +15,15 @@ use Rattle.circular.specs.Unique.{TraceOf, OneTrace}
 use Rattle.trace.specs.Checks as traces
 use Rattle.trace.specs.Evaluated.{Evaluated}
 use Rattle.record.specs.declared.JournalRecord.{JournalRecord}
-use Rattle.monitor.specs.Checks as checks
-use Rattle.monitor.specs.Results.{OfSheet, Prepared}
-use Rattle.monitor.specs.declared.PrepareAnswer.{PrepareAnswer}
+use Rattle.checks.specs.Checks as checks
+use Rattle.accepted.specs.Results.{Prepared}
+use Rattle.monitor.specs.Entries.{OfSheet}
+use Rattle.accepted.specs.declared.PrepareAnswer.{PrepareAnswer}
 use Rattle.claims.specs.Book.{Call, Answer, Book, emptyBook, BookRun}
 use Rattle.claims.specs.Session.{Held, Session, Matches}
 
 -- The first demand, that there is one answer (01, "What is turned down"): no two outcomes are decided by the same list of checks, whatever they
--- are. That there is one is in each entry's contract; its checks and their order are in the `Checks.antt` of `circular`, `trace` and `monitor`.
+-- are. That there is one is in each entry's contract; its checks and their order are in the `Checks.antt` of `circular`, `trace` and `checks`.
 abbrev pub OneOutcome : Type 1
 OneOutcome = (C : Type 0) (Broken : C → Type 0) (rule : C → Refusal) (cs : List C) (o o′ : Outcome) → Decided Broken rule cs o → Decided Broken rule cs o′ → o ≡ o′
 

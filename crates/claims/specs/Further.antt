@@ -18,9 +18,10 @@ use Rattle.completions.specs.Steps.{Represents, Within}
 use Rattle.pairs.specs.Storage.{stored}
 use Rattle.record.specs.Record.{sumAt}
 use Rattle.record.specs.declared.JournalRecord.{JournalRecord}
-use Rattle.monitor.specs.Checks as checks
-use Rattle.monitor.specs.Results.{width, pairsWithin, OfSheet, Prepared}
-use Rattle.monitor.specs.declared.PrepareAnswer.{PrepareAnswer}
+use Rattle.checks.specs.Checks as checks
+use Rattle.accepted.specs.Results.{width, pairsWithin, Prepared}
+use Rattle.monitor.specs.Entries.{OfSheet}
+use Rattle.accepted.specs.declared.PrepareAnswer.{PrepareAnswer}
 use Rattle.claims.specs.Book.{Call, Answer, Book, BookRun}
 use Rattle.claims.specs.Session.{Held, Session}
 use Rattle.claims.specs.Demands.{lent}

@@ -12,11 +12,12 @@ use Rattle.form.specs.Form.{formOf}
 use Rattle.circular.specs.Checks.{AcceptedSheet}
 use Rattle.circular.specs.Checks as sheets
 use Rattle.record.specs.declared.JournalRecord.{JournalRecord}
-use Rattle.monitor.specs.Checks.{given, CallBroken, callRule, Broken, rule, entryChecks, prepareChecks, roundChecks, closingChecks}
-use Rattle.monitor.specs.Results.{OfSheet, AfterForm, Prepared, RoundDone, ClosingDone, PrepareResult, RoundResult, ClosingResult}
-use Rattle.monitor.specs.declared.PrepareAnswer.{PrepareAnswer}
-use Rattle.monitor.specs.declared.RoundAnswer.{RoundAnswer}
-use Rattle.monitor.specs.declared.ClosingAnswer.{ClosingAnswer}
+use Rattle.checks.specs.Checks.{given, CallBroken, callRule, Broken, rule, entryChecks, prepareChecks, roundChecks, closingChecks}
+use Rattle.accepted.specs.Results.{Prepared, RoundDone, ClosingDone}
+use Rattle.monitor.specs.Entries.{OfSheet, AfterForm, PrepareResult, RoundResult, ClosingResult}
+use Rattle.accepted.specs.declared.PrepareAnswer.{PrepareAnswer}
+use Rattle.accepted.specs.declared.RoundAnswer.{RoundAnswer}
+use Rattle.accepted.specs.declared.ClosingAnswer.{ClosingAnswer}
 
 -- the contracts of `prepare`, `round` and `close`
 abbrev pub PreparedBytes : List ℕ → List ℕ → List ℕ → PrepareAnswer → Type 0

@@ -14,10 +14,11 @@ use Rattle.sheet.specs.Checks.{outputsOf}
 use Rattle.sheet.specs.RuleSheet.{RuleSheet, outputs}
 use Rattle.record.specs.Record.{countAt}
 use Rattle.record.specs.declared.JournalRecord.{JournalRecord}
-use Rattle.monitor.specs.Checks as checks
-use Rattle.monitor.specs.Results.{OfSheet, RoundDone, ClosingDone, RoundResult, ClosingResult}
-use Rattle.monitor.specs.declared.RoundAnswer.{RoundAnswer}
-use Rattle.monitor.specs.declared.ClosingAnswer.{ClosingAnswer}
+use Rattle.checks.specs.Checks as checks
+use Rattle.accepted.specs.Results.{RoundDone, ClosingDone}
+use Rattle.monitor.specs.Entries.{OfSheet, RoundResult, ClosingResult}
+use Rattle.accepted.specs.declared.RoundAnswer.{RoundAnswer}
+use Rattle.accepted.specs.declared.ClosingAnswer.{ClosingAnswer}
 use Rattle.claims.specs.Book.{Call, round, closing, Answer, refused, verdicts, closed, Book, counted}
 
 -- what a caller holds between two calls

@@ -35,7 +35,7 @@ use Rattle.completions.proofs.Steps.{start-exact}
 use Rattle.claims.proofs.Further.{live-set}
 use Rattle.claims.proofs.BookLaws.{round-right, reaches-closing}
 use Rattle.claims.proofs.ThirdDemand.{verdict-back}
-use Rattle.monitor.specs.Results.{width}
+use Rattle.accepted.specs.Results.{width}
 use Rattle.examples.specs.Table.{Case, judged, circular, lives, values, unheard, Holds, one-input, session, table, Examples}
 
 -- ---- the tests

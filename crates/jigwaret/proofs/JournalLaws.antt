@@ -1,12 +1,13 @@
 -- The exported functions of a journal: the slices' sizes, byte 6 of an accepted sheet, and what an outcome leaves.
-use mathlib.Core.Bool.{Bool, true, false}
+use mathlib.Core.Bool.{Bool, true, not}
 use mathlib.Core.Path.{_≡_, refl, sym, ap, _∙_, subst}
 use mathlib.Core.List.{List, List·Memᴰ·head}
 use Prim.Native.Nat.{ℕ, _≤_, _<_}
 use native.Mathlib.Omega.{arith}
 use native.Mathlib.Decide.{decLt}
 use lib.ListN.{length}
-use borrow.Author.Tests.{le-leb, lt-leb, lt-ltb, eq-eqb, ne-eqb}
+use lib.Seq.{paste, length-paste}
+use borrow.Author.Tests.{not-true, lt-ltb}
 use Rattle.refusal.specs.declared.Refusal.{Refusal}
 use Rattle.refusal.specs.declared.Outcome.{Outcome}
 use Rattle.refusal.specs.declared.Outcome.the-variants.{Accepted, Refused}
@@ -15,36 +16,20 @@ use Rattle.refusal.specs.Decided.{Decided}
 use Rattle.sheet.specs.RuleSheet.{RuleSheet}
 use Rattle.sheet.specs.Checks.{outputsOf, short, checksOf, broken?}
 use Rattle.circular.specs.Checks.{reading}
-use Rattle.monitor.specs.Checks.{Given, CallCheck, sheet, Broken, rule, entryChecks}
+use Rattle.checks.specs.Checks.{Given, CallCheck, sheet, Broken, rule, entryChecks}
 use Rattle.sheet.proofs.Formed.{counts-of, read-formed}
-use Rattle.monitor.specs.Results.{OfSheet}
-use Rattle.jigwaret.specs.Slices.{sized}
-use Rattle.jigwaret.specs.Journal.{Slices, SlicesAfter, BySizes}
+use Rattle.monitor.specs.Entries.{OfSheet}
+use Rattle.slices.specs.Slices.{sized}
+use Rattle.slices.proofs.SliceLaws.{Sizes, right-sizes}
+use Rattle.jigwaret.specs.Journal.{Slices, slices, SlicesAfter, BySizes}
 
 -- ---- sizes
 
-module _ (rec ans : List ℕ) where
-  wrong-record : (length rec ≡ 30 → ⊥) → sized rec ans ≡ false
-  wrong-record h = simp (ne-eqb (length rec) 30 h)
+pub sizes-wrong : (Done : Type 0) (s rec ans : List ℕ) (r : Bool) → r ≡ sized rec ans → not r ≡ true → BySizes (sized rec ans) Done s s (slices rec rec ans ans) 255
+sizes-wrong Done s rec ans r e h = subst (λ (b : Bool). BySizes b Done s s (slices rec rec ans ans) 255) (sym (not-true r h) ∙ e) (refl, refl, refl, refl)
 
-  wrong-answer : length rec ≡ 30 → length ans < 16 → sized rec ans ≡ false
-  wrong-answer e h = simp (eq-eqb (length rec) 30 e, lt-leb 16 (length ans) h)
-
-  right-sizes : length rec ≡ 30 → 16 ≤ length ans → sized rec ans ≡ true
-  right-sizes e h = simp (eq-eqb (length rec) 30 e, le-leb 16 (length ans) h)
-
-module _ (Done : Type 0) (s rec ans : List ℕ) where
-  abbrev same : Slices
-  same = record { rec = rec; rec′ = rec; ans = ans; ans′ = ans }
-
-  pub record-refused : (length rec ≡ 30 → ⊥) → BySizes (sized rec ans) Done s s same 255
-  record-refused h = subst (λ (b : Bool). BySizes b Done s s same 255) (sym (wrong-record rec ans h)) (refl, refl, refl, refl)
-
-  pub answer-refused : length rec ≡ 30 → length ans < 16 → BySizes (sized rec ans) Done s s same 255
-  answer-refused e h = subst (λ (b : Bool). BySizes b Done s s same 255) (sym (wrong-answer rec ans e h)) (refl, refl, refl, refl)
-
-pub sizes-right : (Done : Type 0) (s t : List ℕ) (z : Slices) (r : ℕ) → length (z .rec) ≡ 30 → 16 ≤ length (z .ans) → Done → BySizes (sized (z .rec) (z .ans)) Done s t z r
-sizes-right Done s t z r e h d = subst (λ (b : Bool). BySizes b Done s t z r) (sym (right-sizes (z .rec) (z .ans) e h)) d
+pub sizes-right : (Done : Type 0) (s t : List ℕ) (z : Slices) (r : ℕ) → Sizes (z .rec) (z .ans) → Done → BySizes (sized (z .rec) (z .ans)) Done s t z r
+sizes-right Done s t z r w d = subst (λ (b : Bool). BySizes b Done s t z r) (sym (right-sizes (z .rec) (z .ans) (w .thirty) (w .room))) d
 
 -- ---- by the outcome
 
@@ -56,6 +41,14 @@ not-written new answer z o r e p q = subst (SlicesAfter new answer z) (sym e) (p
 
 pub number-of : (o : Outcome) (r : Refusal) (n : ℕ) → o ≡ Refused r → n ≡ refusalNo r → n ≡ outcomeNo o
 number-of o r n e f = f ∙ sym (ap outcomeNo e)
+
+-- ---- verdicts at the front of an answer, and shares behind them
+
+pub front-size : (n : ℕ) (old new vs : List ℕ) → n ≤ length old → n ≤ length vs → new ≡ paste old 0 vs n → length new ≡ length old
+front-size n old new vs h l e = rw e (length-paste old 0 vs n (omega arith) l)
+
+pub put-behind : (n : ℕ) (old front new vs xs : List ℕ) → front ≡ paste old 0 vs n → new ≡ paste front n xs n → new ≡ paste (paste old 0 vs n) n xs n
+put-behind n old front new vs xs e f = rw (sym e) f
 
 -- ---- an accepted sheet has a byte 6, and it is at most 7
 

@@ -10,11 +10,11 @@ use Rattle.refusal.specs.declared.Outcome.{Outcome}
 use Rattle.refusal.specs.declared.Outcome.the-variants.{Accepted, Refused}
 use Rattle.refusal.specs.Numbers.{outcomeNo}
 use Rattle.sheet.specs.Checks.{outputsOf}
-use Rattle.monitor.specs.declared.PrepareAnswer.{PrepareAnswer}
-use Rattle.monitor.specs.declared.RoundAnswer.{RoundAnswer}
-use Rattle.monitor.specs.declared.ClosingAnswer.{ClosingAnswer}
+use Rattle.accepted.specs.declared.PrepareAnswer.{PrepareAnswer}
+use Rattle.accepted.specs.declared.RoundAnswer.{RoundAnswer}
+use Rattle.accepted.specs.declared.ClosingAnswer.{ClosingAnswer}
 use Rattle.claims.specs.ReadSheet.{PreparedBytes, RoundBytes, ClosingBytes}
-use Rattle.jigwaret.specs.Slices.{recordOf, numbersOf, sized}
+use Rattle.slices.specs.Slices.{recordOf, numbersOf, sized}
 
 -- the record's and the answer's slices before and after
 pub record Slices : Type 0 where

@@ -1,7 +1,5 @@
 // The functions that programs in C and Rust call: 0 for accepted, or the number of the refusal. A slice passes as a pointer, then its
 // length.
-mod slices;
-
 ghost use Rattle.jigwaret.specs.Numbered.{Checked, EvaluatedAs};
 ghost use Rattle.jigwaret.specs.Journal.{slices as Journal·slices, PreparedAs, RoundAs, ClosedAs};
 use refusal::Outcome;
@@ -34,10 +32,7 @@ pub extern "C" fn jigwaret_prepare(
 ) -> u32
     ensures { λ r. ⌜ PreparedAs (now (sheet .entry)) (now (storage .entry)) (now (storage .exit)) (Journal·slices (now (journal .entry)) (now (journal .exit)) (now (answer .entry)) (now (answer .exit))) r ⌝ }
 {
-    if journal.len() != 30 {
-        return 255;
-    }
-    if answer.len() < 16 {
+    if !slices::sized(journal.len(), answer.len()) {
         return 255;
     }
     let a = monitor::prepare(sheet, storage);
@@ -64,10 +59,7 @@ pub extern "C" fn jigwaret_round(
 ) -> u32
     ensures { λ r. ⌜ RoundAs (now (sheet .entry)) (now (storage .entry)) (now (storage .exit)) known value (Journal·slices (now (journal .entry)) (now (journal .exit)) (now (answer .entry)) (now (answer .exit))) r ⌝ }
 {
-    if journal.len() != 30 {
-        return 255;
-    }
-    if answer.len() < 16 {
+    if !slices::sized(journal.len(), answer.len()) {
         return 255;
     }
     let before = slices::load(journal);
@@ -94,10 +86,7 @@ pub extern "C" fn jigwaret_close(
 ) -> u32
     ensures { λ r. ⌜ ClosedAs (now (sheet .entry)) (now (storage .entry)) (Journal·slices (now (journal .entry)) (now (journal .exit)) (now (answer .entry)) (now (answer .exit))) r ⌝ }
 {
-    if journal.len() != 30 {
-        return 255;
-    }
-    if answer.len() < 16 {
+    if !slices::sized(journal.len(), answer.len()) {
         return 255;
     }
     let before = slices::load(journal);

@@ -2,7 +2,7 @@
 use mathlib.Core.List.{List, [], _++_, flatten, append-assoc, append-nil}
 use Prim.Native.Nat.{ℕ}
 use Rattle.sheet.specs.declared.Sheet.{Sheet}
-use Rattle.lines.specs.Printed.{Printed}
+use Rattle.answers.specs.Printed.{Printed}
 use Rattle.lines.specs.Machine.{Over, Stands}
 use Rattle.lines.specs.Chunks.{Rest, finished, fed, stopped, turnedDown, taken, AnyChunks}
 use Rattle.lines.specs.declared.Progress.{Progress}

@@ -18,13 +18,14 @@ use Rattle.claims.specs.Book.{emptyBook}
 use Rattle.claims.specs.Session.{Held}
 use Rattle.text.specs.Text.{sheetRefusal}
 use Rattle.text.specs.Wrote.{Wrote}
-use Rattle.lines.specs.Lines.{linesFrom}
-use Rattle.lines.specs.Printed.{Written, ended, Printed, refusedSheet, journal}
-use Rattle.lines.specs.Scan.{Scanned}
+use Rattle.pending.specs.Lines.{linesFrom}
+use Rattle.answers.specs.Printed.{Written, ended, Printed, refusedSheet, journal}
+use Rattle.pending.specs.Scan.{Scanned}
 use Rattle.claims.specs.ReadSheet.{Accepts}
-use Rattle.lines.specs.Machine.{held, Serves, Onward, Ends, LineEnded, room, Midway, Over, Stands}
-use Rattle.lines.specs.declared.pending.Pending.{Pending}
-use Rattle.lines.specs.declared.ended.Ended.{Ended}
+use Rattle.answers.specs.LineEnd.{held, Serves, Onward, Ends, LineEnded, room}
+use Rattle.lines.specs.Machine.{Midway, Over, Stands}
+use Rattle.pending.specs.declared.Pending.{Pending}
+use Rattle.answers.specs.declared.Ended.{Ended}
 use Rattle.lines.specs.declared.Progress.{Progress}
 
 -- ---- lines

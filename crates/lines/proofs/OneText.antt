@@ -12,8 +12,8 @@ use Rattle.circular.specs.Checks as sheets
 use Rattle.claims.specs.Book.{Call, Answer, refused, verdicts, closed, Book, emptyBook, counted, BookStep}
 use Rattle.claims.proofs.BookLaws.{step-unique}
 use Rattle.text.specs.Text.{verdictLine, closingText, lineRefusal, sheetRefusal}
-use Rattle.lines.specs.Lines.{Line, blank, calls, malformed, readLine, linesOf}
-use Rattle.lines.specs.Printed.{nextLine, Written, ended, passed, rounded, shut, turnedDown, unread, refusedSheet, journal}
+use Rattle.pending.specs.Lines.{Line, blank, calls, malformed, readLine, linesOf}
+use Rattle.answers.specs.Printed.{nextLine, Written, ended, passed, rounded, shut, turnedDown, unread, refusedSheet, journal}
 use Rattle.lines.specs.Chunks.{OneText}
 
 -- ---- what a line stands for

@@ -8,7 +8,7 @@ use Prim.Native.Nat.{ℕ}
 use Rattle.refusal.specs.declared.Refusal.{Refusal}
 use Rattle.refusal.specs.declared.Outcome.the-variants.{Accepted, Refused}
 use Rattle.sheet.specs.declared.Sheet.{Sheet}
-use Rattle.lines.specs.Printed.{Printed}
+use Rattle.answers.specs.Printed.{Printed}
 use Rattle.lines.specs.Machine.{Begun, Goes, Finishes}
 use Rattle.lines.specs.declared.Progress.{Progress}
 use Rattle.lines.specs.declared.Started.{Started}

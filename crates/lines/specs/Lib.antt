@@ -1,5 +1,2 @@
-pub mod Lines
-pub mod Printed
-pub mod Scan
 pub mod Machine
 pub mod Chunks

@@ -8,9 +8,6 @@ use record::JournalRecord;
 use refusal::Outcome;
 use sheet::Sheet;
 
-pub mod ended;
-pub mod pending;
-
 // Where a run stands: whether it is over, the number of the line that is being read, the journal's record, and what has come of the line.
 pub struct Progress {
     pub over: bool,
@@ -101,7 +98,7 @@ pub fn feed(x: Sheet, s: Progress, storage: &mut [u64], chunk: &[u8], out: &mut 
             pending = pending.scan(m, b);
             continue;
         }
-        let e = ended::line_end(x, line, record, pending, storage, out, at);
+        let e = answers::line_end(x, line, record, pending, storage, out, at);
         line = e.line;
         record = e.record;
         pending = Pending::empty();
@@ -140,6 +137,6 @@ pub fn finish(x: Sheet, s: Progress, storage: &mut [u64], out: &mut [u8]) -> usi
     if pending.is_blank() {
         return 0;
     }
-    let e = ended::line_end(x, line, record, pending, storage, out, 0);
+    let e = answers::line_end(x, line, record, pending, storage, out, 0);
     e.at
 }

@@ -18,13 +18,14 @@ use Rattle.circular.specs.Checks.{AcceptedSheet}
 use Rattle.circular.specs.Checks as sheets
 use Rattle.completions.specs.Live.{Pairs}
 use Rattle.completions.specs.Steps.{startSet, stepSet}
-use Rattle.monitor.specs.Checks.{CallCheck, callRule, Given, CallBroken, sheet, call, rule, Broken, entryChecks}
+use Rattle.checks.specs.Checks.{CallCheck, callRule, Given, CallBroken, sheet, call, rule, Broken, entryChecks}
 use Rattle.record.specs.declared.JournalRecord.{JournalRecord}
-use Rattle.monitor.specs.declared.PrepareAnswer.{PrepareAnswer}
-use Rattle.monitor.specs.declared.RoundAnswer.{RoundAnswer}
-use Rattle.monitor.specs.declared.ClosingAnswer.{ClosingAnswer}
-use Rattle.monitor.specs.Results.{width, nextSet, AfterForm, PrepareResult, RoundResult, ClosingResult}
-use Rattle.monitor.proofs.Rounding.{sheet-outputs}
+use Rattle.accepted.specs.declared.PrepareAnswer.{PrepareAnswer}
+use Rattle.accepted.specs.declared.RoundAnswer.{RoundAnswer}
+use Rattle.accepted.specs.declared.ClosingAnswer.{ClosingAnswer}
+use Rattle.accepted.specs.Results.{width, nextSet}
+use Rattle.monitor.specs.Entries.{AfterForm, PrepareResult, RoundResult, ClosingResult}
+use Rattle.accepted.proofs.Rounding.{sheet-outputs}
 
 module _ (bs : List ℕ) (g : Given) where
   sheet-part : (o : Outcome) → Decided (sheets.Broken bs) sheets.rule (sheets.checksOf bs) o → Decided (Broken bs g) rule (map sheet (sheets.checksOf bs)) o
@@ -46,15 +47,6 @@ module _ (bs : List ℕ) (g : Given) where
       (λ c b. subst (λ (i : ℕ). CallBroken i (x .outputs) g c) (sym m) (subst (λ (j : ℕ). CallBroken (inputsOf bs) j g c) (sym n) b))
       (λ c b. subst (λ (j : ℕ). CallBroken (inputsOf bs) j g c) n (subst (λ (i : ℕ). CallBroken i (x .outputs) g c) m b))
       (λ c. refl) cs o e)
-
--- the step that a number of rounds asks for
-pub next-first : (x : RuleSheet) (L S : Pairs) (r : ℕ → Bool) (t : ℕ) → t ≡ 0 → nextSet x L t S r ≡ startSet x L r
-next-first x L S r zero e = refl
-next-first x L S r (suc t) e = absurd (omega arith)
-
-pub next-later : (x : RuleSheet) (L S : Pairs) (r : ℕ → Bool) (t : ℕ) → (t ≡ 0 → ⊥) → nextSet x L t S r ≡ stepSet x (width x) L S r
-next-later x L S r zero e = absurd (e refl)
-next-later x L S r (suc t) e = refl
 
 -- what is done is the result, where the outcome is accepted
 pub prepare-accepted : (Done : Type 0) (s t : List ℕ) (a : PrepareAnswer) (o : Outcome) → o ≡ Accepted → Done → PrepareResult Done s t a o

@@ -1,3 +1,1 @@
-pub mod Checks
-pub mod Results
-pub mod Steps
+pub mod Entries

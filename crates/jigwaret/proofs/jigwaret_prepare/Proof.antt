@@ -5,28 +5,34 @@ use native.Mathlib.Omega.{arith}
 use lib.ListN.{set}
 use lib.Seq.{paste}
 use Rattle.refusal.specs.Numbers.{outcomeNo}
-use Rattle.jigwaret.specs.Slices.{numbersOf}
+use Rattle.slices.specs.Slices.{numbersOf}
 use Rattle.jigwaret.specs.Journal.{slices, PreparationNumbered}
-use Rattle.jigwaret.proofs.SliceLaws.{set-first}
-use Rattle.jigwaret.proofs.JournalLaws.{record-refused, answer-refused, sizes-right, written, not-written, number-of}
+use Rattle.slices.proofs.SliceLaws.{set-first, Sizes, sizes-tested}
+use Rattle.jigwaret.proofs.JournalLaws.{sizes-wrong, sizes-right, written, not-written, number-of}
 use borrow.Author.Needs.{needs}
 use Rattle.jigwaret.proofs.jigwaret_prepare.Statement.{statement}
 use Rattle.jigwaret.proofs.jigwaret_prepare.Tie as tie
 use Rattle.jigwaret.proofs.jigwaret_prepare.Reads as reads
 use Rattle.jigwaret.proofs.jigwaret_prepare.Lts as lts
-use Rattle.jigwaret.proofs.slices.store.Reads as store-reads
+use Rattle.slices.proofs.sized.Reads as sized-reads
+use Rattle.slices.proofs.store.Reads as store-reads
 use Rattle.monitor.proofs.prepare.Reads as prepare-reads
 use Rattle.refusal.proofs.refusal_number.Reads as refusal-number-reads
 
+-- the state at entry, seen from behind the test of the sizes
+abbrev entry : tie.Else1 → tie.Start
+entry c = c .before .before .before .before .before .before
+
+fits : (c : tie.Else1) → Sizes (now (entry c .args .journal)) (now (entry c .args .answer))
+fits c = sizes-tested (now (entry c .args .journal)) (now (entry c .args .answer)) (c .before .sized .result) (c .before .sized .ensures) (c .if1 .left)
+
+sized-requires : tie.Need-sized-requires
+sized-requires c κs = search needs
+
 returns : tie.Need-returns
 returns c =
-    let a = c .before .before .before .before .before .args in
-    record-refused _ (now (a .storage)) (now (a .journal)) (now (a .answer)) (c .if1 .taken)
-
-returns-2 : tie.Need-returns-2
-returns-2 c =
     let a = c .before .before .before .before .before .before .args in
-    answer-refused _ (now (a .storage)) (now (a .journal)) (now (a .answer)) (c .before .if1 .left) (c .if2 .taken)
+    sizes-wrong (PreparationNumbered (now (a .sheet)) (now (a .storage)) (now (a .storage)) (slices (now (a .journal)) (now (a .journal)) (now (a .answer)) (now (a .answer))) 255) (now (a .storage)) (now (a .journal)) (now (a .answer)) (c .before .sized .result) (c .before .sized .ensures) (c .if1 .taken)
 
 prepare-requires : tie.Need-prepare-requires
 prepare-requires c κs = search needs
@@ -41,21 +47,22 @@ enum-told : tie.Need-enum-told
 enum-told c = search needs
 
 store-requires : tie.Need-store-requires
-store-requires c κs = search needs
+store-requires c κs = fits (c .before .before .before .before .before .before .before) .thirty
 
 slice-write-answer : tie.Need-slice-write-answer
-slice-write-answer c = search needs
+slice-write-answer c = omega (arith, fits (c .before .before .before .before .before .before .before .before .before .before) .room)
 
 same-length : tie.Need-same-length
 same-length c = search needs
 
-returns-3 : tie.Need-returns-3
-returns-3 c =
-    let a = c .before .before .before .before .before .before .before .before .before .before .before .before .before .before .args in
+returns-2 : tie.Need-returns-2
+returns-2 c =
+    let d = c .before .before .before .before .before .before .before .before in
+    let a = entry d .args in
     let p = c .before .before .before .before .before .before .prepare in
     let z = slices (now (a .journal)) (now (a .journal)) (now (a .answer)) (now (a .answer)) in
     let e = c .before .before .outcome .given .1 in
-    sizes-right (PreparationNumbered (now (a .sheet)) (now (a .storage)) (p .last .1 .0) z (c .refusal-number .result)) (now (a .storage)) (p .last .1 .0) z (c .refusal-number .result) (c .before .before .before .before .before .before .before .before .before .if1 .left) (c .before .before .before .before .before .before .before .before .if2 .left)
+    sizes-right (PreparationNumbered (now (a .sheet)) (now (a .storage)) (p .last .1 .0) z (c .refusal-number .result)) (now (a .storage)) (p .last .1 .0) z (c .refusal-number .result) (fits d)
     (record {
       answer = p .result;
       result = p .ensures;
@@ -72,27 +79,28 @@ same-length-3 c = search needs
 same-length-4 : tie.Need-same-length-4
 same-length-4 c = search needs
 
-returns-4 : tie.Need-returns-4
-returns-4 c =
-    let a = c .before .before .before .before .before .before .before .before .before .before .before .before .before .before .before .before .args in
+returns-3 : tie.Need-returns-3
+returns-3 c =
+    let d = c .before .before .before .before .before .before .before .before .before .before in
+    let a = entry d .args in
     let p = c .before .before .before .before .before .before .before .before .prepare in
     let n = c .before .before .store .last .0 in
     let z = slices (now (a .journal)) n (now (a .answer)) (set (now (a .answer)) 0 (p .result .live)) in
     let e = c .before .before .before .before .enum-told .given .1 in
-    sizes-right (PreparationNumbered (now (a .sheet)) (now (a .storage)) (p .last .1 .0) z 0) (now (a .storage)) (p .last .1 .0) z 0 (c .before .before .before .before .before .before .before .before .before .before .before .if1 .left) (c .before .before .before .before .before .before .before .before .before .before .if2 .left)
+    sizes-right (PreparationNumbered (now (a .sheet)) (now (a .storage)) (p .last .1 .0) z 0) (now (a .storage)) (p .last .1 .0) z 0 (fits d)
     (record {
       answer = p .result;
       result = p .ensures;
       number = sym (ap outcomeNo e);
-      written = written (numbersOf (p .result .record)) (paste (now (a .answer)) 0 (p .result .live ∷ []) 1) z (p .result .outcome) e (c .before .before .store .ensures) (set-first (now (a .answer)) (p .result .live) (omega (arith, c .before .before .before .before .before .before .before .before .before .before .if2 .left)));
+      written = written (numbersOf (p .result .record)) (paste (now (a .answer)) 0 (p .result .live ∷ []) 1) z (p .result .outcome) e (c .before .before .store .ensures) (set-first (now (a .answer)) (p .result .live) (omega (arith, fits d .room)));
     })
 
 pub jigwaret-prepare-spec : {M : Type 1} → statement M
 jigwaret-prepare-spec =
     tie.close
     (tie.spec
+    sized-requires
     returns
-    returns-2
     prepare-requires
     enum-known-outcome
     refusal-number-requires
@@ -100,8 +108,8 @@ jigwaret-prepare-spec =
     store-requires
     slice-write-answer
     same-length
-    returns-3
+    returns-2
     same-length-2
     same-length-3
     same-length-4
-    returns-4)
+    returns-3)

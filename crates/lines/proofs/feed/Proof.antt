@@ -5,16 +5,16 @@ use native.Mathlib.Omega.{arith}
 use denote.Ref.{now}
 use lib.ListN.{length, take}
 use lib.Seq.{take-all}
-use Rattle.lines.specs.Machine.{held, room}
+use Rattle.answers.specs.LineEnd.{held, room}
 use Rattle.lines.proofs.Feeding.{Way, seen-more, wrote-more, byte-more, line-more, line-over, over-all, stands-over, stands-midway, room-most}
 use borrow.Author.Needs.{needs}
 use Rattle.lines.proofs.feed.Statement.{statement}
 use Rattle.lines.proofs.feed.Tie as tie
 use Rattle.lines.proofs.feed.Reads as reads
 use Rattle.lines.proofs.feed.Lts as lts
-use Rattle.lines.proofs.ended.line_end.Reads as line-end-reads
-use Rattle.lines.proofs.pending.Pending.empty.Reads as empty-reads
-use Rattle.lines.proofs.pending.Pending.scan.Reads as scan-reads
+use Rattle.answers.proofs.line_end.Reads as line-end-reads
+use Rattle.pending.proofs.Pending.empty.Reads as empty-reads
+use Rattle.pending.proofs.Pending.scan.Reads as scan-reads
 
 abbrev Inv-loop : tie.InvT-loop
 Inv-loop x storage₀ chunk out₀ m line₀ record₀ pending₀ at₀ i₀ storage out line «record» pending at i =

@@ -2,15 +2,15 @@ use mathlib.Core.Path.{sym, subst}
 use mathlib.Core.List.{List, _++_}
 use Prim.Native.Nat.{ℕ}
 use native.Mathlib.Omega.{arith}
-use Rattle.lines.specs.Printed.{Printed}
+use Rattle.answers.specs.Printed.{Printed}
 use Rattle.lines.proofs.Feeding.{over-last, stands-midway, none-last, line-last, room-most}
 use borrow.Author.Needs.{needs}
 use Rattle.lines.proofs.finish.Statement.{statement}
 use Rattle.lines.proofs.finish.Tie as tie
 use Rattle.lines.proofs.finish.Reads as reads
 use Rattle.lines.proofs.finish.Lts as lts
-use Rattle.lines.proofs.ended.line_end.Reads as line-end-reads
-use Rattle.lines.proofs.pending.Pending.is_blank.Reads as is-blank-reads
+use Rattle.answers.proofs.line_end.Reads as line-end-reads
+use Rattle.pending.proofs.Pending.is_blank.Reads as is-blank-reads
 
 returns : tie.Need-returns
 returns c = (λ sheet seen wrote st. over-last sheet _ _ _ seen wrote st (c .if1 .taken), omega arith)

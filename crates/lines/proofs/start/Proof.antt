@@ -2,7 +2,7 @@ use mathlib.Core.Path.{refl}
 use denote.Ref.{now}
 use Rattle.claims.specs.ReadSheet.{Accepts}
 use native.Mathlib.Omega.{arith}
-use Rattle.lines.proofs.Serving.{serves-prepared}
+use Rattle.answers.proofs.Serving.{serves-prepared}
 use Rattle.lines.proofs.Feeding.{refused-start, midway-start}
 use borrow.Author.Needs.{needs}
 use Rattle.lines.proofs.start.Statement.{statement}
@@ -10,7 +10,7 @@ use Rattle.lines.proofs.start.Tie as tie
 use Rattle.lines.proofs.start.Reads as reads
 use Rattle.lines.proofs.start.Lts as lts
 use Rattle.circular.proofs.accept_sheet.Reads as accept-sheet-reads
-use Rattle.lines.proofs.pending.Pending.empty.Reads as empty-reads
+use Rattle.pending.proofs.Pending.empty.Reads as empty-reads
 use Rattle.monitor.proofs.prepare_read.Reads as prepare-read-reads
 use Rattle.record.proofs.JournalRecord.fresh.Reads as fresh-reads
 use Rattle.text.proofs.sheet_refusal.Reads as sheet-refusal-reads

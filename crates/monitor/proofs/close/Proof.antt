@@ -2,8 +2,9 @@ use denote.Ref.{now}
 use lib.ListN.{length}
 use Rattle.sheet.specs.RuleSheet.{RuleSheet}
 use Rattle.sheet.specs.Reading.{ruleSheet}
-use Rattle.monitor.specs.Checks.{given, closingChecks}
-use Rattle.monitor.specs.Results.{OfSheet, ClosingDone}
+use Rattle.checks.specs.Checks.{given, closingChecks}
+use Rattle.accepted.specs.Results.{ClosingDone}
+use Rattle.monitor.specs.Entries.{OfSheet}
 use Rattle.monitor.proofs.Entries.{sheet-refused, sheet-accepted, closing-of}
 use borrow.Author.Needs.{needs}
 use Rattle.monitor.proofs.close.Statement.{statement}

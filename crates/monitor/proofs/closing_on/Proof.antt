@@ -1,16 +1,16 @@
 use Prim.Native.Nat.{_-_}
 use denote.Ref.{now}
 use Rattle.sheet.specs.Reading.{ruleSheet}
-use Rattle.monitor.specs.Checks.{given}
-use Rattle.monitor.specs.Results.{ClosingDone}
+use Rattle.checks.specs.Checks.{given}
+use Rattle.accepted.specs.Results.{ClosingDone}
 use Rattle.monitor.proofs.Entries.{closing-accepted}
 use borrow.Author.Needs.{needs}
 use Rattle.monitor.proofs.closing_on.Statement.{statement}
 use Rattle.monitor.proofs.closing_on.Tie as tie
 use Rattle.monitor.proofs.closing_on.Reads as reads
 use Rattle.monitor.proofs.closing_on.Lts as lts
-use Rattle.monitor.proofs.accepted_closing.Reads as accepted-closing-reads
-use Rattle.monitor.proofs.check_closing.Reads as check-closing-reads
+use Rattle.accepted.proofs.closing.Reads as closing-reads
+use Rattle.checks.proofs.check_closing.Reads as check-closing-reads
 use Rattle.monitor.proofs.refused_closing.Reads as refused-closing-reads
 
 check-closing-requires : tie.Need-check-closing-requires
@@ -25,8 +25,8 @@ refused-closing-requires c κs = search needs
 enum-told : tie.Need-enum-told
 enum-told c = search needs
 
-accepted-closing-requires : tie.Need-accepted-closing-requires
-accepted-closing-requires c κs = (c .before .before .before .before .pre, rw (c .enum-told .given .1) at (c .before .before .check-closing .ensures .1))
+closing-requires : tie.Need-closing-requires
+closing-requires c κs = (c .before .before .before .before .pre, rw (c .enum-told .given .1) at (c .before .before .check-closing .ensures .1))
 
 returns : tie.Need-returns
 returns c =
@@ -35,8 +35,8 @@ returns c =
 
 returns-2 : tie.Need-returns-2
 returns-2 c =
-    let a = c .accepted-closing .ensures in
-    let p = c .accepted-closing .result in (
+    let a = c .closing .ensures in
+    let p = c .closing .result in (
       rw (a .0) (rw (c .before .enum-told .given .1) at (c .before .before .before .check-closing .ensures .0)),
       closing-accepted (ClosingDone (ruleSheet (c .before .before .before .before .before .args .x)) (now (c .before .before .before .before .before .args .storage)) (c .before .before .before .before .before .args .r) p) (c .before .before .before .before .before .args .r) p (p .outcome) (a .0) (a .1),
     )
@@ -49,6 +49,6 @@ closing-on-spec =
     enum-known-outcome
     refused-closing-requires
     enum-told
-    accepted-closing-requires
+    closing-requires
     returns
     returns-2)

@@ -3,8 +3,9 @@ use denote.Ref.{now}
 use lib.ListN.{length}
 use Rattle.sheet.specs.RuleSheet.{RuleSheet}
 use Rattle.sheet.specs.Reading.{ruleSheet}
-use Rattle.monitor.specs.Checks.{given, prepareChecks}
-use Rattle.monitor.specs.Results.{OfSheet, Prepared}
+use Rattle.checks.specs.Checks.{given, prepareChecks}
+use Rattle.accepted.specs.Results.{Prepared}
+use Rattle.monitor.specs.Entries.{OfSheet}
 use Rattle.monitor.proofs.Entries.{sheet-refused, sheet-accepted, prepare-of}
 use borrow.Author.Needs.{needs}
 use Rattle.monitor.proofs.prepare.Statement.{statement}

@@ -4,16 +4,16 @@ use denote.Ref.{now}
 use lib.ListN.{length}
 use Rattle.refusal.specs.declared.Outcome.the-variants.{Accepted}
 use Rattle.sheet.specs.Reading.{ruleSheet}
-use Rattle.monitor.specs.Checks.{given}
-use Rattle.monitor.specs.Results.{Prepared}
-use Rattle.monitor.proofs.Checking.{short-storage, past-storage, none-left}
+use Rattle.checks.specs.Checks.{given}
+use Rattle.accepted.specs.Results.{Prepared}
+use Rattle.checks.proofs.Checking.{short-storage, past-storage, none-left}
 use Rattle.monitor.proofs.Entries.{prepare-accepted}
 use borrow.Author.Needs.{needs}
 use Rattle.monitor.proofs.prepare_on.Statement.{statement}
 use Rattle.monitor.proofs.prepare_on.Tie as tie
 use Rattle.monitor.proofs.prepare_on.Reads as reads
 use Rattle.monitor.proofs.prepare_on.Lts as lts
-use Rattle.monitor.proofs.accepted_preparation.Reads as accepted-preparation-reads
+use Rattle.accepted.proofs.preparation.Reads as preparation-reads
 use Rattle.monitor.proofs.refused_preparation.Reads as refused-preparation-reads
 
 refused-preparation-requires : tie.Need-refused-preparation-requires
@@ -27,8 +27,8 @@ returns c =
       rw (p .0) (refl, p .1, p .2),
     )
 
-accepted-preparation-requires : tie.Need-accepted-preparation-requires
-accepted-preparation-requires c κs = search needs
+preparation-requires : tie.Need-preparation-requires
+preparation-requires c κs = search needs
 
 same-length : tie.Need-same-length
 same-length c = search needs
@@ -36,7 +36,7 @@ same-length c = search needs
 returns-2 : tie.Need-returns-2
 returns-2 c =
     let a = c .before .before .before .before .before .before .args in
-    let p = c .before .before .accepted-preparation in (
+    let p = c .before .before .preparation in (
       (λ r. rw (p .ensures .0)
           (past-storage (a .x .inputs) (a .x .outputs) (given (length (now (a .storage))) r 0 0) [] Accepted (c .before .before .before .before .if1 .left)
           (none-left (a .x .inputs) (a .x .outputs) (given (length (now (a .storage))) r 0 0)))),
@@ -49,6 +49,6 @@ prepare-on-spec =
     (tie.spec
     refused-preparation-requires
     returns
-    accepted-preparation-requires
+    preparation-requires
     same-length
     returns-2)

@@ -3,8 +3,9 @@ use denote.Ref.{now}
 use lib.ListN.{length}
 use Rattle.sheet.specs.RuleSheet.{RuleSheet}
 use Rattle.sheet.specs.Reading.{ruleSheet}
-use Rattle.monitor.specs.Checks.{given, roundChecks}
-use Rattle.monitor.specs.Results.{OfSheet, RoundDone}
+use Rattle.checks.specs.Checks.{given, roundChecks}
+use Rattle.accepted.specs.Results.{RoundDone}
+use Rattle.monitor.specs.Entries.{OfSheet}
 use Rattle.monitor.proofs.Entries.{sheet-refused, sheet-accepted, round-of}
 use borrow.Author.Needs.{needs}
 use Rattle.monitor.proofs.round.Statement.{statement}

@@ -2,16 +2,16 @@ use Prim.Native.Nat.{_-_}
 use mathlib.Core.Path.{refl}
 use denote.Ref.{now}
 use Rattle.sheet.specs.Reading.{ruleSheet}
-use Rattle.monitor.specs.Checks.{given}
-use Rattle.monitor.specs.Results.{RoundDone}
+use Rattle.checks.specs.Checks.{given}
+use Rattle.accepted.specs.Results.{RoundDone}
 use Rattle.monitor.proofs.Entries.{round-accepted}
 use borrow.Author.Needs.{needs}
 use Rattle.monitor.proofs.round_on.Statement.{statement}
 use Rattle.monitor.proofs.round_on.Tie as tie
 use Rattle.monitor.proofs.round_on.Reads as reads
 use Rattle.monitor.proofs.round_on.Lts as lts
-use Rattle.monitor.proofs.accepted_round.Reads as accepted-round-reads
-use Rattle.monitor.proofs.check_round.Reads as check-round-reads
+use Rattle.accepted.proofs.round.Reads as round-reads
+use Rattle.checks.proofs.check_round.Reads as check-round-reads
 use Rattle.monitor.proofs.refused_round.Reads as refused-round-reads
 
 check-round-requires : tie.Need-check-round-requires
@@ -26,8 +26,8 @@ refused-round-requires c κs = search needs
 enum-told : tie.Need-enum-told
 enum-told c = search needs
 
-accepted-round-requires : tie.Need-accepted-round-requires
-accepted-round-requires c κs = (c .before .before .before .before .before .pre, rw (c .before .enum-told .given .1) at (c .before .before .before .check-round .ensures .1))
+round-requires : tie.Need-round-requires
+round-requires c κs = (c .before .before .before .before .before .pre, rw (c .before .enum-told .given .1) at (c .before .before .before .check-round .ensures .1))
 
 returns : tie.Need-returns
 returns c =
@@ -39,10 +39,10 @@ same-length c = search needs
 
 returns-2 : tie.Need-returns-2
 returns-2 c =
-    let a = c .before .before .accepted-round .ensures in
-    let p = c .before .before .accepted-round .result in
+    let a = c .before .before .round .ensures in
+    let p = c .before .before .round .result in
     let s = now (c .before .before .before .before .before .before .before .before .args .storage) in
-    let t = c .before .before .accepted-round .last .1 .0 in (
+    let t = c .before .before .round .last .1 .0 in (
       rw (a .0) (rw (c .before .before .before .before .enum-told .given .1) at (c .before .before .before .before .before .before .check-round .ensures .0)),
       round-accepted (RoundDone (ruleSheet (c .before .before .before .before .before .before .before .before .args .x)) s t (c .before .before .before .before .before .before .before .before .args .r) (c .before .before .before .before .before .before .before .before .args .known) (c .before .before .before .before .before .before .before .before .args .value) p) s t (c .before .before .before .before .before .before .before .before .args .r) p (p .outcome) (a .0) (a .1),
     )
@@ -55,7 +55,7 @@ round-on-spec =
     enum-known-outcome
     refused-round-requires
     enum-told
-    accepted-round-requires
+    round-requires
     returns
     same-length
     returns-2)

@@ -1,0 +1,119 @@
+-- What a step, the verdicts and the tallies come to: a round and a closing as they are defined.
+use mathlib.Core.Path.{_≡_, sym, ap, ap₂, _∙_, subst}
+use mathlib.Core.Bool.{Bool, true, false, cond}
+use mathlib.Core.List.{List}
+use mathlib.Core.Option.{Option}
+use Prim.Native.Nat.{ℕ, _+_, _^_, _<_, _≤_}
+use native.Mathlib.Omega.{arith}
+use lib.ListN.{length}
+use lib.Pow.{pow-mono}
+use Rattle.words.specs.Bits.{bit}
+use Rattle.refusal.specs.declared.Verdict.{Verdict}
+use Rattle.refusal.specs.declared.Verdict.the-variants.{False, True, Open, Broken}
+use Rattle.refusal.specs.Numbers.{verdictNo}
+use Rattle.sheet.specs.RuleSheet.{RuleSheet, outputs, streams}
+use Rattle.sheet.specs.Reading.{ruleSheet, Usable}
+use Rattle.sheet.specs.declared.Sheet.{Sheet}
+use Rattle.sheet.proofs.Sheets.{length-trees}
+use Rattle.lola.specs.Equations.{output}
+use Rattle.lanes.specs.Coded.{sheetOf}
+use Rattle.completions.specs.Live.{Pairs}
+use Rattle.completions.specs.Completion.{masked}
+use Rattle.completions.specs.Steps.{Within, stepSet, pairsVerdict, endsVerdict}
+use Rattle.letters.specs.Matching.{matches}
+use Rattle.pairs.specs.Storage.{stored, used}
+use Rattle.record.specs.Record.{Counted}
+use Rattle.record.specs.Columns.{AreVerdicts}
+use Rattle.record.specs.declared.JournalRecord.{JournalRecord}
+use Rattle.rounds.specs.Rows.{among}
+use Rattle.rounds.specs.Round.{Rounded}
+use Rattle.verdicts.specs.Firsts.{Passing, Told}
+use Rattle.checks.specs.Checks.{given}
+use Rattle.accepted.specs.Results.{width, heard, nextSet, pairsWithin, Verdicts, RoundDone, ClosingDone}
+use Rattle.checks.specs.Ready.{RoundReady}
+use Rattle.accepted.specs.Shares.{Shares}
+use Rattle.accepted.specs.declared.RoundAnswer.{RoundAnswer}
+use Rattle.accepted.specs.declared.ClosingAnswer.{ClosingAnswer}
+use Rattle.accepted.proofs.Rounding.{sheet-outputs, sheet-width, heard-as, pairs-verdict-as, reached-below, wider, only-heard}
+use Rattle.accepted.proofs.Rounding.{next-later}
+
+verdict-small : (v : Verdict) → verdictNo v ≤ 3
+verdict-small False = omega arith
+verdict-small True = omega arith
+verdict-small Open = omega arith
+verdict-small Broken = omega arith
+
+pub told-are : (n : ℕ) (f : ℕ → Verdict) (vs : List ℕ) → Told n f vs → AreVerdicts n vs
+told-are n f vs x k h = subst (λ (z : ℕ). z ≤ 3) (sym (x .each k h)) (verdict-small (f k))
+
+pub later-step : (m n : ℕ) (code len ks : List ℕ) (L S : Pairs) (r : ℕ → Bool) (t : ℕ) → (t ≡ 0 → ⊥)
+    → nextSet (sheetOf m n code len ks) L t S r ≡ stepSet (sheetOf m n code len ks) (2 ^ (m + n)) L S r
+later-step m n code len ks L S r t e =
+    next-later (sheetOf m n code len ks) L S r t e
+    ∙ ap (λ (k : ℕ). stepSet (sheetOf m n code len ks) (2 ^ (m + k)) L S r) (length-trees (m + n) code len n)
+
+module _ (x : Sheet) (u : Usable x) where
+  abbrev X : RuleSheet
+  X = ruleSheet x
+
+  small : width X ≤ 256
+  small = let g : 2 ^ (x .inputs + x .outputs) ≤ 2 ^ 8 = pow-mono (u .ranges .streams) in omega (arith, sheet-width x)
+
+  -- after a round, only what was heard is a first part
+  pub heard-firsts : (s t : List ℕ) (n letters : ℕ) → Rounded (2 ^ (x .inputs + x .outputs)) s t (nextSet X (stored s 0) n (stored s 1028) (among letters))
+      → Passing (2 ^ (x .inputs + x .outputs)) (among letters) (stored t 1028)
+  heard-firsts s t n letters d = only-heard (2 ^ (x .inputs + x .outputs)) s t X (stored s 0) n (stored s 1028) (among letters) (pow-mono (u .ranges .streams)) d
+
+  -- verdicts over the valuations of the sheet
+  told-verdicts : (f g : ℕ → Verdict) (vs : List ℕ) → ((k : ℕ) → f k ≡ g k) → Told (x .outputs) f vs → Verdicts (outputs X) g vs
+  told-verdicts f g vs e v = record {
+    size = v .size;
+    each = λ k h. v .each k (omega (arith, sheet-outputs x)) ∙ ap verdictNo (e k);
+    beyond = λ k h. v .beyond k (omega (arith, sheet-outputs x));
+  }
+
+  pub round-done : (s t : List ℕ) (r : JournalRecord) (known val letters : ℕ) (a : RoundAnswer)
+      → RoundReady (x .inputs) (x .outputs) (given (length s) r known val)
+      → ((l : ℕ) → l < 64 → bit l letters ≡ matches known val 6 l)
+      → Rounded (2 ^ (x .inputs + x .outputs)) s t (nextSet X (stored s 0) (r .rounds) (stored s 1028) (among letters))
+      → Told (x .outputs) (λ k. pairsVerdict (2 ^ (x .inputs + x .outputs)) (stored t 1028) (bit (x .inputs + k))) (a .verdicts)
+      → a .record .rounds ≡ r .rounds + 1 → a .record .closed ≡ r .closed → Counted (x .outputs) (a .verdicts) (r .counts) (a .record .counts)
+      → RoundDone X s t r known val a
+  round-done s t r known val letters a ready f d v e₁ e₂ e₃ =
+      let H : among letters ≡ heard X (masked known val) = heard-as X letters known val (u .ranges .inputs) (ready .masks) f in
+      let R : Pairs = nextSet X (stored s 0) (r .rounds) (stored s 1028) (heard X (masked known val)) in
+      let same : (b : ℕ) (c : Option ℕ) → b < 256 → Within 256 c → stored t 1028 b c ≡ cond (used (width X) b c) (pairsWithin (width X) R b c) (stored s 1028 b c) =
+      λ b c hb hc.
+      d .reached b c hb hc
+      ∙ ap₂ (λ (w : ℕ) (S : Pairs). cond (used w b c) (pairsWithin w S b c) (stored s 1028 b c)) (sym (sheet-width x)) (ap (nextSet X (stored s 0) (r .rounds) (stored s 1028)) H) in
+      record {
+        kept = record { same-length = d .same-length; beyond = d .beyond };
+        live = d .live;
+        reached = same;
+        scratch = λ b c hb hc. d .scratch b c hb hc ∙ ap (λ (w : ℕ). cond (used w b c) false (stored s 2056 b c)) (sym (sheet-width x));
+        verdicts = told-verdicts _ (λ k. pairsVerdict (width X) R (output X k)) (a .verdicts)
+            (λ k.
+            ap (λ (w : ℕ). pairsVerdict w (stored t 1028) (bit (x .inputs + k))) (sym (sheet-width x))
+            ∙ pairs-verdict-as (width X) (stored t 1028) R (output X k)
+            (λ b c hb hc. same b c (omega (arith, small)) (wider (width X) small c hc) ∙ reached-below (width X) R (stored s 1028 b c) b c hb hc))
+            v;
+        rounds = e₁;
+        closed = e₂;
+        counts = subst (λ (n : ℕ). Counted n (a .verdicts) (r .counts) (a .record .counts)) (sym (sheet-outputs x)) e₃;
+      }
+
+  pub closing-done : (s : List ℕ) (r : JournalRecord) (a : ClosingAnswer)
+      → Told (x .outputs) (λ k. endsVerdict (2 ^ (x .inputs + x .outputs)) (stored s 1028) (bit (x .inputs + k))) (a .verdicts)
+      → Shares (x .outputs) r (a .shares)
+      → a .record .rounds ≡ r .rounds → a .record .closed ≡ true → a .record .counts ≡ r .counts → ClosingDone X s r a
+  closing-done s r a v h e₁ e₂ e₃ =
+      record {
+        verdicts = told-verdicts _ (λ k. endsVerdict (width X) (stored s 1028) (output X k)) (a .verdicts)
+            (λ k. ap (λ (w : ℕ). endsVerdict w (stored s 1028) (bit (x .inputs + k))) (sym (sheet-width x))) v;
+        sizes = h .size;
+        shares = λ k l. h .each k (omega (arith, sheet-outputs x));
+        others = λ k l. h .beyond k (omega (arith, sheet-outputs x));
+        rounds = e₁;
+        closed = e₂;
+        counts = e₃;
+      }

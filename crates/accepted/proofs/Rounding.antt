@@ -1,0 +1,97 @@
+-- From what a step leaves in the storage to what a round is defined to do.
+use mathlib.Core.Path.{_≡_, refl, ap, ap₂, _∙_, fun-ext}
+use mathlib.Core.Bool.{Bool, false, cond, not, _&&_, _||_}
+use mathlib.Core.List.{List}
+use mathlib.Core.Option.{Option, none, some}
+use Prim.Native.Nat.{ℕ, zero, suc, _+_, _%_, _^_, _<_, _≤_}
+use native.Mathlib.Omega.{arith}
+use borrow.Author.Tests.{lt-ltb}
+use Rattle.words.specs.Bits.{bit}
+use Rattle.words.specs.Below.{anyBelow}
+use Rattle.words.proofs.AnyLaws.{any-cong}
+use Rattle.sheet.specs.RuleSheet.{RuleSheet, outputs}
+use Rattle.sheet.specs.Reading.{ruleSheet}
+use Rattle.sheet.specs.declared.Sheet.{Sheet}
+use Rattle.sheet.proofs.Sheets.{length-trees}
+use Rattle.lola.specs.Equations.{holds}
+use Rattle.completions.specs.Live.{Pairs}
+use Rattle.completions.specs.Completion.{masked}
+use Rattle.completions.specs.Steps.{Within, startSet, stepSet, anyNext, anyPair, verdictOf, pairsVerdict}
+use Rattle.letters.specs.Masks.{badMasks}
+use Rattle.letters.specs.Matching.{matches}
+use Rattle.letters.proofs.Matching.{valid, matches-masked, masked-low}
+use Rattle.pairs.specs.Storage.{stored, used}
+use Rattle.pairs.proofs.Bools.{and-false}
+use Rattle.pairs.proofs.Sets.{used-below}
+use Rattle.rounds.specs.Rows.{among}
+use Rattle.rounds.specs.Round.{Rounded}
+use Rattle.verdicts.specs.Firsts.{Passing}
+use Rattle.accepted.specs.Results.{width, heard, nextSet, pairsWithin}
+
+-- ---- the sheet's numbers
+
+pub sheet-outputs : (x : Sheet) → outputs (ruleSheet x) ≡ x .outputs
+sheet-outputs x = length-trees (x .inputs + x .outputs) (x .code) (x .len) (x .outputs)
+
+pub sheet-width : (x : Sheet) → width (ruleSheet x) ≡ 2 ^ (x .inputs + x .outputs)
+sheet-width x = ap (λ (n : ℕ). 2 ^ (x .inputs + n)) (sheet-outputs x)
+
+-- ---- the step that a number of rounds asks for
+
+pub next-first : (x : RuleSheet) (L S : Pairs) (r : ℕ → Bool) (t : ℕ) → t ≡ 0 → nextSet x L t S r ≡ startSet x L r
+next-first x L S r zero e = refl
+next-first x L S r (suc t) e = absurd (omega arith)
+
+pub next-later : (x : RuleSheet) (L S : Pairs) (r : ℕ → Bool) (t : ℕ) → (t ≡ 0 → ⊥) → nextSet x L t S r ≡ stepSet x (width x) L S r
+next-later x L S r zero e = absurd (e refl)
+next-later x L S r (suc t) e = refl
+
+-- ---- the letters of a round
+
+-- a set of letters that has just those that match the masks asks what the masks ask
+pub heard-as : (x : RuleSheet) (letters known val : ℕ) → x .inputs ≤ 6 → badMasks (x .inputs) known val ≡ false
+    → ((l : ℕ) → l < 64 → bit l letters ≡ matches known val 6 l) → among letters ≡ heard x (masked known val)
+unfolding among
+heard-as x letters known val h e f =
+    fun-ext (λ v. f (v % 64) (omega arith) ∙ matches-masked known val (v % 64) (valid (x .inputs) known val h e) ∙ masked-low (x .inputs) known val v h e)
+
+-- ---- verdicts read off sets that are the same below w
+
+next-cong : (w : ℕ) (f g : Option ℕ → Bool) → ((c : Option ℕ) → Within w c → f c ≡ g c) → anyNext w f ≡ anyNext w g
+unfolding anyNext
+next-cong w f g e = ap₂ _||_ (e none tt) (any-cong w (λ b. f (some b)) (λ b. g (some b)) (λ i h. e (some i) h))
+
+pair-cong : (w : ℕ) (S R : Pairs) → ((b : ℕ) (c : Option ℕ) → b < w → Within w c → S b c ≡ R b c) → anyPair w S ≡ anyPair w R
+unfolding anyPair
+pair-cong w S R e = any-cong w (λ a. anyNext w (S a)) (λ a. anyNext w (R a)) (λ i h. next-cong w (S i) (R i) (λ c k. e i c h k))
+
+pub pairs-verdict-as : (w : ℕ) (S R : Pairs) (g : ℕ → Bool) → ((b : ℕ) (c : Option ℕ) → b < w → Within w c → S b c ≡ R b c) → pairsVerdict w S g ≡ pairsVerdict w R g
+unfolding pairsVerdict
+pairs-verdict-as w S R g e =
+    ap₂ verdictOf
+    (pair-cong w (λ b c. S b c && g b) (λ b c. R b c && g b) (λ b c h k. ap (λ (z : Bool). z && g b) (e b c h k)))
+    (pair-cong w (λ b c. S b c && not (g b)) (λ b c. R b c && not (g b)) (λ b c h k. ap (λ (z : Bool). z && not (g b)) (e b c h k)))
+
+-- a set cut down to the valuations below w is the same there
+pub within-same : (w : ℕ) (S : Pairs) (b : ℕ) (c : Option ℕ) → b < w → Within w c → pairsWithin w S b c ≡ S b c
+within-same w S b none h i = rw (lt-ltb b w h)
+within-same w S b (some c) h i = rw (lt-ltb b w h, lt-ltb c w i)
+
+-- and so is a set that is so cut down in the words that w valuations use
+pub reached-below : (w : ℕ) (S : Pairs) (l : Bool) (b : ℕ) (c : Option ℕ) → b < w → Within w c → cond (used w b c) (pairsWithin w S b c) l ≡ S b c
+reached-below w S l b c h i = ap (λ (u : Bool). cond u (pairsWithin w S b c) l) (used-below w b c h) ∙ within-same w S b c h i
+
+pub wider : (w : ℕ) → w ≤ 256 → (c : Option ℕ) → Within w c → Within 256 c
+wider w h none i = tt
+wider w h (some c) i = omega arith
+
+-- ---- after a round, only what was heard is a first part
+
+next-unheard : (x : RuleSheet) (L : Pairs) (t : ℕ) (S : Pairs) (r : ℕ → Bool) (b : ℕ) (c : Option ℕ) → r b ≡ false → nextSet x L t S r b c ≡ false
+unfolding startSet stepSet
+next-unheard x L zero S r b c e = ap (λ (u : Bool). L b c && (u && holds x none b c)) e ∙ and-false (L b c)
+next-unheard x L (suc t) S r b c e = ap (λ (u : Bool). L b c && (u && anyBelow (width x) (λ a. S a (some b) && holds x (some a) b c))) e ∙ and-false (L b c)
+
+pub only-heard : (w : ℕ) (s t : List ℕ) (x : RuleSheet) (L : Pairs) (n : ℕ) (S : Pairs) (r : ℕ → Bool) → w ≤ 256 → Rounded w s t (nextSet x L n S r) → Passing w r (stored t 1028)
+only-heard w s t x L n S r h d b c hb hc e =
+    d .reached b c (omega arith) (wider w h c hc) ∙ reached-below w (nextSet x L n S r) (stored s 1028 b c) b c hb hc ∙ next-unheard x L n S r b c e

@@ -1,0 +1,41 @@
+-- The shares, output by output.
+use mathlib.Core.Path.{_≡_, refl, sym, _∙_, subst}
+use mathlib.Core.List.{List}
+use Prim.Native.Nat.{ℕ, zero, suc, _+_, _<_, _≤_}
+use native.Mathlib.Omega.{arith}
+use native.Mathlib.Decide.{decLt}
+use lib.ListN.{length, getD, set, length-set, replicate}
+use lib.Seq.{getD-set-same, getD-set-other}
+use Rattle.refusal.specs.declared.Verdict.the-variants.{True}
+use Rattle.record.specs.Record.{countAt, share}
+use Rattle.record.specs.declared.JournalRecord.{JournalRecord}
+use Rattle.accepted.specs.Shares.{Shares}
+
+pub record SharesTo (k : ℕ) (counts : List ℕ) (t : ℕ) (xs : List ℕ) : Type 0 where
+  pub size : length xs ≡ 7
+  pub each : (j : ℕ) → j < k → getD xs j 0 ≡ share (countAt counts j True) t
+  pub beyond : (j : ℕ) → k ≤ j → getD xs j 0 ≡ 0
+
+zeros : (k m : ℕ) → getD (replicate {A = ℕ} m 0) k 0 ≡ 0
+zeros k zero = refl
+zeros zero (suc m) = refl
+zeros (suc k) (suc m) = zeros k m
+
+pub shares-none : (counts : List ℕ) (t : ℕ) → SharesTo 0 counts t (replicate 7 0)
+shares-none counts t = record { size = refl; each = λ j h. absurd (omega arith); beyond = λ j h. zeros j 7 }
+
+pub shares-more : (k : ℕ) (counts : List ℕ) (t : ℕ) (xs : List ℕ) (y : ℕ) → k < 7 → y ≡ share (countAt counts k True) t → SharesTo k counts t xs → SharesTo (k + 1) counts t (set xs k y)
+shares-more k counts t xs y h e x = record {
+  size = length-set xs k y ∙ x .size;
+  each = λ j l. go j l (decLt j k);
+  beyond = λ j l. getD-set-other xs k j y 0 (omega arith) ∙ x .beyond j (omega arith);
+}
+  where
+    go : (j : ℕ) → j < k + 1 → Dec (j < k) → getD (set xs k y) j 0 ≡ share (countAt counts j True) t
+    go j l (yes q) = getD-set-other xs k j y 0 (omega arith) ∙ x .each j q
+    go j l (no q) =
+        let s : j ≡ k = omega arith in
+        subst (λ (z : ℕ). getD (set xs k y) z 0 ≡ share (countAt counts z True) t) (sym s) (getD-set-same xs k y 0 (omega (arith, x .size)) ∙ e)
+
+pub shares-all : (k n : ℕ) (r : JournalRecord) (xs : List ℕ) → k ≡ n → SharesTo k (r .counts) (r .rounds) xs → Shares n r xs
+shares-all k n r xs e x = record { size = x .size; each = λ j h. x .each j (omega arith); beyond = λ j h. x .beyond j (omega arith) }

@@ -1,0 +1,31 @@
+use Prim.Native.Nat.{_-_}
+use mathlib.Core.Path.{refl}
+use denote.Ref.{now}
+use Rattle.accepted.proofs.Done.{closing-done}
+use borrow.Author.Needs.{needs}
+use Rattle.accepted.proofs.closing.Statement.{statement}
+use Rattle.accepted.proofs.closing.Tie as tie
+use Rattle.accepted.proofs.closing.Reads as reads
+use Rattle.accepted.proofs.closing.Lts as lts
+use Rattle.accepted.proofs.shares.Reads as shares-reads
+use Rattle.verdicts.proofs.closing_verdicts.Reads as closing-verdicts-reads
+
+cast-m : tie.Need-cast-m
+cast-m c = search needs
+
+cast-n : tie.Need-cast-n
+cast-n c = search needs
+
+closing-verdicts-requires : tie.Need-closing-verdicts-requires
+closing-verdicts-requires c κs = search needs
+
+shares-requires : tie.Need-shares-requires
+shares-requires c κs = search needs
+
+returns : tie.Need-returns
+returns c =
+    (refl, closing-done (c .before .before .before .before .before .before .args .x) (c .before .before .before .before .before .before .pre .0) (now (c .before .before .before .before .before .before .args .storage)) (c .before .before .before .before .before .before .args .r) _ (c .before .before .closing-verdicts .ensures) (c .before .shares .ensures) refl refl refl)
+
+pub closing-spec : {M : Type 1} → statement M
+closing-spec =
+    tie.close (tie.spec cast-m cast-n closing-verdicts-requires shares-requires returns)

@@ -1,0 +1,26 @@
+-- For contracts: what the program keeps of the line that it is reading.
+use mathlib.Core.Path.{_≡_}
+use mathlib.Core.Bool.{true}
+use mathlib.Core.List.{List, [], _∷_, _++_}
+use Prim.Native.Nat.{ℕ, _≤_}
+use lib.ListN.{length}
+use Rattle.pending.specs.Lines.{allMarks, knownMask, valueMask, malformed, readLine}
+use Rattle.pending.specs.declared.Pending.{Pending}
+
+-- the bytes are at most m marks, and these are their number and their masks
+pub record Marks (m : ℕ) (part : List ℕ) (q : Pending) : Type 0 where
+  pub all : allMarks part ≡ true
+  pub few : length part ≤ m
+  pub count : q .count ≡ length part
+  pub known : q .known ≡ knownMask part
+  pub value : q .value ≡ valueMask part
+
+-- whatever follows these bytes, the line is malformed
+abbrev pub Spoiled : ℕ → List ℕ → Type 0
+Spoiled m part = (rest : List ℕ) → readLine m (part ++ rest) ≡ malformed
+
+-- q is what is kept of the bytes of a line, in a journal of m inputs
+pub record Scanned (m : ℕ) (part : List ℕ) (q : Pending) : Type 0 where
+  pub marks : q .kind ≡ 0 → Marks m part q
+  pub dot : q .kind ≡ 1 → part ≡ 46 ∷ []
+  pub spoiled : 2 ≤ q .kind → Spoiled m part

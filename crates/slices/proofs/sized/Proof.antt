@@ -1,0 +1,14 @@
+use borrow.Author.Tests.{eq-eqb, ne-eqb}
+use Rattle.slices.proofs.sized.Statement.{statement}
+use Rattle.slices.proofs.sized.Tie as tie
+use Rattle.slices.proofs.sized.Reads as reads
+use Rattle.slices.proofs.sized.Lts as lts
+
+returns : tie.Need-returns
+returns c = rw (ne-eqb (c .before .args .journal) 30 (c .if1 .taken))
+
+returns-2 : tie.Need-returns-2
+returns-2 c = rw (eq-eqb (c .before .args .journal) 30 (c .if1 .left))
+
+pub sized-spec : {M : Type 1} → statement M
+sized-spec = tie.close (tie.spec returns returns-2)

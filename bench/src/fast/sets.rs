@@ -148,13 +148,20 @@ fn step_in<const W: usize>(
         let mask = sheet.earlier;
         // The groups of which anything was heard.
         let mut groups = [0; W];
-        for a in 0..size {
+        let mut a = 0;
+        while a < size {
+            // Four empty rows are passed over at once.
+            if a % 4 == 0 && reached[4 * a..4 * a + 16].iter().fold(0, |any, word| any | word) == 0 {
+                a += 4;
+                continue;
+            }
             let found = and(row::<W>(reached, a), heard);
             if found != [0; W] {
                 let group = a & mask;
                 join_row(scratch, group, found);
                 groups[group / 64] |= 1 << (group % 64);
             }
+            a += 1;
         }
         clear_rows(reached, size);
         each_lane(groups, |group| {

@@ -3,17 +3,17 @@ use mathlib.Core.Path.{_≡_, refl, sym, ap, ap₂, _∙_, subst}
 use mathlib.Core.Bool.{Bool, true, false, not, _&&_, _||_}
 use mathlib.Core.List.{List}
 use mathlib.Core.Option.{Option, none, some}
-use Prim.Native.Nat.{ℕ, _+_, _-_, _*_, _/_, _%_, _^_, _≤_, _<_}
+use Prim.Native.Nat.{ℕ, _+_, _-_, _*_, _/_, _%_, _^_, _≤_, _<_, min}
 use native.Mathlib.Omega.{arith}
 use native.Mathlib.Decide.{ℕ-discrete, decLt}
 use borrow.Author.Tests.{eq-eqb, ne-eqb, lt-ltb, le-ltb}
-use lib.Bits.{bitAnd, bitOr}
+use lib.Bits.{bitAnd, bitOr, or-add-and, and-le-l, and-le-r}
 use lib.Dec.{eqb, ltb}
 use lib.ListN.{getD}
 use Rattle.words.specs.Bits.{bit}
 use Rattle.words.specs.Below.{anyBelow}
 use Rattle.words.proofs.BitLaws.{bit-and, bit-or, bit-not, bit-none}
-use Rattle.words.proofs.AnyLaws.{any-one, any-none}
+use Rattle.words.proofs.AnyLaws.{any-one, any-add, any-none, none-any}
 use Rattle.sheet.specs.RuleSheet.{RuleSheet}
 use Rattle.lola.specs.Equations.{holds}
 use Rattle.completions.specs.Live.{Pairs}
@@ -22,7 +22,7 @@ use Rattle.pairs.specs.Storage.{stored}
 use Rattle.pairs.specs.Changes.{inWord, Adds}
 use Rattle.pairs.proofs.Bools.{and-true, and-false, or-false, or-comm, nothing-new}
 use Rattle.pairs.proofs.Sets.{adds-none, adds-as, adds-then, adds-before, lane}
-use Rattle.rounds.specs.Rows.{among, Wide, cut, gains, NoneNew, heardIn, grouped}
+use Rattle.rounds.specs.Rows.{among, Wide, cut, gains, NoneNew, heardIn, grouped, Quiet}
 use Rattle.rounds.proofs.Bools.{turn, merge-under, words-one}
 
 -- ---- the lanes of a row, its words joined
@@ -240,11 +240,11 @@ module _ (s : List ℕ) (letters a g : ℕ) (ha : a < 256) where
 
 -- ---- all rows
 
-pub grouped-none : (s : List ℕ) (S : Pairs) (r : ℕ → Bool) (mask w : ℕ) → Adds 2056 s s (grouped S r mask w 0)
+grouped-none : (s : List ℕ) (S : Pairs) (r : ℕ → Bool) (mask w : ℕ) → Adds 2056 s s (grouped S r mask w 0)
 unfolding grouped anyBelow
 grouped-none s S r mask w = adds-none 2056 s (grouped S r mask w 0) (λ k c. refl)
 
-pub grouped-more : (s t u : List ℕ) (letters mask w a : ℕ) → a < 256 → Adds 2056 s t (grouped (stored s 1028) (among letters) mask w a) → Adds 2056 t u (Joined t letters a (bitAnd a mask) w)
+grouped-more : (s t u : List ℕ) (letters mask w a : ℕ) → a < 256 → Adds 2056 s t (grouped (stored s 1028) (among letters) mask w a) → Adds 2056 t u (Joined t letters a (bitAnd a mask) w)
     → Adds 2056 s u (grouped (stored s 1028) (among letters) mask w (a + 1))
 unfolding grouped
 grouped-more s t u letters mask w a ha f q =
@@ -262,5 +262,71 @@ grouped-more s t u letters mask w a ha f q =
     go k (some c) hc =
         ap (λ (v : Bool). eqb k (bitAnd a mask) && (ltb c w && (v && among letters c))) (adds-before 2056 s t (grouped (stored s 1028) r mask w a) f 1028 a (some c) ha hc (omega arith))
 
-pub grouped-all : (s t : List ℕ) (S : Pairs) (r : ℕ → Bool) (mask w a v : ℕ) → a ≤ v → v ≤ a → Adds 2056 s t (grouped S r mask w a) → Adds 2056 s t (grouped S r mask w v)
-grouped-all s t S r mask w a v h l f = let e : a ≡ v = omega arith in subst (λ (k : ℕ). Adds 2056 s t (grouped S r mask w k)) e f
+-- rows that have nothing bring nothing to a group
+grouped-quiet : (s t : List ℕ) (S : Pairs) (r : ℕ → Bool) (mask w a b : ℕ) → a ≤ b → Quiet S a b → Adds 2056 s t (grouped S r mask w a) → Adds 2056 s t (grouped S r mask w b)
+unfolding grouped
+grouped-quiet s t S r mask w a b h q f =
+    adds-as 2056 s t (grouped S r mask w a) (grouped S r mask w b) f (λ x y hx hy. ap (λ (u : Bool). stored s 2056 x y || u) (sym (same x y hy)))
+  where
+    row : (x i : ℕ) (y : Option ℕ) → Within 256 y → a ≤ i → i < b → (eqb x (bitAnd i mask) && heardIn S r w i y) ≡ false
+    row x i none hy l k = and-false (eqb x (bitAnd i mask))
+    row x i (some y) hy l k =
+        ap (λ (u : Bool). eqb x (bitAnd i mask) && (ltb y w && (u && r y))) (q i y l k hy) ∙ ap (λ (u : Bool). eqb x (bitAnd i mask) && u) (and-false (ltb y w)) ∙ and-false (eqb x (bitAnd i mask))
+
+    same : (x : ℕ) (y : Option ℕ) → Within 256 y → grouped S r mask w b x y ≡ grouped S r mask w a x y
+    same x y hy =
+        let e : b ≡ a + (b - a) = omega arith in
+        ap (λ (k : ℕ). anyBelow k (λ i. eqb x (bitAnd i mask) && heardIn S r w i y)) e
+        ∙ any-add a (b - a) (λ i. eqb x (bitAnd i mask) && heardIn S r w i y)
+        ∙ ap (λ (u : Bool). u || anyBelow a (λ i. eqb x (bitAnd i mask) && heardIn S r w i y))
+        (none-any (b - a) (λ i. eqb x (bitAnd (a + i) mask) && heardIn S r w (a + i) y) (λ i k. row x (a + i) y hy (omega arith) (omega arith)))
+
+-- the rows below v of a search that takes one row or passes over four
+module _ (s : List ℕ) (letters mask w v : ℕ) (hv : v ≤ 256) where
+  abbrev pub Upto : ℕ → Pairs
+  Upto a = grouped (stored s 1028) (among letters) mask w (min a v)
+
+  pub upto-none : Adds 2056 s s (Upto 0)
+  upto-none = let e : 0 ≡ min 0 v = omega arith in subst (λ (k : ℕ). Adds 2056 s s (grouped (stored s 1028) (among letters) mask w k)) e (grouped-none s (stored s 1028) (among letters) mask w)
+
+  pub upto-row : (t u : List ℕ) (a : ℕ) → a < v → Adds 2056 s t (Upto a) → Adds 2056 t u (Joined t letters a (bitAnd a mask) w) → Adds 2056 s u (Upto (a + 1))
+  upto-row t u a h f q =
+      let e : min a v ≡ a = omega arith in
+      let d : a + 1 ≡ min (a + 1) v = omega arith in
+      subst (λ (k : ℕ). Adds 2056 s u (grouped (stored s 1028) (among letters) mask w k)) d
+      (grouped-more s t u letters mask w a (omega arith) (subst (λ (k : ℕ). Adds 2056 s t (grouped (stored s 1028) (among letters) mask w k)) e f) q)
+
+  pub upto-quiet : (t : List ℕ) (a : ℕ) → a < v → Adds 2056 s t (Upto a) → Quiet (stored t 1028) a (a + 4) → Adds 2056 s t (Upto (a + 4))
+  upto-quiet t a h f q =
+      grouped-quiet s t (stored s 1028) (among letters) mask w (min a v) (min (a + 4) v) (omega arith)
+      (λ x y l k hy. sym (adds-before 2056 s t (Upto a) f 1028 x (some y) (omega arith) hy (omega arith)) ∙ q x y (omega arith) (omega arith) hy) f
+
+  pub upto-all : (t : List ℕ) (a : ℕ) → v ≤ a → Adds 2056 s t (Upto a) → Adds 2056 s t (grouped (stored s 1028) (among letters) mask w v)
+  upto-all t a h f = let e : min a v ≡ v = omega arith in subst (λ (k : ℕ). Adds 2056 s t (grouped (stored s 1028) (among letters) mask w k)) e f
+
+-- if k words from `at` on, joined as any, have no lane, they are 0
+pub record Joining (s : List ℕ) (at any k : ℕ) : Type 0 where
+  pub zeros : any ≡ 0 → (j : ℕ) → j < k → getD s (at + j) 0 ≡ 0
+
+pub joining-none : (s : List ℕ) (at : ℕ) → Joining s at 0 0
+joining-none s at = record { zeros = λ e j h. absurd (omega arith) }
+
+pub joining-more : (s : List ℕ) (at any k : ℕ) → Joining s at any k → Joining s at (bitOr any (getD s (at + k) 0)) (k + 1)
+joining-more s at any k f = record { zeros = λ e j h. go e j h (ℕ-discrete j k) }
+  where
+    x : ℕ
+    x = getD s (at + k) 0
+
+    go : bitOr any x ≡ 0 → (j : ℕ) → j < k + 1 → Dec (j ≡ k) → getD s (at + j) 0 ≡ 0
+    go e j h (yes d) = ap (λ (i : ℕ). getD s (at + i) 0) d ∙ (let z : x ≡ 0 = omega (arith, or-add-and any x, and-le-l any x, and-le-r any x) in z)
+    go e j h (no d) = f .zeros (omega (arith, or-add-and any x, and-le-l any x, and-le-r any x)) j (omega arith)
+
+pub joining-quiet : (s : List ℕ) (a any k : ℕ) → 16 ≤ k → any ≡ 0 → Joining s (1028 + 4 * a) any k → Quiet (stored s 1028) a (a + 4)
+joining-quiet s a any k m e f x y l h hy =
+    let j : ℕ = 4 * (x - a) + y / 64 in
+    let p : 1028 + (4 * x + y / 64) ≡ 1028 + 4 * a + j = omega arith in
+    let d : 64 * (y / 64) + y % 64 ≡ y = omega arith in
+    ap (λ (z : ℕ). stored s 1028 x (some z)) (sym d)
+    ∙ sym (lane s 1028 x (y / 64) (y % 64) (omega arith))
+    ∙ ap (bit (y % 64)) (ap (λ (i : ℕ). getD s i 0) p ∙ f .zeros e j (omega arith))
+    ∙ bit-none (y % 64)

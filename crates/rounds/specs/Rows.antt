@@ -77,3 +77,7 @@ grouped S r mask w k g c = anyBelow k (λ a. eqb g (bitAnd a mask) && heardIn S 
 -- of the rows below w, those that are not in the row of words have no valuation
 abbrev pub Sparse : ℕ → List ℕ → Pairs → Type 0
 Sparse w groups G = (g : ℕ) → g < w → rowBit groups 0 g ≡ false → (b : ℕ) → b < 256 → G g (some b) ≡ false
+
+-- the rows from a on, those below b, have no valuation
+abbrev pub Quiet : Pairs → ℕ → ℕ → Type 0
+Quiet S a b = (x y : ℕ) → a ≤ x → x < b → y < 256 → S x (some y) ≡ false

@@ -13,7 +13,7 @@ ghost use Rattle.pairs.specs.Storage.{stored};
 ghost use Rattle.pairs.specs.Changes.{Adds, eqNext};
 ghost use Rattle.lanes.specs.Around.{room, Before, Seen};
 ghost use Rattle.lanes.specs.Coded.{Coded, sheetOf};
-ghost use Rattle.rounds.specs.Rows.{among, Wide, Earlier, below, cut, gains, NoneNew, NoEndNew, inRow, heardFirst, brought, heardIn, grouped, Sparse};
+ghost use Rattle.rounds.specs.Rows.{among, Wide, Earlier, below, cut, gains, NoneNew, NoEndNew, inRow, heardFirst, brought, heardIn, grouped, Sparse, Quiet};
 ghost use Rattle.rounds.specs.Round.{Rounded};
 
 // ---- Valuations
@@ -236,6 +236,25 @@ fn group_row(s: &mut [u64], groups: &mut [u64], w: usize, letters: u64, a: usize
     pairs::note(groups, g);
 }
 
+// Whether the four rows from a on of the reached set have nothing: rows that don't begin a block of four are not looked at. Most rows are empty
+// where little is unknown, and four at once are quickly passed over.
+fn is_quiet(s: &[u64], a: usize) -> bool
+    requires { ⌜ (a < 256) × (3084 ≤ length (now s)) ⌝ }
+    ensures { λ r. ⌜ (r ≡ true → Quiet (stored (now (s .entry)) 1028) a (a + 4)) ⌝ }
+{
+    if a % 4 != 0 {
+        return false;
+    }
+    let at = 1028 + 4 * a;
+    let mut any: u64 = 0;
+    let mut k: usize = 0;
+    while k < 16 {
+        any = any | s[at + k];
+        k += 1;
+    }
+    any == 0
+}
+
 // Each row below v of the reached set joins the row of its group: rows that agree in the streams of the mask.
 fn group_rows(s: &mut [u64], groups: &mut [u64], v: usize, w: usize, letters: u64, mask: usize)
     requires { ⌜ (v ≤ 256) × (1 ≤ w) × (w ≤ 4) × (w ≡ 3 → ⊥) × (length (now groups) ≡ 4) × (3084 ≤ length (now s)) ⌝ }
@@ -244,6 +263,10 @@ fn group_rows(s: &mut [u64], groups: &mut [u64], v: usize, w: usize, letters: u6
 {
     let mut a: usize = 0;
     while a < v {
+        if is_quiet(s, a) {
+            a += 4;
+            continue;
+        }
         group_row(s, groups, w, letters, a, a & mask);
         a += 1;
     }

@@ -4,7 +4,6 @@ use mathlib.Core.Bool.{true, false}
 use Prim.Native.Nat.{ℕ, _<_, _≤_}
 use Rattle.letters.specs.Masks.{badMasks}
 use Rattle.record.specs.Record.{recordOk}
-use Rattle.record.specs.declared.JournalRecord.{JournalRecord}
 use Rattle.checks.specs.Checks.{Given}
 
 -- no check of a round is broken

@@ -1,29 +1,23 @@
 -- An entry's checks: the sheet's own, then the call's.
-use mathlib.Core.Bool.{Bool}
 use mathlib.Core.Path.{_≡_, refl, sym, _∙_, subst}
 use mathlib.Core.List.{List, map}
-use Prim.Native.Nat.{ℕ, zero, suc}
-use native.Mathlib.Omega.{arith}
+use Prim.Native.Nat.{ℕ}
 use Rattle.refusal.specs.declared.Refusal.{Refusal}
 use Rattle.refusal.specs.declared.Outcome.{Outcome}
 use Rattle.refusal.specs.declared.Outcome.the-variants.{Accepted, Refused}
 use Rattle.refusal.specs.Decided.{Decided}
 use Rattle.refusal.proofs.Decisions.{decided-map, decided-refused, decided-accepted}
-use Rattle.sheet.specs.RuleSheet.{RuleSheet, outputs}
 use Rattle.sheet.specs.Checks.{inputsOf, outputsOf}
 use Rattle.sheet.specs.Reading.{ruleSheet}
 use Rattle.sheet.specs.declared.Sheet.{Sheet}
 use Rattle.sheet.proofs.Formed.{counts-of}
 use Rattle.circular.specs.Checks.{AcceptedSheet}
 use Rattle.circular.specs.Checks as sheets
-use Rattle.completions.specs.Live.{Pairs}
-use Rattle.completions.specs.Steps.{startSet, stepSet}
 use Rattle.checks.specs.Checks.{CallCheck, callRule, Given, CallBroken, sheet, call, rule, Broken, entryChecks}
 use Rattle.record.specs.declared.JournalRecord.{JournalRecord}
 use Rattle.accepted.specs.declared.PrepareAnswer.{PrepareAnswer}
 use Rattle.accepted.specs.declared.RoundAnswer.{RoundAnswer}
 use Rattle.accepted.specs.declared.ClosingAnswer.{ClosingAnswer}
-use Rattle.accepted.specs.Results.{width, nextSet}
 use Rattle.monitor.specs.Entries.{AfterForm, PrepareResult, RoundResult, ClosingResult}
 use Rattle.accepted.proofs.Rounding.{sheet-outputs}
 

@@ -19,7 +19,8 @@ use Rattle.pairs.specs.Storage.{stored}
 use Rattle.pairs.specs.Changes.{eqNext, Adds, rowBit, NextBit, RowTaken, Noted}
 use Rattle.pairs.proofs.Bools.{and-true, and-false, or-false, or-assoc}
 use Rattle.pairs.proofs.Sets.{stored-eq, adds-before, adds-beyond}
-use Rattle.preparation.specs.Search.{meets, joining, joinersAt, joiners, newcomers, enders, Joins, Row, Occupied, Apart, Swept}
+use Rattle.unions.specs.Rows.{meets, Row}
+use Rattle.preparation.specs.Search.{joining, joinersAt, joiners, newcomers, enders, Joins, Occupied, Apart, Swept}
 use Rattle.preparation.proofs.Layers.{joining-same, wider}
 
 -- ---- numbers below a bound

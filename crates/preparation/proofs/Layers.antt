@@ -20,7 +20,8 @@ use Rattle.completions.proofs.Backward.{endSet, backSet, liveWithin, layer, Liv
 use Rattle.words.proofs.AnyLaws.{any-cong}
 use Rattle.pairs.proofs.Bools.{and-true, and-false, or-false}
 use Rattle.preparation.specs.Prepared.{Reach}
-use Rattle.preparation.specs.Search.{meets, joining, joiners}
+use Rattle.unions.specs.Rows.{meets}
+use Rattle.preparation.specs.Search.{joining, joiners}
 
 pub of-true : (u : Bool) → u ≡ true → T u
 of-true true e = tt

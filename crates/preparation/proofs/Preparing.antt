@@ -14,8 +14,9 @@ use Rattle.completions.proofs.Backward.{bound-256}
 use Rattle.pairs.specs.Storage.{stored}
 use Rattle.pairs.specs.Changes.{NextBit}
 use Rattle.preparation.specs.Prepared.{Prepared, Reach}
-use Rattle.preparation.specs.Search.{Row, Occupied, Apart, Started, Swept}
-use Rattle.preparation.proofs.Rows.{two-to, streams-low, some-allowed}
+use Rattle.unions.specs.Rows.{Row}
+use Rattle.preparation.specs.Search.{Occupied, Apart, Started, Swept}
+use Rattle.unions.proofs.Rows.{two-to, streams-low, some-allowed}
 use Rattle.preparation.proofs.Searching.{Searching, search-start, search-more, some-layer, search-end}
 
 module _ (m n : ℕ) (code len : List ℕ) (few : m + n ≤ 8) where

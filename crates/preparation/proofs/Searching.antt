@@ -22,10 +22,11 @@ use Rattle.words.proofs.BitLaws.{bit-none}
 use Rattle.pairs.proofs.Bools.{and-false}
 use Rattle.pairs.proofs.Sets.{stored-eq, cleared-none, cleared-before, set-ext}
 use Rattle.preparation.specs.Prepared.{Prepared, Reach}
-use Rattle.preparation.specs.Search.{joiners, enders, Joins, Row, Occupied, Apart, Started, Swept}
+use Rattle.unions.specs.Rows.{Row}
+use Rattle.preparation.specs.Search.{joiners, enders, Joins, Occupied, Apart, Started, Swept}
 use Rattle.preparation.proofs.Layers.{of-true, fresh, joining-same, within-next, fresh-next, all-found, reach-is}
 use Rattle.preparation.proofs.Joining.{beyond-none}
-use Rattle.preparation.proofs.Uniting.{empty-row}
+use Rattle.unions.proofs.Uniting.{empty-row}
 
 contrary : {A : Type 0} {u : Bool} → u ≡ true → u ≡ false → A
 contrary e f = let z : _≡_ {A = ℕ} 0 1 = cc in absurd (omega arith)

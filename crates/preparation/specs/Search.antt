@@ -8,15 +8,11 @@ use Prim.Native.Nat.{ℕ, _+_, _*_, _≤_, _<_}
 use lib.Dec.{eqb, ltb}
 use lib.ListN.{length, getD}
 use Rattle.sheet.specs.RuleSheet.{RuleSheet}
-use Rattle.lola.specs.Equations.{holds}
 use Rattle.completions.specs.Live.{Pairs, allowed}
-use Rattle.completions.specs.Steps.{Within, anyNext}
+use Rattle.completions.specs.Steps.{Within}
 use Rattle.pairs.specs.Storage.{stored}
 use Rattle.pairs.specs.Changes.{rowBit}
-
--- some pair (b, c) of F, with c below n or the end mark, lets a stand before b
-unfoldable pub meets : RuleSheet → ℕ → Pairs → ℕ → ℕ → Bool
-meets x n F a b = anyNext n (λ c. F b c && holds x (some a) b c)
+use Rattle.unions.specs.Rows.{meets}
 
 -- a is allowed, (a, b) is not in L, and the layer F lets a stand before b
 unfoldable pub joining : RuleSheet → ℕ → Pairs → Pairs → ℕ → ℕ → Bool
@@ -49,15 +45,6 @@ pub record Joins (base : ℕ) (s t : List ℕ) (P : Pairs) : Type 0 where
   pub beyond : (k : ℕ) → base + 1028 ≤ k → getD t k 0 ≡ getD s k 0
   pub live : (x : ℕ) (y : Option ℕ) → x < 256 → Within 256 y → stored t 0 x y ≡ (stored s 0 x y || P x y)
   pub next : (x : ℕ) (y : Option ℕ) → x < 256 → Within 256 y → stored t base x y ≡ (stored s base x y || P x y)
-
--- w words hold f
-abbrev pub Row : ℕ → List ℕ → (ℕ → Bool) → Type 0
-Row w row f = (a : ℕ) → a < 64 * w → rowBit row 0 a ≡ f a
-
--- w words have gained f
-pub record United (w : ℕ) (s t : List ℕ) (f : ℕ → Bool) : Type 0 where
-  pub same-length : length t ≡ length s
-  pub gains : (a : ℕ) → a < 64 * w → rowBit t 0 a ≡ (rowBit s 0 a || f a)
 
 -- the rows of the set at `base` that have a pair are below 64 w, and they are the bits of the w words
 pub record Occupied (w : ℕ) (rows s : List ℕ) (base : ℕ) : Type 0 where

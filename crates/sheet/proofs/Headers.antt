@@ -41,17 +41,17 @@ assumes a n x h = go (eqb a 255) (ltb a n) refl h
     go false true e k = let z : Output (record { 0 = a }) ≡ x = cc in subst (λ (y : Assumed). Below y n) z (ltb-true a n e)
     go false false e k = absurd (let y : _≡_ {A = ℕ} 0 1 = cc in omega arith)
 
-abbrev Told : List ℕ → ℕ → ℕ → Assumed → Type 0
-Told bs m n x = (8 ≤ length bs) × Ranges m n × Below x n
+abbrev FieldsFit : List ℕ → ℕ → ℕ → Assumed → Type 0
+FieldsFit bs m n x = (8 ≤ length bs) × Ranges m n × Below x n
 
-pub fields : (bs : List ℕ) (m n : ℕ) (x : Assumed) → headerOf bs ≡ Fields m n x → Told bs m n x
+pub fields : (bs : List ℕ) (m n : ℕ) (x : Assumed) → headerOf bs ≡ Fields m n x → FieldsFit bs m n x
 unfolding headerOf
 fields bs m n x h =
     go (ltb (length bs) 8) (markOk bs) (eqb (versionOf bs) 1) (countsOk (getD bs 5 0) (getD bs 6 0)) (assumedAt (getD bs 7 0) (getD bs 6 0)) refl refl refl h
   where
     go : (t u v w : Bool) (y : AssumedRead) → ltb (length bs) 8 ≡ t → countsOk (getD bs 5 0) (getD bs 6 0) ≡ w → assumedAt (getD bs 7 0) (getD bs 6 0) ≡ y
         → cond t (Refused Short) (cond u (cond v (cond w (fieldsOf (getD bs 5 0) (getD bs 6 0) y) (Refused Counts)) (Refused Version)) (Refused Mark)) ≡ Fields m n x
-        → Told bs m n x
+        → FieldsFit bs m n x
     go true u v w y e f g k = absurd (let z : _≡_ {A = ℕ} 0 1 = cc in omega arith)
     go false false v w y e f g k = absurd (let z : _≡_ {A = ℕ} 0 1 = cc in omega arith)
     go false true false w y e f g k = absurd (let z : _≡_ {A = ℕ} 0 1 = cc in omega arith)

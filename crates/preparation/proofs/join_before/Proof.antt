@@ -1,6 +1,6 @@
-use Rattle.preparation.proofs.Rows.{streams-low}
+use Rattle.unions.proofs.Rows.{streams-low}
 use Rattle.preparation.proofs.Joining.{column-joins}
-use Rattle.preparation.proofs.Uniting.{row-from, empty-row}
+use Rattle.unions.proofs.Uniting.{row-from, empty-row}
 use borrow.Author.Needs.{needs}
 use Rattle.preparation.proofs.join_before.Statement.{statement}
 use Rattle.preparation.proofs.join_before.Tie as tie

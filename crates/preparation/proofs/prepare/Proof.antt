@@ -7,8 +7,9 @@ use lib.ListN.{length, getD}
 use Rattle.sheet.specs.RuleSheet.{requiredOf}
 use Rattle.lanes.specs.Coded.{sheetOf}
 use Rattle.completions.specs.Live.{allowed}
-use Rattle.preparation.specs.Search.{Row, Occupied, Apart}
-use Rattle.preparation.proofs.Rows.{two-to}
+use Rattle.unions.specs.Rows.{Row}
+use Rattle.preparation.specs.Search.{Occupied, Apart}
+use Rattle.unions.proofs.Rows.{two-to}
 use Rattle.preparation.proofs.Searching.{Searching, rows-started, rows-none, apart-turned}
 use Rattle.preparation.proofs.Preparing.{search-bound, search-begin, search-step, layers-some, search-finish}
 use borrow.Author.Needs.{needs}
@@ -23,6 +24,8 @@ Inv-loop s₀ code len m n v w st₀ ok occupied₀ layer₀ next₀ layers₀ s
 
 abbrev μ-loop : tie.MeasureT-loop
 μ-loop s₀ code len m n v w st₀ ok occupied₀ layer₀ next₀ layers₀ s st occupied layer next layers = 65793 - layers
+
+-- In each answer behind the loop, h is the state at its head and e the state at entry.
 
 add-v : tie.Need-add-v Inv-loop μ-loop
 add-v c = omega (arith, c .before .before .before .pre .0 .ranges .streams)
@@ -91,24 +94,28 @@ slice-aggregate-sweep-4 c = search needs
 
 sweep-requires : tie.Need-sweep-requires Inv-loop μ-loop
 sweep-requires c κs =
-    let i = c .before .before .before .before .before .before .before .before .loop .inv in
-    (c .before .before .before .before .before .before .before .before .before .before .before .before .before .before .before .before .before .before .before .before .pre .0, ((i .2, omega arith, i .4, i .3, search needs, omega arith, i .6), ((i .8 .0, i .8 .1, i .8 .2, i .8 .3, i .9), i .11)))
+    let h = c .before .before .before .before .before .before .before .before in
+    let i = h .loop .inv in
+    (h .before .before .before .before .before .before .before .before .before .before .before .before .pre .0, ((i .2, omega arith, i .4, i .3, search needs, omega arith, i .6), ((i .8 .0, i .8 .1, i .8 .2, i .8 .3, i .9), i .11)))
 
 add-layers : tie.Need-add-layers Inv-loop μ-loop
 add-layers c =
-    let a = c .before .before .before .before .before .before .before .before .before .before .before .before .before .before .before .before .before .before .before .before .before .before .before .before .before .args in
-    omega (arith, search-bound _ _ _ _ (c .before .before .before .before .before .before .before .before .before .before .before .before .before .before .before .before .before .before .before .before .before .before .before .before .before .pre .0 .ranges .streams) _ _ _ _ _ _ (c .before .before .before .before .before .before .before .before .before .before .before .before .before .loop .inv .12 (requiredOf (a .assumed)) (c .before .before .before .before .before .before .before .before .before .before .before .before .before .before .before .before .before .before .before .before .fill-allowed .ensures _ _)))
+    let h = c .before .before .before .before .before .before .before .before .before .before .before .before .before in
+    let e = h .before .before .before .before .before .before .before .before .before .before .before .before in
+    omega (arith, search-bound _ _ _ _ (e .pre .0 .ranges .streams) _ _ _ _ _ _ (h .loop .inv .12 (requiredOf (e .args .assumed)) (h .before .before .before .before .before .before .before .fill-allowed .ensures _ _)))
 
 loop-less : tie.Need-loop-less Inv-loop μ-loop
 loop-less c =
-    let a = c .before .before .before .before .before .before .before .before .before .before .before .before .before .before .before .before .before .before .before .before .before .before .before .before .before .args in
-    omega (arith, search-bound _ _ _ _ (c .before .before .before .before .before .before .before .before .before .before .before .before .before .before .before .before .before .before .before .before .before .before .before .before .before .pre .0 .ranges .streams) _ _ _ _ _ _ (c .before .before .before .before .before .before .before .before .before .before .before .before .before .loop .inv .12 (requiredOf (a .assumed)) (c .before .before .before .before .before .before .before .before .before .before .before .before .before .before .before .before .before .before .before .before .fill-allowed .ensures _ _)))
+    let h = c .before .before .before .before .before .before .before .before .before .before .before .before .before in
+    let e = h .before .before .before .before .before .before .before .before .before .before .before .before in
+    omega (arith, search-bound _ _ _ _ (e .pre .0 .ranges .streams) _ _ _ _ _ _ (h .loop .inv .12 (requiredOf (e .args .assumed)) (h .before .before .before .before .before .before .before .fill-allowed .ensures _ _)))
 
 loop-again : tie.Need-loop-again Inv-loop μ-loop
 loop-again c =
-    let a = c .before .before .before .before .before .before .before .before .before .before .before .before .before .before .before .before .before .before .before .before .before .before .before .before .before .args in
-    let i = c .before .before .before .before .before .before .before .before .before .before .before .before .before .loop .inv in
-    let q = i .12 (requiredOf (a .assumed)) (c .before .before .before .before .before .before .before .before .before .before .before .before .before .before .before .before .before .before .before .before .fill-allowed .ensures _ _) in
+    let h = c .before .before .before .before .before .before .before .before .before .before .before .before .before in
+    let e = h .before .before .before .before .before .before .before .before .before .before .before .before in
+    let i = h .loop .inv in
+    let q = i .12 (requiredOf (e .args .assumed)) (h .before .before .before .before .before .before .before .fill-allowed .ensures _ _) in
     let w = c .before .before .before .before .sweep .ensures in (
       i .0,
       i .1,
@@ -123,7 +130,7 @@ loop-again c =
       λ k. c .before .before .slice-known3 .given k .fits,
       w .1 (rows-none _ _ _ (q .free)),
       λ ks r.
-          search-step _ _ _ _ (c .before .before .before .before .before .before .before .before .before .before .before .before .before .before .before .before .before .before .before .before .before .before .before .before .before .pre .0 .ranges .streams) _ _ (i .0) (i .1) (i .2) ks _ _ _ _ _ _ _ _ (i .12 ks r) (i .11) (c .before .before .before .before .before .before .before .before .before .before .before .next-bit .ensures) (c .before .before .before .before .before .before .before .before .before .before .if1 .taken) (w .0 ks r),
+          search-step _ _ _ _ (e .pre .0 .ranges .streams) _ _ (i .0) (i .1) (i .2) ks _ _ _ _ _ _ _ _ (i .12 ks r) (i .11) (c .before .before .before .before .before .before .before .before .before .before .before .next-bit .ensures) (c .before .before .before .before .before .before .before .before .before .before .if1 .taken) (w .0 ks r),
     )
 
 count-requires : tie.Need-count-requires Inv-loop μ-loop
@@ -131,21 +138,23 @@ count-requires c κs = let i = c .before .before .before .before .loop .inv in i
 
 sub-t18 : tie.Need-sub-t18 Inv-loop μ-loop
 sub-t18 c =
-    let a = c .before .before .before .before .before .before .before .before .before .before .before .before .before .before .before .before .before .args in
-    let i = c .before .before .before .before .before .loop .inv in
-    layers-some _ _ _ _ (c .before .before .before .before .before .before .before .before .before .before .before .before .before .before .before .before .before .pre .0 .ranges .streams) (a .assumed) (c .before .before .before .before .before .before .before .before .before .before .before .before .before .before .before .before .before .pre .1 .0) _ _ _ _ _ _ _ _ (i .12 (requiredOf (a .assumed)) (c .before .before .before .before .before .before .before .before .before .before .before .before .fill-allowed .ensures _ _)) (i .11) (c .before .before .before .next-bit .ensures) (c .before .before .if1 .left)
+    let h = c .before .before .before .before .before in
+    let e = h .before .before .before .before .before .before .before .before .before .before .before .before in
+    let i = h .loop .inv in
+    layers-some _ _ _ _ (e .pre .0 .ranges .streams) (e .args .assumed) (e .pre .1 .0) _ _ _ _ _ _ _ _ (i .12 (requiredOf (e .args .assumed)) (h .before .before .before .before .before .before .before .fill-allowed .ensures _ _)) (i .11) (c .before .before .before .next-bit .ensures) (c .before .before .if1 .left)
 
 same-length : tie.Need-same-length Inv-loop μ-loop
 same-length c = search needs
 
 returns : tie.Need-returns Inv-loop μ-loop
 returns c =
-    let a = c .before .before .before .before .before .before .before .before .before .before .before .before .before .before .before .before .before .args in
-    let i = c .before .before .before .before .before .loop .inv in
+    let h = c .before .before .before .before .before in
+    let e = h .before .before .before .before .before .before .before .before .before .before .before .before in
+    let i = h .loop .inv in
     let n = c .count .ensures in
     let f =
-    search-finish _ _ _ _ (c .before .before .before .before .before .before .before .before .before .before .before .before .before .before .before .before .before .pre .0 .ranges .streams) (a .assumed) (c .before .before .before .before .before .before .before .before .before .before .before .before .before .before .before .before .before .pre .1 .0) _ _ _ _ _ _ _ _ (i .12 (requiredOf (a .assumed)) (c .before .before .before .before .before .before .before .before .before .before .before .before .fill-allowed .ensures _ _)) (i .11)
-    (c .before .before .before .next-bit .ensures) (c .before .before .if1 .left) _ _ _ (i .9) (i .8) (i .10) (c .before .before .before .before .before .before .before .before .start .ensures) (n .0) (n .1) in
+    search-finish _ _ _ _ (e .pre .0 .ranges .streams) (e .args .assumed) (e .pre .1 .0) _ _ _ _ _ _ _ _ (i .12 (requiredOf (e .args .assumed)) (h .before .before .before .before .before .before .before .fill-allowed .ensures _ _)) (i .11)
+    (c .before .before .before .next-bit .ensures) (c .before .before .if1 .left) _ _ _ (i .9) (i .8) (i .10) (h .before .before .before .start .ensures) (n .0) (n .1) in
     (f .0, (f .1, f .2))
 
 pub prepare-spec : {M : Type 1} → statement M

@@ -5,7 +5,8 @@ use mathlib.Core.List.{List}
 use lib.ListN.{length}
 use Rattle.lanes.specs.Coded.{sheetOf}
 use Rattle.completions.specs.Live.{allowed}
-use Rattle.preparation.specs.Search.{Row, Occupied, Swept}
+use Rattle.unions.specs.Rows.{Row}
+use Rattle.preparation.specs.Search.{Occupied, Swept}
 use Rattle.preparation.proofs.Joining.{occupied-beside, swept-first, swept-more}
 use borrow.Author.Needs.{needs}
 use Rattle.preparation.proofs.sweep.Statement.{statement}

@@ -1,10 +1,10 @@
 use native.Mathlib.Omega.{arith}
 use Prim.Native.Nat.{ℕ, _-_, _≤_}
 use mathlib.Core.Path.{_≡_}
-use Rattle.preparation.proofs.Rows.{Covering, covering-more, covered}
+use Rattle.unions.proofs.Rows.{Covering, covering-more, covered}
 use borrow.Author.Needs.{needs}
-use Rattle.preparation.proofs.covers.Statement.{statement}
-use Rattle.preparation.proofs.covers.Tie as tie
+use Rattle.unions.proofs.covers.Statement.{statement}
+use Rattle.unions.proofs.covers.Tie as tie
 
 abbrev Inv-loop : tie.InvT-loop
 Inv-loop row ok w j₀ j = (j ≤ w) × Covering row ok j

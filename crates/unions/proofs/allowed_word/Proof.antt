@@ -2,10 +2,10 @@ use native.Mathlib.Omega.{arith}
 use mathlib.Core.Path.{ap₂, _∙_}
 use mathlib.Core.Bool.{_&&_}
 use Rattle.words.proofs.BitLaws.{bit-and}
-use Rattle.preparation.proofs.Rows.{allowed-nothing, allowed-by, below-output}
+use Rattle.unions.proofs.Rows.{allowed-nothing, allowed-by, below-output}
 use borrow.Author.Needs.{needs}
-use Rattle.preparation.proofs.allowed_word.Statement.{statement}
-use Rattle.preparation.proofs.allowed_word.Tie as tie
+use Rattle.unions.proofs.allowed_word.Statement.{statement}
+use Rattle.unions.proofs.allowed_word.Tie as tie
 
 lanes-below-requires : tie.Need-lanes-below-requires
 lanes-below-requires c κs = search needs

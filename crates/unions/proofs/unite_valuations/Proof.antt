@@ -5,10 +5,10 @@ use mathlib.Core.List.{List}
 use lib.ListN.{length}
 use Rattle.lanes.specs.Around.{unless}
 use Rattle.lanes.specs.Coded.{sheetOf}
-use Rattle.preparation.proofs.Uniting.{Uniting, uniting-first, uniting-more, uniting-all}
+use Rattle.unions.proofs.Uniting.{Uniting, uniting-first, uniting-more, uniting-all}
 use borrow.Author.Needs.{needs}
-use Rattle.preparation.proofs.unite_valuations.Statement.{statement}
-use Rattle.preparation.proofs.unite_valuations.Tie as tie
+use Rattle.unions.proofs.unite_valuations.Statement.{statement}
+use Rattle.unions.proofs.unite_valuations.Tie as tie
 
 abbrev Inv-loop : tie.InvT-loop
 Inv-loop row₀ st₀ ok s code len m n w layer b first c₀ row st c =

@@ -7,20 +7,20 @@ use lib.ListN.{length}
 use Rattle.sheet.specs.RuleSheet.{requiredOf}
 use Rattle.lanes.specs.Coded.{sheetOf}
 use Rattle.completions.specs.Live.{allowed}
-use Rattle.preparation.proofs.Rows.{Writing, writing-none, writing-more, written}
+use Rattle.unions.proofs.Rows.{LanesTo, lanes-none, lanes-more, lanes-all}
 use borrow.Author.Needs.{needs}
-use Rattle.preparation.proofs.fill_allowed.Statement.{statement}
-use Rattle.preparation.proofs.fill_allowed.Tie as tie
+use Rattle.unions.proofs.fill_allowed.Statement.{statement}
+use Rattle.unions.proofs.fill_allowed.Tie as tie
 
 abbrev Inv-loop : tie.InvT-loop
 Inv-loop row₀ m n assumed v w j₀ row j =
-    (j ≤ w) × (length row ≡ length row₀) × ((code len : List ℕ) → Writing row₀ row (λ a u. allowed (sheetOf m n code len (requiredOf assumed)) a) j)
+    (j ≤ w) × (length row ≡ length row₀) × ((code len : List ℕ) → LanesTo row₀ row (λ a u. allowed (sheetOf m n code len (requiredOf assumed)) a) j)
 
 abbrev μ-loop : tie.MeasureT-loop
 μ-loop row₀ m n assumed v w j₀ row j = w - j
 
 loop-holds : tie.Need-loop-holds Inv-loop μ-loop
-loop-holds c = (omega arith, refl, λ code len. writing-none _ _)
+loop-holds c = (omega arith, refl, λ code len. lanes-none _ _)
 
 allowed-word-requires : tie.Need-allowed-word-requires Inv-loop μ-loop
 allowed-word-requires c κs = ((c .before .before .before .pre .0 .0, c .before .before .before .pre .0 .1, omega arith, c .before .before .before .pre .0 .2), c .before .before .before .pre .1)
@@ -41,14 +41,14 @@ loop-again : tie.Need-loop-again Inv-loop μ-loop
 loop-again c = (
   omega arith,
   simp length-set (c .before .before .loop .inv .1),
-  λ code len. writing-more _ _ _ _ _ (omega arith) (c .before .before .loop .inv .2 code len) (λ i h. c .allowed-word .ensures code len i h),
+  λ code len. lanes-more _ _ _ _ _ (omega arith) (c .before .before .loop .inv .2 code len) (λ i h. c .allowed-word .ensures code len i h),
 )
 
 same-length : tie.Need-same-length Inv-loop μ-loop
 same-length c = search needs
 
 returns : tie.Need-returns Inv-loop μ-loop
-returns c = λ code len a l. written _ _ _ _ _ a (c .loop-test .left) (c .before .loop .inv .2 code len) l
+returns c = λ code len a l. lanes-all _ _ _ _ _ a (c .loop-test .left) (c .before .loop .inv .2 code len) l
 
 pub fill-allowed-spec : {M : Type 1} → statement M
 fill-allowed-spec =

@@ -19,7 +19,7 @@ use Rattle.pairs.specs.Changes.{rowBit, NextBit}
 use Rattle.pairs.proofs.Bools.{and-false, or-false, or-assoc, or-comm}
 use Rattle.pairs.proofs.BitSearch.{any-skip}
 use Rattle.pairs.proofs.Sets.{row-bit}
-use Rattle.preparation.specs.Search.{meets, Row, United}
+use Rattle.unions.specs.Rows.{meets, Row, United}
 
 -- ---- unions
 

@@ -7,15 +7,15 @@ use lib.ListN.{length, length-set, getD}
 use Rattle.words.specs.Bits.{bit}
 use Rattle.words.proofs.BitLaws.{bit-and, bit-or}
 use Rattle.pairs.specs.Changes.{rowBit}
-use Rattle.preparation.proofs.Rows.{Writing, row-lane, gains-none, gains-more, gains-all}
+use Rattle.unions.proofs.Rows.{LanesTo, row-lane, gains-none, gains-more, gains-all}
 use borrow.Author.Needs.{needs}
-use Rattle.preparation.proofs.gain.Statement.{statement}
-use Rattle.preparation.proofs.gain.Tie as tie
-use Rattle.preparation.proofs.gain.Reads as reads
-use Rattle.preparation.proofs.gain.Lts as lts
+use Rattle.unions.proofs.gain.Statement.{statement}
+use Rattle.unions.proofs.gain.Tie as tie
+use Rattle.unions.proofs.gain.Reads as reads
+use Rattle.unions.proofs.gain.Lts as lts
 
 abbrev Inv-loop : tie.InvT-loop
-Inv-loop row₀ ok x w j₀ row j = (j ≤ w) × (length row ≡ length row₀) × Writing row₀ row (λ a u. u || (rowBit ok 0 a && rowBit x 0 a)) j
+Inv-loop row₀ ok x w j₀ row j = (j ≤ w) × (length row ≡ length row₀) × LanesTo row₀ row (λ a u. u || (rowBit ok 0 a && rowBit x 0 a)) j
 
 abbrev μ-loop : tie.MeasureT-loop
 μ-loop row₀ ok x w j₀ row j = w - j

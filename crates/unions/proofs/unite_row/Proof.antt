@@ -2,10 +2,10 @@ use native.Mathlib.Omega.{arith}
 use mathlib.Core.Path.{sym, _∙_}
 use borrow.Author.Tests.{not-true, not-false}
 use Rattle.lanes.specs.Around.{unless}
-use Rattle.preparation.proofs.Uniting.{united-no-end, united-end}
+use Rattle.unions.proofs.Uniting.{united-no-end, united-end}
 use borrow.Author.Needs.{needs}
-use Rattle.preparation.proofs.unite_row.Statement.{statement}
-use Rattle.preparation.proofs.unite_row.Tie as tie
+use Rattle.unions.proofs.unite_row.Statement.{statement}
+use Rattle.unions.proofs.unite_row.Tie as tie
 
 unite-valuations-requires : tie.Need-unite-valuations-requires
 unite-valuations-requires c κs = search needs

@@ -1,22 +1,22 @@
 use mathlib.Core.Path.{refl, ap}
 use native.Mathlib.Omega.{arith}
 use Rattle.lanes.proofs.RowLaws.{room-most}
-use Rattle.preparation.proofs.Rows.{lanes-row}
+use Rattle.unions.proofs.Rows.{lanes-row}
 use mathlib.Core.Bool.{Bool, _&&_}
 use mathlib.Core.Option.{some}
 use Rattle.pairs.specs.Changes.{rowBit}
 use Rattle.lola.specs.Equations.{holds}
 use Rattle.lanes.specs.Around.{unless}
 use Rattle.lanes.specs.Coded.{sheetOf}
-use Rattle.preparation.proofs.Uniting.{united-old, united-as}
+use Rattle.unions.proofs.Uniting.{united-old, united-as}
 use borrow.Author.Needs.{needs}
-use Rattle.preparation.proofs.unite.Statement.{statement}
-use Rattle.preparation.proofs.unite.Tie as tie
-use Rattle.preparation.proofs.unite.Reads as reads
-use Rattle.preparation.proofs.unite.Lts as lts
+use Rattle.unions.proofs.unite.Statement.{statement}
+use Rattle.unions.proofs.unite.Tie as tie
+use Rattle.unions.proofs.unite.Reads as reads
+use Rattle.unions.proofs.unite.Lts as lts
 use Rattle.lanes.proofs.ahead.Reads as ahead-reads
-use Rattle.preparation.proofs.covers.Reads as covers-reads
-use Rattle.preparation.proofs.gain.Reads as gain-reads
+use Rattle.unions.proofs.covers.Reads as covers-reads
+use Rattle.unions.proofs.gain.Reads as gain-reads
 use Rattle.lanes.proofs.predecessors.Reads as predecessors-reads
 
 covers-requires : tie.Need-covers-requires

@@ -23,7 +23,7 @@ use Rattle.lanes.specs.Coded.{sheetOf}
 use Rattle.completions.specs.Live.{allowed, allTrue}
 use Rattle.pairs.specs.Changes.{rowBit}
 use Rattle.pairs.proofs.Bools.{and-true}
-use Rattle.preparation.specs.Search.{Row, United}
+use Rattle.unions.specs.Rows.{Row, United}
 
 -- the number of valuations, as the code has it
 pub two-to : (k : ℕ) → k ≤ 8 → (1 * 2 ^ k % 2 ^ 64 ≡ 2 ^ k) × (1 ≤ 2 ^ k) × (2 ^ k ≤ 256)
@@ -76,18 +76,18 @@ below-output x k n e h = rw e at h
 
 -- ---- a row written one word after the other: f takes the number of a lane and what was there
 
-pub record Writing (old new : List ℕ) (f : ℕ → Bool → Bool) (j : ℕ) : Type 0 where
+pub record LanesTo (old new : List ℕ) (f : ℕ → Bool → Bool) (j : ℕ) : Type 0 where
   pub same-length : length new ≡ length old
   pub done : (k i : ℕ) → k < j → i < 64 → bit i (getD new k 0) ≡ f (64 * k + i) (bit i (getD old k 0))
   pub kept : (k : ℕ) → j ≤ k → getD new k 0 ≡ getD old k 0
 
 module _ (old : List ℕ) (f : ℕ → Bool → Bool) where
-  pub writing-none : Writing old old f 0
-  writing-none = record { same-length = refl; done = λ k i h l. absurd (omega arith); kept = λ k h. refl }
+  pub lanes-none : LanesTo old old f 0
+  lanes-none = record { same-length = refl; done = λ k i h l. absurd (omega arith); kept = λ k h. refl }
 
-  pub writing-more : (new : List ℕ) (j x : ℕ) → j < length old → Writing old new f j
-      → ((i : ℕ) → i < 64 → bit i x ≡ f (64 * j + i) (bit i (getD new j 0))) → Writing old (set new j x) f (j + 1)
-  writing-more new j x h p e = record {
+  pub lanes-more : (new : List ℕ) (j x : ℕ) → j < length old → LanesTo old new f j
+      → ((i : ℕ) → i < 64 → bit i x ≡ f (64 * j + i) (bit i (getD new j 0))) → LanesTo old (set new j x) f (j + 1)
+  lanes-more new j x h p e = record {
     same-length = length-set new j x ∙ p .same-length;
     done = λ k i g l. go k i g l (ℕ-discrete k j);
     kept = λ k g. getD-set-other new j k x 0 (omega arith) ∙ p .kept k (omega arith);
@@ -99,9 +99,9 @@ module _ (old : List ℕ) (f : ℕ → Bool → Bool) where
           ∙ ap (λ (u : ℕ). f (64 * j + i) (bit i u)) (p .kept j (omega arith)) ∙ ap (λ (u : ℕ). f (64 * u + i) (bit i (getD old u 0))) (sym d)
       go k i g l (no d) = ap (bit i) (getD-set-other new j k x 0 (omega arith)) ∙ p .done k i (omega arith) l
 
-  pub written : (new : List ℕ) (j w a : ℕ) → w ≤ j → Writing old new f j → a < 64 * w → rowBit new 0 a ≡ f a (rowBit old 0 a)
+  pub lanes-all : (new : List ℕ) (j w a : ℕ) → w ≤ j → LanesTo old new f j → a < 64 * w → rowBit new 0 a ≡ f a (rowBit old 0 a)
   unfolding rowBit
-  written new j w a l p h =
+  lanes-all new j w a l p h =
       let e : 0 + a / 64 ≡ a / 64 = omega arith in
       let q : 64 * (a / 64) + a % 64 ≡ a = omega arith in
       ap (λ (k : ℕ). bit (a % 64) (getD new k 0)) e ∙ p .done (a / 64) (a % 64) (omega arith) (omega arith)
@@ -144,17 +144,17 @@ covered row ok j w a l p h e =
 -- ---- a row that gains, word by word, the lanes of another in which h holds
 
 module _ (old ok : List ℕ) (h : ℕ → Bool) where
-  pub gains-none : Writing old old (λ a u. u || (rowBit ok 0 a && h a)) 0
-  gains-none = writing-none old (λ a u. u || (rowBit ok 0 a && h a))
+  pub gains-none : LanesTo old old (λ a u. u || (rowBit ok 0 a && h a)) 0
+  gains-none = lanes-none old (λ a u. u || (rowBit ok 0 a && h a))
 
-  pub gains-more : (new : List ℕ) (j x : ℕ) → j < length old → Writing old new (λ a u. u || (rowBit ok 0 a && h a)) j
-      → ((i : ℕ) → i < 64 → bit i x ≡ (bit i (getD new j 0) || (bit i (getD ok j 0) && h (64 * j + i)))) → Writing old (set new j x) (λ a u. u || (rowBit ok 0 a && h a)) (j + 1)
+  pub gains-more : (new : List ℕ) (j x : ℕ) → j < length old → LanesTo old new (λ a u. u || (rowBit ok 0 a && h a)) j
+      → ((i : ℕ) → i < 64 → bit i x ≡ (bit i (getD new j 0) || (bit i (getD ok j 0) && h (64 * j + i)))) → LanesTo old (set new j x) (λ a u. u || (rowBit ok 0 a && h a)) (j + 1)
   gains-more new j x l p e =
-      writing-more old (λ a u. u || (rowBit ok 0 a && h a)) new j x l p
+      lanes-more old (λ a u. u || (rowBit ok 0 a && h a)) new j x l p
       (λ i g. e i g ∙ ap (λ (u : Bool). bit i (getD new j 0) || (u && h (64 * j + i))) (row-lane ok j i g))
 
-  pub gains-all : (new : List ℕ) (j w : ℕ) → w ≤ j → Writing old new (λ a u. u || (rowBit ok 0 a && h a)) j → United w old new (λ a. rowBit ok 0 a && h a)
-  gains-all new j w l p = record { same-length = p .same-length; gains = λ a g. written old (λ a u. u || (rowBit ok 0 a && h a)) new j w a l p g }
+  pub gains-all : (new : List ℕ) (j w : ℕ) → w ≤ j → LanesTo old new (λ a u. u || (rowBit ok 0 a && h a)) j → United w old new (λ a. rowBit ok 0 a && h a)
+  gains-all new j w l p = record { same-length = p .same-length; gains = λ a g. lanes-all old (λ a u. u || (rowBit ok 0 a && h a)) new j w a l p g }
 
 -- a row lane by lane
 pub lanes-row : (row : List ℕ) (w : ℕ) (f : ℕ → Bool) → ((j i : ℕ) → j < w → i < 64 → bit i (getD row j 0) ≡ f (64 * j + i)) → Row w row f

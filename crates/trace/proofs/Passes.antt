@@ -1,7 +1,7 @@
 -- Passes put together from refreshed places. Assumes nothing.
 use mathlib.Core.Path.{_≡_, refl, sym, ap, _∙_, subst}
 use mathlib.Core.Logic.{_⊎_, inl, inr, ⊎-elim}
-use mathlib.Core.Bool.{Bool, true, false, true≢false}
+use mathlib.Core.Bool.{Bool, false}
 use mathlib.Core.List.{List}
 use Prim.Native.Nat.{ℕ, suc, _+_, _-_, _^_, _≤_, _<_}
 use native.Mathlib.Omega.{arith}
@@ -10,11 +10,12 @@ use lib.ListN.{length, getD}
 use Rattle.words.specs.Bits.{bit}
 use Rattle.circular.specs.Places.{Values, Place, Reads, Solves, RightAt, Right}
 use Rattle.circular.proofs.Sweep.{fresh-right}
-use Rattle.trace.specs.Passes.{valuesOf, Filled, BitPut, Passed}
+use Rattle.trace.specs.Passes.{valuesOf, RoundBytes, BitPut, Passed, Kept}
 
-pub filled-after : {m n N : ℕ} {f : Values → Values} {P : ℕ → ℕ → Type 0} {letters old new : List ℕ} {changed : Bool}
-    → Passed n N f P old new changed → Filled m n letters old → Filled m n letters new
-filled-after p x =
+-- ---- buffers that are kept
+
+pub bytes-kept : {m n : ℕ} {letters old new : List ℕ} → Kept n old new → RoundBytes m n letters old → RoundBytes m n letters new
+bytes-kept p x =
     record {
       streams = x .streams;
       rounds = x .rounds;
@@ -22,6 +23,21 @@ filled-after p x =
       letters-below = x .letters-below;
       bytes-below = p .below (x .bytes-below);
     }
+
+pub kept-none : (n : ℕ) (l : List ℕ) → Kept n l l
+kept-none n l = record { len = refl; below = λ b. b }
+
+pub kept-then : {n : ℕ} {old mid new : List ℕ} → Kept n old mid → Kept n mid new → Kept n old new
+kept-then p q = record { len = q .len ∙ p .len; below = λ b. q .below (p .below b) }
+
+pub kept-of : {n N : ℕ} {f : Values → Values} {P : ℕ → ℕ → Type 0} {old new : List ℕ} {changed : Bool} → Passed n N f P old new changed → Kept n old new
+kept-of p = record { len = p .len; below = p .below }
+
+pub bytes-after : {m n N : ℕ} {f : Values → Values} {P : ℕ → ℕ → Type 0} {letters old new : List ℕ} {changed : Bool}
+    → Passed n N f P old new changed → RoundBytes m n letters old → RoundBytes m n letters new
+bytes-after p = bytes-kept (kept-of p)
+
+-- ---- passes
 
 module _ (n N : ℕ) (f : Values → Values) where
   -- nothing was refreshed
@@ -73,23 +89,6 @@ module _ (n N : ℕ) (f : Values → Values) where
             (λ y. subst (λ (l : List ℕ). valuesOf l s t ≡ f (valuesOf l) s t) (p .same (g e .0)) (q .quiet (g e .1) s t pl y))
             (h s t pl x);
       }
-
-  -- nothing is claimed of any place
-  pub passed-loose : (P : ℕ → ℕ → Type 0) (old new : List ℕ) (changed : Bool) → Passed n N f P old new changed → Passed n N f (λ q u. ⊥) old new true
-  passed-loose P old new changed p =
-      record {
-        len = p .len;
-        below = p .below;
-        hold = p .hold;
-        keep = p .keep;
-        further = λ E local sol good k r s t pl x. absurd x;
-        same = λ e. absurd (true≢false e);
-        quiet = λ e s t pl x. absurd x;
-      }
-
-  pub passed-on : (old mid new : List ℕ) → Passed n N f (λ q u. ⊥) old mid true → Passed n N f (λ q u. ⊥) mid new true → Passed n N f (λ q u. ⊥) old new true
-  passed-on old mid new p q =
-      passed-then (λ q u. ⊥) (λ q u. ⊥) (λ q u. ⊥) old mid new true true true (λ s t pl x. absurd x) (λ e. absurd (true≢false e)) p q
 
   -- one place
   module _ (s t : ℕ) (v : Bool) (old new : List ℕ) (changed : Bool) (put : BitPut (t - 1) s v old new changed) (low : 1 ≤ t) (in-n : s < n)

@@ -24,7 +24,7 @@ use Rattle.circular.specs.Places.{Values, lookAt, right, Reads, Solves}
 use Rattle.circular.proofs.Values.{rightOf, right-reads}
 use Rattle.circular.proofs.Lists.{inputsBy, outputsBy, joined-trace}
 use Rattle.trace.specs.Evaluated.{OutputsWritten, Evaluated}
-use Rattle.trace.specs.Passes.{valuesOf, sides, Setting, Filled, Solved, Ready, Left}
+use Rattle.trace.specs.Passes.{valuesOf, sides, Setting, RoundBytes, Solved, Ready, Left}
 
 pub setting-of : (x : Sheet) → Usable x → Setting (x .inputs) (x .outputs) (x .code) (x .len)
 setting-of x u =
@@ -115,8 +115,8 @@ module _ (N : ℕ) (out c : List ℕ) (h : N ≤ length out) (e : length c ≡ l
 
 module _ (x : Sheet) (u : Usable x) (letters out c : List ℕ) (ready : Ready (x .inputs) letters (length out))
     (e : length c ≡ length (take (length letters) out)) (zeros : (i : ℕ) → i < length c → getD c i 0 ≡ 0) where
-  pub filled-start : Filled (x .inputs) (x .outputs) letters (take (length letters) (c ++ drop (length letters) out))
-  filled-start =
+  pub bytes-start : RoundBytes (x .inputs) (x .outputs) letters (take (length letters) (c ++ drop (length letters) out))
+  bytes-start =
       record {
         streams = u .ranges .streams;
         rounds = ready .few;
@@ -128,10 +128,10 @@ module _ (x : Sheet) (u : Usable x) (letters out c : List ℕ) (ready : Ready (x
   module _ (level : CircularSheet (ruleSheet x) → ⊥) (a : List ℕ)
       (solved : Solved (x .outputs) (length letters) (sides (x .inputs) (x .outputs) (x .code) (x .len) letters) (take (length letters) (c ++ drop (length letters) out)) a) where
     whole : length a ≡ length letters
-    whole = solved .len ∙ filled-start .same
+    whole = solved .len ∙ bytes-start .same
 
     below : (i : ℕ) → i < length a → getD a i 0 < 2 ^ x .outputs
-    below = solved .below (filled-start .bytes-below)
+    below = solved .below (bytes-start .bytes-below)
 
     pub written-of : OutputsWritten (ruleSheet x) letters out (a ++ drop (length letters) (c ++ drop (length letters) out))
     written-of =

@@ -38,7 +38,7 @@ pub record Setting (m n : ℕ) (code len : List ℕ) : Type 0 where
   pub parses : (k : ℕ) → k < n → parse (m + n) [] (codeAt code len k) ≡ tree (treeIn (m + n) code len k)
 
 -- a letter of m bits and a byte of n bits for each round
-pub record Filled (m n : ℕ) (letters buf : List ℕ) : Type 0 where
+pub record RoundBytes (m n : ℕ) (letters buf : List ℕ) : Type 0 where
   pub streams : m + n ≤ 8
   pub rounds : length letters ≤ 4096
   pub same : length buf ≡ length letters
@@ -87,6 +87,11 @@ pub record Passed (n N : ℕ) (f : Values → Values) (P : ℕ → ℕ → Type 
 -- the same for the equations of a sheet over the letters
 abbrev pub Refreshed : ℕ → ℕ → List ℕ → List ℕ → List ℕ → (ℕ → ℕ → Type 0) → List ℕ → List ℕ → Bool → Type 0
 Refreshed m n code len letters P old new changed = Passed n (length letters) (sides m n code len letters) P old new changed
+
+-- a buffer of the same length, with n bits a byte
+pub record Kept (n : ℕ) (old new : List ℕ) : Type 0 where
+  pub len : length new ≡ length old
+  pub below : ((i : ℕ) → i < length old → getD old i 0 < 2 ^ n) → (i : ℕ) → i < length new → getD new i 0 < 2 ^ n
 
 -- the buffer satisfies the equations, if the reads between the outputs are not circular
 pub record Solved (n N : ℕ) (f : Values → Values) (old new : List ℕ) : Type 0 where

@@ -2,7 +2,7 @@
 ghost use mathlib.Core.Path.{_≡_};
 ghost use Prim.Native.Nat.{_+_, _*_, _<_, _≤_, _^_};
 ghost use lib.ListN.{length, getD};
-ghost use Rattle.trace.specs.Passes.{Setting, Filled, SeenRound, Environment, BitPut, Refreshed};
+ghost use Rattle.trace.specs.Passes.{Setting, RoundBytes, SeenRound, Environment, BitPut, Refreshed};
 
 pub fn wide(x: u8) -> u64
     ensures { λ r. ⌜ r ≡ x ⌝ }
@@ -20,7 +20,7 @@ fn valuation(m: usize, letters: &[u8], buf: &[u8], i: usize) -> u64
 
 // The streams of round at - 1 twice, or false and true where there is no such round.
 fn beside(m: usize, n: usize, letters: &[u8], buf: &[u8], at: usize) -> u64
-    requires { ⌜ Filled m n (now letters) (now buf) ⌝ }
+    requires { ⌜ RoundBytes m n (now letters) (now buf) ⌝ }
     ensures { λ r. ⌜ SeenRound m (now (letters .entry)) (now (buf .entry)) at r ⌝ }
 {
     if at < 2 {
@@ -35,7 +35,7 @@ fn beside(m: usize, n: usize, letters: &[u8], buf: &[u8], at: usize) -> u64
 
 // The reads of round t in one word: two bytes each for now, earlier and later.
 fn environment(m: usize, n: usize, letters: &[u8], buf: &[u8], t: usize) -> u64
-    requires { ⌜ Filled m n (now letters) (now buf) × (1 ≤ t) × (t ≤ length (now letters)) ⌝ }
+    requires { ⌜ RoundBytes m n (now letters) (now buf) × (1 ≤ t) × (t ≤ length (now letters)) ⌝ }
     ensures { λ r. ⌜ Environment m (now (letters .entry)) (now (buf .entry)) t r ⌝ }
 {
     let current = beside(m, n, letters, buf, t + 1);
@@ -69,7 +69,7 @@ pub fn refresh(
     s: usize,
     t: usize,
 ) -> bool
-    requires { ⌜ Setting m n (now code) (now len) × Filled m n (now letters) (now buf) × (s < n) × (1 ≤ t) × (t ≤ length (now letters)) ⌝ }
+    requires { ⌜ Setting m n (now code) (now len) × RoundBytes m n (now letters) (now buf) × (s < n) × (1 ≤ t) × (t ≤ length (now letters)) ⌝ }
     ensures { λ r. ⌜ Refreshed m n (now (code .entry)) (now (len .entry)) (now (letters .entry)) (λ q u. (q ≡ s) × (u ≡ t)) (now (buf .entry)) (now (buf .exit)) r ⌝ }
 {
     let env = environment(m, n, letters, &buf[..], t);

@@ -6,31 +6,37 @@ use Rattle.trace.proofs.order.leads.Statement.{statement}
 use Rattle.trace.proofs.order.leads.Tie as tie
 
 abbrev Inv-loop : tie.InvT-loop
-Inv-loop masks up settled lead₀ k₀ lead k = k ≤ 64
+Inv-loop masks n up settled lead₀ k₀ lead k = k ≤ 64
 
 abbrev μ-loop : tie.MeasureT-loop
-μ-loop masks up settled lead₀ k₀ lead k = 64 - k
+μ-loop masks n up settled lead₀ k₀ lead k = 64 - k
 
 start-requires : tie.Need-start-requires Inv-loop μ-loop
 start-requires c κs = search needs
 
 loop-holds : tie.Need-loop-holds Inv-loop μ-loop
-loop-holds c = omega arith
+loop-holds c = search needs
 
 raise-requires : tie.Need-raise-requires Inv-loop μ-loop
 raise-requires c κs = search needs
 
-add-k : tie.Need-add-k Inv-loop μ-loop
-add-k c = omega arith
-
-loop-less : tie.Need-loop-less Inv-loop μ-loop
-loop-less c = omega arith
-
-loop-again : tie.Need-loop-again Inv-loop μ-loop
-loop-again c = omega arith
+same-requires : tie.Need-same-requires Inv-loop μ-loop
+same-requires c κs = search needs
 
 returns : tie.Need-returns Inv-loop μ-loop
 returns c = search needs
+
+add-k : tie.Need-add-k Inv-loop μ-loop
+add-k c = search needs
+
+loop-less : tie.Need-loop-less Inv-loop μ-loop
+loop-less c = search needs
+
+loop-again : tie.Need-loop-again Inv-loop μ-loop
+loop-again c = search needs
+
+returns-2 : tie.Need-returns-2 Inv-loop μ-loop
+returns-2 c = search needs
 
 pub leads-spec : {M : Type 1} → statement M
 leads-spec =
@@ -41,7 +47,9 @@ leads-spec =
     start-requires
     loop-holds
     raise-requires
+    same-requires
+    returns
     add-k
     loop-less
     loop-again
-    returns)
+    returns-2)

@@ -1,4 +1,5 @@
 -- `trace::order::raise` meets its contract. Assumes nothing.
+use native.Mathlib.Omega.{arith}
 use Prim.Native.Nat.{_-_, _≤_}
 use mathlib.Core.Path.{_≡_}
 use borrow.Author.Needs.{needs}
@@ -7,40 +8,22 @@ use Rattle.trace.proofs.order.raise.Statement.{statement}
 use Rattle.trace.proofs.order.raise.Tie as tie
 
 abbrev Inv-loop : tie.InvT-loop
-Inv-loop masks old up settled lead₀ i₀ lead i = (i ≤ 49) × (length lead ≡ 7)
+Inv-loop masks old n up settled lead₀ s₀ lead s = (s ≤ 7) × (length lead ≡ 7)
 
 abbrev μ-loop : tie.MeasureT-loop
-μ-loop masks old up settled lead₀ i₀ lead i = 49 - i
+μ-loop masks old n up settled lead₀ s₀ lead s = 7 - s
 
 loop-holds : tie.Need-loop-holds Inv-loop μ-loop
 loop-holds c = search needs
 
-element-copy-out-raised : tie.Need-element-copy-out-raised Inv-loop μ-loop
-element-copy-out-raised c = search needs
-
-element-copy-out-raised-2 : tie.Need-element-copy-out-raised-2 Inv-loop μ-loop
-element-copy-out-raised-2 c = search needs
-
-element-copy-out-raised-3 : tie.Need-element-copy-out-raised-3 Inv-loop μ-loop
-element-copy-out-raised-3 c = search needs
-
-is-in-requires : tie.Need-is-in-requires Inv-loop μ-loop
-is-in-requires c κs = search needs
-
 raised-requires : tie.Need-raised-requires Inv-loop μ-loop
 raised-requires c κs = search needs
-
-array-read-larger : tie.Need-array-read-larger Inv-loop μ-loop
-array-read-larger c = search needs
-
-larger-requires : tie.Need-larger-requires Inv-loop μ-loop
-larger-requires c κs = search needs
 
 array-write-lead : tie.Need-array-write-lead Inv-loop μ-loop
 array-write-lead c = search needs
 
-add-i : tie.Need-add-i Inv-loop μ-loop
-add-i c = search needs
+add-s : tie.Need-add-s Inv-loop μ-loop
+add-s c = search needs
 
 loop-less : tie.Need-loop-less Inv-loop μ-loop
 loop-less c = search needs
@@ -58,15 +41,9 @@ raise-spec =
     Inv-loop
     μ-loop
     loop-holds
-    element-copy-out-raised
-    element-copy-out-raised-2
-    element-copy-out-raised-3
-    is-in-requires
     raised-requires
-    array-read-larger
-    larger-requires
     array-write-lead
-    add-i
+    add-s
     loop-less
     loop-again
     returns)

@@ -1,45 +1,49 @@
 -- `trace::sweep::sweep` meets its contract. Assumes nothing.
 use native.Mathlib.Omega.{arith}
 use Prim.Native.Nat.{_-_, _≤_}
-use mathlib.Core.Bool.{true}
-use lib.ListN.{length}
-use Rattle.trace.specs.Passes.{Passed, sides}
-use Rattle.trace.proofs.Passes.{passed-none, passed-on, filled-after}
+use borrow.Author.Needs.{needs}
+use Rattle.trace.specs.Passes.{Kept}
+use Rattle.trace.proofs.Passes.{kept-none, kept-then, bytes-kept}
 use Rattle.trace.proofs.sweep.sweep.Statement.{statement}
 use Rattle.trace.proofs.sweep.sweep.Tie as tie
 
 abbrev Inv-loop : tie.InvT-loop
-Inv-loop code len m n letters buf₀ lead up end key₀ buf key = (key ≤ end) × Passed n (length letters) (sides m n code len letters) (λ q u. ⊥) buf₀ buf true
+Inv-loop code len m n letters buf₀ lead up outputs count end block₀ buf block = (block ≤ end) × Kept n buf₀ buf
 
 abbrev μ-loop : tie.MeasureT-loop
-μ-loop code len m n letters buf₀ lead up end key₀ buf key = end - key
+μ-loop code len m n letters buf₀ lead up outputs count end block₀ buf block = end - block
 
-mul-end : tie.Need-mul-end Inv-loop μ-loop
-mul-end c = omega (arith, c .before .before .before .before .pre .1 .rounds)
+order-of-requires : tie.Need-order-of-requires Inv-loop μ-loop
+order-of-requires c κs = search needs
+
+returns : tie.Need-returns Inv-loop μ-loop
+returns c = kept-none _ _
 
 add-end : tie.Need-add-end Inv-loop μ-loop
-add-end c = omega (arith, c .before .before .before .before .pre .1 .rounds)
+add-end c = search needs
 
 loop-holds : tie.Need-loop-holds Inv-loop μ-loop
-loop-holds c = (omega arith, passed-none _ _ _ _ _ _ (λ q u pl h. h))
+loop-holds c = (omega arith, kept-none _ _)
 
-refresh-key-requires : tie.Need-refresh-key-requires Inv-loop μ-loop
-refresh-key-requires c κs = let st = c .before .before .before .before .before .before .before in (st .pre .0, filled-after (c .before .before .loop .inv .1) (st .pre .1))
+refresh-block-requires : tie.Need-refresh-block-requires Inv-loop μ-loop
+refresh-block-requires c κs =
+    let st = c .before .before .before .before .before .before .before .before .before .before .before in
+    (st .pre .0, bytes-kept (c .before .before .before .loop .inv .1) (st .pre .1), c .before .before .before .before .before .before .order-of .ensures)
 
-add-key : tie.Need-add-key Inv-loop μ-loop
-add-key c = omega (arith, c .before .before .before .before .before .before .before .before .before .before .pre .1 .rounds)
+add-block : tie.Need-add-block Inv-loop μ-loop
+add-block c = omega arith
 
 loop-less : tie.Need-loop-less Inv-loop μ-loop
 loop-less c = omega arith
 
 loop-again : tie.Need-loop-again Inv-loop μ-loop
-loop-again c = (omega arith, passed-on _ _ _ _ _ _ (c .before .before .before .before .before .loop .inv .1) (c .before .before .refresh-key .ensures))
+loop-again c = (omega arith, kept-then (c .before .before .before .before .before .before .loop .inv .1) (c .before .before .refresh-block .ensures))
 
 same-length : tie.Need-same-length Inv-loop μ-loop
 same-length c = c .before .loop .inv .1 .len
 
-returns : tie.Need-returns Inv-loop μ-loop
-returns c = c .before .loop .inv .1
+returns-2 : tie.Need-returns-2 Inv-loop μ-loop
+returns-2 c = c .before .loop .inv .1
 
 pub sweep-spec : {M : Type 1} → statement M
 sweep-spec =
@@ -47,12 +51,13 @@ sweep-spec =
     (tie.spec
     Inv-loop
     μ-loop
-    mul-end
+    order-of-requires
+    returns
     add-end
     loop-holds
-    refresh-key-requires
-    add-key
+    refresh-block-requires
+    add-block
     loop-less
     loop-again
     same-length
-    returns)
+    returns-2)

@@ -48,7 +48,7 @@ bit-xor i x y =
 mask : (s : ℕ) → s < 8 → 1 * 2 ^ s % 2 ^ 8 ≡ 2 ^ s
 mask s h = let g : 2 ^ s < 2 ^ 8 = pow-lt h in omega arith
 
-bit-mask : (i s : ℕ) → s < 8 → bit i (1 * 2 ^ s % 2 ^ 8) ≡ eqb i s
+pub bit-mask : (i s : ℕ) → s < 8 → bit i (1 * 2 ^ s % 2 ^ 8) ≡ eqb i s
 bit-mask i s h = ap (bit i) (mask s h ∙ sym (one-shl s (omega arith))) ∙ bit-shl i s (omega arith)
 
 pub bit-flipped : (s x : ℕ) → s < 8 → bit s (bitXor x (1 * 2 ^ s % 2 ^ 8)) ≡ not (bit s x)

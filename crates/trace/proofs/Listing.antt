@@ -1,13 +1,14 @@
 -- The order of a sweep, found entry by entry. Assumes nothing.
 use mathlib.Core.Path.{_≡_, sym, _∙_}
+use mathlib.Core.Logic.{_⊎_, inl, inr, ⊎-elim}
 use mathlib.Core.Bool.{Bool, true, false, true≢false}
 use mathlib.Core.List.{List}
-use Prim.Native.Nat.{ℕ, _+_, _*_, _/_, _%_, _≤_, _<_}
+use Prim.Native.Nat.{ℕ, _+_, _-_, _*_, _/_, _%_, _≤_, _<_}
 use native.Mathlib.Omega.{arith}
 use native.Mathlib.Decide.{ℕ-discrete, decLt}
 use lib.ListN.{length, getD, set, length-set}
 use lib.Seq.{getD-set-same, getD-set-other}
-use Rattle.trace.specs.Order.{Bounded, Due, Listed, Ordered}
+use Rattle.trace.specs.Order.{Bounded, inSweep, RoundIn, Due, Listed, Ordered}
 
 -- the outputs s with 7 * place + s below i are listed
 pub record Listing (lead : List ℕ) (n i : ℕ) (outputs : List ℕ) (count : ℕ) : Type 0 where
@@ -115,3 +116,25 @@ module _ (lead : List ℕ) (n i : ℕ) (outputs : List ℕ) (count : ℕ) (n-le 
               let y = l .all s h b x in
               record { p = y .p; inside = omega (arith, y .inside); is = kept (y .p) (y .inside) ∙ y .is }
           found s h b k (no x) = record { p = count; inside = omega arith; is = last ∙ omega arith }
+
+-- ---- the round of an output in a block
+
+pub in-sweep : (up : Bool) (N u : ℕ) → 1 ≤ u → u ≤ N → (1 ≤ inSweep up N u) × (inSweep up N u ≤ N)
+in-sweep true N u h k = (h, k)
+in-sweep false N u h k = (omega arith, omega arith)
+
+module _ (block lead N : ℕ) where
+  pub round-none : (up : Bool) → (block ≤ lead / 8) ⊎ (N < block - lead / 8) → RoundIn block lead N up 0
+  round-none up out =
+      record {
+        high = omega arith;
+        none = λ z u h k e. let i = in-sweep up N u h k in ⊎-elim (λ l. omega arith) (λ l. omega arith) out;
+        some = λ h. absurd (omega arith);
+      }
+
+  module _ (low : lead / 8 < block) (high : block - lead / 8 ≤ N) where
+    pub round-up : RoundIn block lead N true (block - lead / 8)
+    round-up = record { high = high; none = λ z. absurd (omega arith); some = λ h. omega arith }
+
+    pub round-down : RoundIn block lead N false (N - (block - lead / 8) + 1)
+    round-down = record { high = omega arith; none = λ z. absurd (omega arith); some = λ h. omega arith }

@@ -10,7 +10,7 @@ use lib.ListN.{length, getD}
 use Rattle.words.specs.Bits.{bit}
 use Rattle.circular.specs.Places.{Values, Place, Reads, Solves, RightAt, Right}
 use Rattle.circular.proofs.Sweep.{fresh-right}
-use Rattle.trace.specs.Passes.{valuesOf, RoundBytes, BitPut, Passed, Kept}
+use Rattle.trace.specs.Passes.{valuesOf, RoundBytes, BitPut, Kept, Renewed, Passed}
 
 -- ---- buffers that are kept
 
@@ -29,6 +29,26 @@ kept-none n l = record { len = refl; below = λ b. b }
 
 pub kept-then : {n : ℕ} {old mid new : List ℕ} → Kept n old mid → Kept n mid new → Kept n old new
 kept-then p q = record { len = q .len ∙ p .len; below = λ b. q .below (p .below b) }
+
+-- a bit that was put is a place worked out anew
+module _ (n : ℕ) (f : Values → Values) (s t : ℕ) (v : Bool) (old new : List ℕ) (changed : Bool) (put : BitPut (t - 1) s v old new changed)
+    (low : 1 ≤ t) (in-n : s < n) (right : v ≡ f (valuesOf old) s t) where
+  byte : ((i : ℕ) → i < length old → getD old i 0 < 2 ^ n) → (i : ℕ) → i < length new → Dec (i ≡ t - 1) → getD new i 0 < 2 ^ n
+  byte b i l (yes e) = rw e (put .below n in-n (b (t - 1) (omega (arith, put .len))))
+  byte b i l (no e) = rw (put .others i e) (b i (omega (arith, put .len)))
+
+  other : (q u : ℕ) → 1 ≤ u → ((q ≡ s) × (u ≡ t) → ⊥) → Dec (u - 1 ≡ t - 1) → bit q (getD new (u - 1) 0) ≡ bit q (getD old (u - 1) 0)
+  other q u l h (yes e) = rw e (put .kept q (λ g. h (g, omega arith)))
+  other q u l h (no e) = ap (bit q) (put .others (u - 1) e)
+
+  pub renewed-put : Renewed n f s t old new
+  unfolding valuesOf
+  renewed-put =
+      record {
+        kept = record { len = put .len; below = λ b i l. byte b i l (ℕ-discrete i (t - 1)) };
+        value = put .put ∙ right;
+        others = λ q u l h. other q u l h (ℕ-discrete (u - 1) (t - 1));
+      }
 
 pub kept-of : {n N : ℕ} {f : Values → Values} {P : ℕ → ℕ → Type 0} {old new : List ℕ} {changed : Bool} → Passed n N f P old new changed → Kept n old new
 kept-of p = record { len = p .len; below = p .below }
@@ -91,27 +111,17 @@ module _ (n N : ℕ) (f : Values → Values) where
       }
 
   -- one place
-  module _ (s t : ℕ) (v : Bool) (old new : List ℕ) (changed : Bool) (put : BitPut (t - 1) s v old new changed) (low : 1 ≤ t) (in-n : s < n)
-      (right : v ≡ f (valuesOf old) s t) where
-    fresh : (q u : ℕ) → q ≡ s → u ≡ t → valuesOf new q u ≡ f (valuesOf old) q u
-    unfolding valuesOf
-    fresh q u e g = rw (e, g) (put .put ∙ right)
-
-    other : (q u : ℕ) → 1 ≤ u → (((q ≡ s) × (u ≡ t)) → ⊥) → valuesOf new q u ≡ valuesOf old q u
-    unfolding valuesOf
-    other q u l h = go (ℕ-discrete (u - 1) (t - 1))
-      where
-        go : Dec (u - 1 ≡ t - 1) → bit q (getD new (u - 1) 0) ≡ bit q (getD old (u - 1) 0)
-        go (yes e) = rw e (put .kept q (λ g. h (g, omega arith)))
-        go (no e) = ap (bit q) (put .others (u - 1) e)
-
+  module _ (s t : ℕ) (old new : List ℕ) (changed : Bool) (one : Renewed n f s t old new) (same : changed ≡ false → new ≡ old) where
     which : (q u : ℕ) → 1 ≤ u → ((q ≡ s) × (u ≡ t)) ⊎ (valuesOf new q u ≡ valuesOf old q u)
     which q u l = go (ℕ-discrete q s) (ℕ-discrete u t)
       where
         go : Dec (q ≡ s) → Dec (u ≡ t) → ((q ≡ s) × (u ≡ t)) ⊎ (valuesOf new q u ≡ valuesOf old q u)
         go (yes e) (yes g) = inl (e, g)
-        go (yes e) (no g) = inr (other q u l (λ h. g (h .1)))
-        go (no e) d = inr (other q u l (λ h. e (h .0)))
+        go (yes e) (no g) = inr (one .others q u l (λ h. g (h .1)))
+        go (no e) d = inr (one .others q u l (λ h. e (h .0)))
+
+    fresh : (q u : ℕ) → q ≡ s → u ≡ t → valuesOf new q u ≡ f (valuesOf old) q u
+    fresh q u e g = rw (e, g) (one .value)
 
     at-place : (E : ℕ → ℕ → ℕ → Bool) → Reads n E N f → (sol : Values) → Solves n N f sol → (k : ℕ) → Right n E N sol k (valuesOf old)
         → (q u : ℕ) → Place n N q u → (j : ℕ) → j ≤ suc k → RightAt n E N sol j (valuesOf old) q u → RightAt n E N sol j (valuesOf new) q u
@@ -124,20 +134,15 @@ module _ (n N : ℕ) (f : Values → Values) where
     pub passed-one : Passed n N f (λ q u. (q ≡ s) × (u ≡ t)) old new changed
     passed-one =
         record {
-          len = put .len;
-          below = λ b i l. bytes b i l (ℕ-discrete i (t - 1));
+          len = one .kept .len;
+          below = one .kept .below;
           hold = λ E local sol good k r. record { all = λ q u pl. at-place E local sol good k r q u pl k (omega arith) (r .all q u pl) };
           keep = λ E local sol good k r q u pl x. at-place E local sol good k r q u pl (suc k) (omega arith) x;
           further = λ E local sol good k r q u pl e.
               fresh-right n E N f local sol good k (valuesOf old) (valuesOf new) r q u pl (suc k) (omega arith) (fresh q u (e .0) (e .1));
-          same = put .same;
-          quiet = λ c q u pl e.
-              sym (ap (λ (l : List ℕ). valuesOf l q u) (put .same c)) ∙ fresh q u (e .0) (e .1);
+          same = same;
+          quiet = λ c q u pl e. sym (ap (λ (l : List ℕ). valuesOf l q u) (same c)) ∙ fresh q u (e .0) (e .1);
         }
-      where
-        bytes : ((i : ℕ) → i < length old → getD old i 0 < 2 ^ n) → (i : ℕ) → i < length new → Dec (i ≡ t - 1) → getD new i 0 < 2 ^ n
-        bytes b i l (yes e) = rw e (put .below n in-n (b (t - 1) (omega (arith, put .len))))
-        bytes b i l (no e) = rw (put .others i e) (b i (omega (arith, put .len)))
 
 -- one place more, one round more
 pub next-place : (s t q u : ℕ) → (q < s + 1) × (u ≡ t) → ((q < s) × (u ≡ t)) ⊎ ((q ≡ s) × (u ≡ t))

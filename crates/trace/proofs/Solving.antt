@@ -1,16 +1,17 @@
 -- Passes until nothing changes. Assumes nothing.
 use mathlib.Core.Path.{_≡_, refl, sym, _∙_, subst}
-use mathlib.Core.Bool.{Bool, false}
+use mathlib.Core.Bool.{Bool, true, false}
 use mathlib.Core.List.{List}
 use Prim.Native.Nat.{ℕ, _+_, _*_, _^_, _<_, _≤_}
 use native.Mathlib.Numerals.{add-one}
 use native.Mathlib.Nat.{mul-le-mul}
 use lib.ListN.{length, getD}
+use Rattle.circular.specs.Table.{readsOf}
 use Rattle.circular.specs.Places.{Values, Reads, Solves, Right}
 use Rattle.circular.proofs.Unique.{run, solution}
 use Rattle.circular.proofs.Sweep.{right-start, right-end, solves-of}
 use Rattle.trace.proofs.Passes.{bytes-kept}
-use Rattle.trace.specs.Passes.{valuesOf, RoundBytes, Passed, Kept, Solved}
+use Rattle.trace.specs.Passes.{valuesOf, RoundBytes, Kept, Passed, Extends, Solved}
 
 -- k passes are done
 pub record Going (n N : ℕ) (f : Values → Values) (old new : List ℕ) (k : ℕ) : Type 0 where
@@ -64,3 +65,16 @@ most-small n N h k = mul-le-mul {n₁ = n} {m₁ = N} {n₂ = 7} {m₂ = 4096} h
 -- solved from a buffer that was kept
 pub solved-after : {n N : ℕ} {f : Values → Values} {old mid new : List ℕ} → Kept n old mid → Solved n N f mid new → Solved n N f old new
 solved-after k x = record { len = x .len ∙ k .len; below = λ b. x .below (k .below b); holds = x .holds }
+
+-- all places are right
+pub solved-all : {n N : ℕ} {f : Values → Values} {masks : List ℕ} {all : Bool} {old new : List ℕ} → Extends n N f masks (λ q u. ⊥) (λ q u. all ≡ true) old new
+    → Reads n (readsOf masks) N f → all ≡ true → Solved n N f old new
+solved-all {n} {N} {f} {new = new} x reads e =
+    record {
+      len = x .kept .len;
+      below = x .kept .below;
+      holds = λ E local level.
+          let sol : Values = run f (n * N) in
+          let good : Solves n N f sol = solution n E N f local level in
+          solves-of n E N f local sol (valuesOf new) good (λ s t pl. x .right reads sol good (λ q u p z. absurd z) s t pl e);
+    }

@@ -19,7 +19,9 @@ use Rattle.sheet.proofs.Sheets.{tree-at, length-trees}
 use Rattle.sheet.proofs.Formed.{Formed, usable-formed}
 use Rattle.lola.specs.Value.{value}
 use Rattle.lola.specs.Equations.{Satisfies, Letters, joined}
-use Rattle.circular.specs.Circular.{Circular, CircularSheet, edges}
+use Rattle.circular.specs.Circular.{Read, Circular, CircularSheet, edges}
+use Rattle.circular.specs.Masks.{Tells}
+use Rattle.circular.specs.Table.{readsOf}
 use Rattle.circular.specs.Places.{Values, lookAt, right, Reads, Solves}
 use Rattle.circular.proofs.Values.{rightOf, right-reads}
 use Rattle.circular.proofs.Lists.{inputsBy, outputsBy, joined-trace}
@@ -68,6 +70,28 @@ module _ (x : Sheet) (u : Usable x) (letters : List ℕ) where
       subst (λ (k : ℕ). Reads k (edges (ruleSheet x)) (length letters) g) count (right-reads (ruleSheet x) formed (length letters) (inputsBy letters))
       in
       record { only = λ v w s t pl a. side-same v s t (pl .s-lt) ∙ r .only v w s t pl a ∙ sym (side-same w s t (pl .s-lt)) }
+
+  told : {masks : List ℕ} {s t q v : ℕ} → Tells (ruleSheet x) masks → Read n (edges (ruleSheet x)) (length letters) s t q v → Read n (readsOf masks) (length letters) s t q v
+  told {s = s} {q = q} tells r =
+      let a = r .edge in
+      record {
+        o = r .o;
+        edge =
+            record {
+              from = a .from;
+              to = a .to;
+              off = a .off;
+              is = tells .reads s q (r .o) (omega (arith, a .from, u .ranges .outputs)) (omega (arith, a .to, u .ranges .outputs)) (a .off) ∙ a .is;
+            };
+        shift = r .shift;
+        t-low = r .t-low;
+        t-high = r .t-high;
+        u-low = r .u-low;
+        u-high = r .u-high;
+      }
+
+  pub told-reads : (masks : List ℕ) → Tells (ruleSheet x) masks → Reads n (readsOf masks) (length letters) f
+  told-reads masks tells = record { only = λ v w s t pl a. side-reads .only v w s t pl (λ q z r. a q z (told tells r)) }
 
   pub not-circular : (CircularSheet (ruleSheet x) → ⊥) → Circular n (edges (ruleSheet x)) → ⊥
   not-circular h c = h (subst (λ (k : ℕ). Circular k (edges (ruleSheet x))) (sym count) c)

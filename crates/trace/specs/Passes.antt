@@ -14,6 +14,8 @@ use Rattle.sheet.specs.RuleSheet.{RuleSheet}
 use Rattle.sheet.specs.declared.Offset.{Offset}
 use Rattle.lola.specs.Slots.{slots}
 use Rattle.trace.specs.Evaluated.{OutputsWritten}
+use Rattle.trace.specs.Order.{Steady}
+use Rattle.circular.specs.Table.{readsOf}
 use Rattle.circular.specs.Circular.{Circular}
 use Rattle.circular.specs.Places.{Values, joint, lookAt, right, Place, Reads, Solves, RightAt, Right}
 
@@ -69,6 +71,17 @@ pub record BitPut (i s : ℕ) (v : Bool) (old new : List ℕ) (changed : Bool) :
   pub below : (n : ℕ) → s < n → getD old i 0 < 2 ^ n → getD new i 0 < 2 ^ n
   pub same : changed ≡ false → new ≡ old
 
+-- a buffer of the same length, with n bits a byte
+pub record Kept (n : ℕ) (old new : List ℕ) : Type 0 where
+  pub len : length new ≡ length old
+  pub below : ((i : ℕ) → i < length old → getD old i 0 < 2 ^ n) → (i : ℕ) → i < length new → getD new i 0 < 2 ^ n
+
+-- output s was worked out anew in round t, and nothing else
+pub record Renewed (n : ℕ) (f : Values → Values) (s t : ℕ) (old new : List ℕ) : Type 0 where
+  pub kept : Kept n old new
+  pub value : valuesOf new s t ≡ f (valuesOf old) s t
+  pub others : (q u : ℕ) → 1 ≤ u → ((q ≡ s) × (u ≡ t) → ⊥) → valuesOf new q u ≡ valuesOf old q u
+
 -- The places of P were refreshed, and others maybe. What was right stays right; the places of P come one read further; and where
 -- nothing changed, the equations hold at the places of P.
 pub record Passed (n N : ℕ) (f : Values → Values) (P : ℕ → ℕ → Type 0) (old new : List ℕ) (changed : Bool) : Type 0 where
@@ -88,10 +101,20 @@ pub record Passed (n N : ℕ) (f : Values → Values) (P : ℕ → ℕ → Type 
 abbrev pub Refreshed : ℕ → ℕ → List ℕ → List ℕ → List ℕ → (ℕ → ℕ → Type 0) → List ℕ → List ℕ → Bool → Type 0
 Refreshed m n code len letters P old new changed = Passed n (length letters) (sides m n code len letters) P old new changed
 
--- a buffer of the same length, with n bits a byte
-pub record Kept (n : ℕ) (old new : List ℕ) : Type 0 where
-  pub len : length new ≡ length old
-  pub below : ((i : ℕ) → i < length old → getD old i 0 < 2 ^ n) → (i : ℕ) → i < length new → getD new i 0 < 2 ^ n
+-- the values at the places of P are those of a solution
+abbrev pub RightOn : ℕ → ℕ → Values → (ℕ → ℕ → Type 0) → Values → Type 0
+RightOn n N sol P v = (s t : ℕ) → Place n N s t → P s t → v s t ≡ sol s t
+
+-- what is right at the places of P before is right at the places of Q after, if the reads are those of the masks
+pub record Extends (n N : ℕ) (f : Values → Values) (masks : List ℕ) (P Q : ℕ → ℕ → Type 0) (old new : List ℕ) : Type 0 where
+  pub kept : Kept n old new
+  pub right : Reads n (readsOf masks) N f → (sol : Values) → Solves n N f sol → RightOn n N sol P (valuesOf old) → RightOn n N sol Q (valuesOf new)
+
+-- the same for all masks and settled outputs for which the leads are steady
+pub record Sweeps (n N : ℕ) (f : Values → Values) (lead : List ℕ) (up : Bool) (P Q : ℕ → ℕ → ℕ → Type 0) (old new : List ℕ) : Type 0 where
+  pub kept : Kept n old new
+  pub right : (masks : List ℕ) (settled : ℕ) → Steady masks lead n up settled → Reads n (readsOf masks) N f → (sol : Values) → Solves n N f sol
+      → RightOn n N sol (P settled) (valuesOf old) → RightOn n N sol (Q settled) (valuesOf new)
 
 -- the buffer satisfies the equations, if the reads between the outputs are not circular
 pub record Solved (n N : ℕ) (f : Values → Values) (old new : List ℕ) : Type 0 where

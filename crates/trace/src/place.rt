@@ -1,8 +1,9 @@
 // One place: an output in a round. Its value is worked out from the letters and the buffer, and put into the buffer.
 ghost use mathlib.Core.Path.{_≡_};
+ghost use mathlib.Core.Bool.{false};
 ghost use Prim.Native.Nat.{_+_, _*_, _<_, _≤_, _^_};
 ghost use lib.ListN.{length, getD};
-ghost use Rattle.trace.specs.Passes.{Setting, RoundBytes, SeenRound, Environment, BitPut, Refreshed};
+ghost use Rattle.trace.specs.Passes.{Setting, RoundBytes, SeenRound, Environment, BitPut, sides, Renewed};
 
 pub fn wide(x: u8) -> u64
     ensures { λ r. ⌜ r ≡ x ⌝ }
@@ -70,7 +71,7 @@ pub fn refresh(
     t: usize,
 ) -> bool
     requires { ⌜ Setting m n (now code) (now len) × RoundBytes m n (now letters) (now buf) × (s < n) × (1 ≤ t) × (t ≤ length (now letters)) ⌝ }
-    ensures { λ r. ⌜ Refreshed m n (now (code .entry)) (now (len .entry)) (now (letters .entry)) (λ q u. (q ≡ s) × (u ≡ t)) (now (buf .entry)) (now (buf .exit)) r ⌝ }
+    ensures { λ r. ⌜ Renewed n (sides m n (now (code .entry)) (now (len .entry)) (now (letters .entry))) s t (now (buf .entry)) (now (buf .exit)) × (r ≡ false → now (buf .exit) ≡ now (buf .entry)) ⌝ }
 {
     let env = environment(m, n, letters, &buf[..], t);
     let from = 64 * s;

@@ -1,9 +1,12 @@
 // Passes over all places, and sweeps in an order that leaves little for the passes to do.
 ghost use mathlib.Core.Path.{_≡_};
+ghost use mathlib.Core.Bool.{true};
 ghost use Prim.Native.Nat.{_<_, _≤_};
 ghost use lib.ListN.{length};
-ghost use Rattle.trace.specs.Order.{Ordered};
-ghost use Rattle.trace.specs.Passes.{Setting, RoundBytes, Refreshed, Kept, sides, Solved};
+ghost use Rattle.circular.specs.Table.{readsOf};
+ghost use Rattle.circular.specs.Places.{Reads};
+ghost use Rattle.trace.specs.Order.{Ordered, InSet, Done, Known};
+ghost use Rattle.trace.specs.Passes.{Setting, RoundBytes, Renewed, Refreshed, Extends, Sweeps, sides, Solved};
 use super::order::leads;
 use super::order::order_of;
 use super::order::round_in;
@@ -80,7 +83,7 @@ fn try_refresh(
     t: usize,
 )
     requires { ⌜ Setting m n (now code) (now len) × RoundBytes m n (now letters) (now buf) × (s < n) × (t ≤ length (now letters)) ⌝ }
-    ensures { λ r. ⌜ Kept n (now (buf .entry)) (now (buf .exit)) ⌝ }
+    ensures { λ r. ⌜ (t ≡ 0 → now (buf .exit) ≡ now (buf .entry)) × (1 ≤ t → Renewed n (sides m n (now (code .entry)) (now (len .entry)) (now (letters .entry))) s t (now (buf .entry)) (now (buf .exit))) ⌝ }
 {
     if t == 0 {
         return;
@@ -103,7 +106,7 @@ fn refresh_block(
     block: usize,
 )
     requires { ⌜ Setting m n (now code) (now len) × RoundBytes m n (now letters) (now buf) × Ordered (now lead) n (now outputs) count ⌝ }
-    ensures { λ r. ⌜ Kept n (now (buf .entry)) (now (buf .exit)) ⌝ }
+    ensures { λ r. ⌜ Sweeps n (length (now (letters .entry))) (sides m n (now (code .entry)) (now (len .entry)) (now (letters .entry))) (now (lead .entry)) up (Done (now (lead .entry)) up (length (now (letters .entry))) (now (outputs .entry)) block 0) (Done (now (lead .entry)) up (length (now (letters .entry))) (now (outputs .entry)) block count) (now (buf .entry)) (now (buf .exit)) ⌝ }
 {
     let mut p: usize = 0;
     while p < count {
@@ -126,7 +129,7 @@ fn sweep(
     up: bool,
 )
     requires { ⌜ Setting m n (now code) (now len) × RoundBytes m n (now letters) (now buf) ⌝ }
-    ensures { λ r. ⌜ Kept n (now (buf .entry)) (now (buf .exit)) ⌝ }
+    ensures { λ r. ⌜ Sweeps n (length (now (letters .entry))) (sides m n (now (code .entry)) (now (len .entry)) (now (letters .entry))) (now (lead .entry)) up InSet (Known (now (lead .entry))) (now (buf .entry)) (now (buf .exit)) ⌝ }
 {
     let order = order_of(lead, n);
     let outputs = order.outputs;
@@ -167,14 +170,14 @@ fn settle_more(
     settled: u8,
 ) -> u8
     requires { ⌜ Setting m n (now code) (now len) × RoundBytes m n (now letters) (now buf) ⌝ }
-    ensures { λ r. ⌜ Kept n (now (buf .entry)) (now (buf .exit)) ⌝ }
+    ensures { λ r. ⌜ Extends n (length (now (letters .entry))) (sides m n (now (code .entry)) (now (len .entry)) (now (letters .entry))) (now (masks .entry)) (InSet settled) (InSet r) (now (buf .entry)) (now (buf .exit)) ⌝ }
 {
     let lead = leads(masks, n, up, settled);
     sweep(code, len, m, n, letters, &mut buf[..], &lead, up);
     settle(&lead, settled)
 }
 
-// Sweeps up and down by turns, until all outputs are settled. Two sweeps settle one output at least.
+// Sweeps up and down by turns until all outputs are settled; whether they are. Two sweeps settle one output at least.
 fn sweeps(
     code: &[u8],
     len: &[usize],
@@ -183,15 +186,15 @@ fn sweeps(
     letters: &[u8],
     buf: &mut [u8],
     masks: &[u8; 49],
-)
+) -> bool
     requires { ⌜ Setting m n (now code) (now len) × RoundBytes m n (now letters) (now buf) ⌝ }
-    ensures { λ r. ⌜ Kept n (now (buf .entry)) (now (buf .exit)) ⌝ }
+    ensures { λ r. ⌜ Extends n (length (now (letters .entry))) (sides m n (now (code .entry)) (now (len .entry)) (now (letters .entry))) (now (masks .entry)) (λ q u. ⊥) (λ q u. r ≡ true) (now (buf .entry)) (now (buf .exit)) ⌝ }
 {
     let mut settled: u8 = 0;
     let mut k: usize = 0;
     while k < 14 {
         if settled == ALL {
-            return;
+            return true;
         }
         settled = settle_more(
             code,
@@ -206,9 +209,10 @@ fn sweeps(
         );
         k += 1;
     }
+    settled == ALL
 }
 
-// Fills the buffer so that it satisfies the equations. The passes find nothing to do after the sweeps.
+// Fills the buffer so that it satisfies the equations. Passes are there for sheets that the sweeps would leave unsettled; none is known.
 pub fn solve(
     code: &[u8],
     len: &[usize],
@@ -218,9 +222,11 @@ pub fn solve(
     buf: &mut [u8],
     masks: &[u8; 49],
 )
-    requires { ⌜ Setting m n (now code) (now len) × RoundBytes m n (now letters) (now buf) ⌝ }
+    requires { ⌜ Setting m n (now code) (now len) × RoundBytes m n (now letters) (now buf) × Reads n (readsOf (now masks)) (length (now letters)) (sides m n (now code) (now len) (now letters)) ⌝ }
     ensures { λ r. ⌜ Solved n (length (now (letters .entry))) (sides m n (now (code .entry)) (now (len .entry)) (now (letters .entry))) (now (buf .entry)) (now (buf .exit)) ⌝ }
 {
-    sweeps(code, len, m, n, letters, &mut buf[..], masks);
+    if sweeps(code, len, m, n, letters, &mut buf[..], masks) {
+        return;
+    }
     passes(code, len, m, n, letters, &mut buf[..]);
 }

@@ -2,6 +2,7 @@
 use native.Mathlib.Omega.{arith}
 use Prim.Native.Nat.{_-_, _≤_}
 use borrow.Author.Needs.{needs}
+use Rattle.trace.proofs.Leads.{steady-of, steady-none}
 use Rattle.trace.proofs.order.leads.Statement.{statement}
 use Rattle.trace.proofs.order.leads.Tie as tie
 
@@ -15,7 +16,7 @@ start-requires : tie.Need-start-requires Inv-loop μ-loop
 start-requires c κs = search needs
 
 loop-holds : tie.Need-loop-holds Inv-loop μ-loop
-loop-holds c = search needs
+loop-holds c = omega arith
 
 raise-requires : tie.Need-raise-requires Inv-loop μ-loop
 raise-requires c κs = search needs
@@ -24,19 +25,19 @@ same-requires : tie.Need-same-requires Inv-loop μ-loop
 same-requires c κs = search needs
 
 returns : tie.Need-returns Inv-loop μ-loop
-returns c = search needs
+returns c = steady-of _ _ (c .before .before .before .before .raise .result) _ _ _ (c .before .before .before .before .before .before .before .before .before .pre) (c .before .before .before .before .raise .ensures) (c .before .same .ensures (c .if1 .taken))
 
 add-k : tie.Need-add-k Inv-loop μ-loop
-add-k c = search needs
+add-k c = omega arith
 
 loop-less : tie.Need-loop-less Inv-loop μ-loop
-loop-less c = search needs
+loop-less c = omega arith
 
 loop-again : tie.Need-loop-again Inv-loop μ-loop
-loop-again c = search needs
+loop-again c = omega arith
 
 returns-2 : tie.Need-returns-2 Inv-loop μ-loop
-returns-2 c = search needs
+returns-2 c = steady-none _ _ _ _ (c .before .before .before .pre)
 
 pub leads-spec : {M : Type 1} → statement M
 leads-spec =

@@ -4,7 +4,7 @@ use mathlib.Core.Bool.{true≢false}
 use mathlib.Core.Logic.{⊎-elim}
 use lib.ListN.{length}
 use Rattle.trace.specs.Passes.{Passed, sides}
-use Rattle.trace.proofs.Passes.{passed-none, passed-then, passed-as, bytes-after, next-place}
+use Rattle.trace.proofs.Passes.{passed-none, passed-then, passed-as, passed-one, bytes-after, next-place}
 use native.Mathlib.Omega.{arith}
 use Prim.Native.Nat.{_-_, _≤_, _<_}
 use Rattle.trace.proofs.sweep.refresh_round.Statement.{statement}
@@ -33,7 +33,7 @@ loop-again c = (
   omega arith,
   passed-then _ _ _ _ _ _ _ _ _ _ _ _ (λ q u pl h. next-place _ _ q u h)
       (⊎-elim (λ w e. absurd (true≢false (sym (w .1) ∙ e))) (λ w e. (sym (w .1) ∙ e, w .0 .left)) (c .if1 .came))
-      (c .before .before .before .before .before .before .loop .inv .1) (c .before .before .before .refresh .ensures),
+      (c .before .before .before .before .before .before .loop .inv .1) (passed-one _ _ _ _ _ _ _ _ (c .before .before .before .refresh .ensures .0) (c .before .before .before .refresh .ensures .1)),
 )
 
 same-length : tie.Need-same-length Inv-loop μ-loop

@@ -2,13 +2,18 @@
 use native.Mathlib.Omega.{arith}
 use Prim.Native.Nat.{_-_, _≤_}
 use borrow.Author.Needs.{needs}
-use Rattle.trace.specs.Passes.{Kept}
-use Rattle.trace.proofs.Passes.{kept-none, kept-then, bytes-kept}
+use lib.ListN.{length}
+use Rattle.trace.specs.Order.{InSet, Done}
+use Rattle.trace.specs.Passes.{Sweeps, sides}
+use Rattle.trace.proofs.Passes.{bytes-kept}
+use Rattle.trace.proofs.Sweeps.{sweep-start, sweep-more, sweep-end, sweep-nothing}
 use Rattle.trace.proofs.sweep.sweep.Statement.{statement}
 use Rattle.trace.proofs.sweep.sweep.Tie as tie
 
 abbrev Inv-loop : tie.InvT-loop
-Inv-loop code len m n letters buf₀ lead up outputs count end block₀ buf block = (block ≤ end) × Kept n buf₀ buf
+Inv-loop code len m n letters buf₀ lead up outputs count end block₀ buf block =
+    (block ≤ end)
+    × Sweeps n (length letters) (sides m n code len letters) lead up InSet (Done lead up (length letters) outputs block 0) buf₀ buf
 
 abbrev μ-loop : tie.MeasureT-loop
 μ-loop code len m n letters buf₀ lead up outputs count end block₀ buf block = end - block
@@ -17,33 +22,33 @@ order-of-requires : tie.Need-order-of-requires Inv-loop μ-loop
 order-of-requires c κs = search needs
 
 returns : tie.Need-returns Inv-loop μ-loop
-returns c = kept-none _ _
+returns c = sweep-nothing _ _ _ _ _ _ _ 0 (c .before .before .order-of .ensures) (c .if1 .taken) _
 
 add-end : tie.Need-add-end Inv-loop μ-loop
 add-end c = search needs
 
 loop-holds : tie.Need-loop-holds Inv-loop μ-loop
-loop-holds c = (omega arith, kept-none _ _)
+loop-holds c = (omega arith, sweep-start _ _ _ _ _ _ _)
 
 refresh-block-requires : tie.Need-refresh-block-requires Inv-loop μ-loop
 refresh-block-requires c κs =
     let st = c .before .before .before .before .before .before .before .before .before .before .before in
-    (st .pre .0, bytes-kept (c .before .before .before .loop .inv .1) (st .pre .1), c .before .before .before .before .before .before .order-of .ensures)
+    (st .pre .0, bytes-kept (c .before .before .before .loop .inv .1 .kept) (st .pre .1), c .before .before .before .before .before .before .order-of .ensures)
 
 add-block : tie.Need-add-block Inv-loop μ-loop
-add-block c = omega arith
+add-block c = search needs
 
 loop-less : tie.Need-loop-less Inv-loop μ-loop
-loop-less c = omega arith
+loop-less c = search needs
 
 loop-again : tie.Need-loop-again Inv-loop μ-loop
-loop-again c = (omega arith, kept-then (c .before .before .before .before .before .before .loop .inv .1) (c .before .before .refresh-block .ensures))
+loop-again c = (omega arith, sweep-more _ _ _ _ _ _ _ _ (c .before .before .before .before .before .before .before .before .before .order-of .ensures) _ _ _ (c .before .before .before .before .before .before .loop .inv .1) (c .before .before .refresh-block .ensures))
 
 same-length : tie.Need-same-length Inv-loop μ-loop
-same-length c = c .before .loop .inv .1 .len
+same-length c = c .before .loop .inv .1 .kept .len
 
 returns-2 : tie.Need-returns-2 Inv-loop μ-loop
-returns-2 c = c .before .loop .inv .1
+returns-2 c = sweep-end _ _ _ _ _ _ _ _ (c .before .before .before .before .order-of .ensures) (omega arith) _ _ (c .before .loop .inv .1)
 
 pub sweep-spec : {M : Type 1} → statement M
 sweep-spec =

@@ -1,29 +1,32 @@
 -- `trace::sweep::sweeps` meets its contract. Assumes nothing.
 use native.Mathlib.Omega.{arith}
 use Prim.Native.Nat.{_-_, _≤_}
-use borrow.Author.Needs.{needs}
-use Rattle.trace.specs.Passes.{Kept}
-use Rattle.trace.proofs.Passes.{kept-none, kept-then, bytes-kept}
+use borrow.Author.Tests.{eqb-true}
+use lib.ListN.{length}
+use Rattle.trace.specs.Order.{InSet}
+use Rattle.trace.specs.Passes.{Extends, sides}
+use Rattle.trace.proofs.Passes.{bytes-kept}
+use Rattle.trace.proofs.Sweeps.{extends-start, extends-then, extends-all}
 use Rattle.trace.proofs.sweep.sweeps.Statement.{statement}
 use Rattle.trace.proofs.sweep.sweeps.Tie as tie
 
 abbrev Inv-loop : tie.InvT-loop
-Inv-loop code len m n letters buf₀ masks settled₀ k₀ buf settled k = (k ≤ 14) × Kept n buf₀ buf
+Inv-loop code len m n letters buf₀ masks settled₀ k₀ buf settled k = (k ≤ 14) × Extends n (length letters) (sides m n code len letters) masks (λ q u. ⊥) (InSet settled) buf₀ buf
 
 abbrev μ-loop : tie.MeasureT-loop
 μ-loop code len m n letters buf₀ masks settled₀ k₀ buf settled k = 14 - k
 
 loop-holds : tie.Need-loop-holds Inv-loop μ-loop
-loop-holds c = (omega arith, kept-none _ _)
+loop-holds c = (omega arith, extends-start _ _ _ _ _ _)
 
 same-length : tie.Need-same-length Inv-loop μ-loop
-same-length c = c .before .before .loop .inv .1 .len
+same-length c = c .before .before .loop .inv .1 .kept .len
 
 returns : tie.Need-returns Inv-loop μ-loop
-returns c = c .before .before .loop .inv .1
+returns c = extends-all _ _ _ _ _ _ _ _ _ (c .before .before .before .before .before .before .before .pre .0 .outputs) (λ e. c .if1 .taken) (c .before .before .loop .inv .1)
 
 settle-more-requires : tie.Need-settle-more-requires Inv-loop μ-loop
-settle-more-requires c κs = let st = c .before .before .before .before .before .before .before .before in (st .pre .0, bytes-kept (c .before .before .before .loop .inv .1) (st .pre .1))
+settle-more-requires c κs = let st = c .before .before .before .before .before .before .before .before in (st .pre .0, bytes-kept (c .before .before .before .loop .inv .1 .kept) (st .pre .1))
 
 add-k : tie.Need-add-k Inv-loop μ-loop
 add-k c = omega arith
@@ -32,13 +35,13 @@ loop-less : tie.Need-loop-less Inv-loop μ-loop
 loop-less c = omega arith
 
 loop-again : tie.Need-loop-again Inv-loop μ-loop
-loop-again c = (omega arith, kept-then (c .before .before .before .before .before .before .loop .inv .1) (c .before .before .settle-more .ensures))
+loop-again c = (omega arith, extends-then _ _ _ _ _ _ _ _ _ _ (c .before .before .before .before .before .before .loop .inv .1) (c .before .before .settle-more .ensures))
 
 same-length-2 : tie.Need-same-length-2 Inv-loop μ-loop
-same-length-2 c = c .before .loop .inv .1 .len
+same-length-2 c = c .before .loop .inv .1 .kept .len
 
 returns-2 : tie.Need-returns-2 Inv-loop μ-loop
-returns-2 c = c .before .loop .inv .1
+returns-2 c = extends-all _ _ _ _ _ _ _ _ _ (c .before .before .before .before .before .before .pre .0 .outputs) (eqb-true _ 127) (c .before .loop .inv .1)
 
 pub sweeps-spec : {M : Type 1} → statement M
 sweeps-spec =

@@ -45,18 +45,16 @@ fn environment(m: usize, n: usize, letters: &[u8], buf: &[u8], t: usize) -> u64
     current + 65536 * (earlier + 65536 * later)
 }
 
-// Makes bit s of byte i the value v; whether that changed it.
+// Makes bit s of byte i the value v; whether that changed it. The byte is stored in any case: no processor foretells what the values are.
 fn put_bit(buf: &mut [u8], i: usize, s: usize, v: bool) -> bool
     requires { ⌜ (i < length (now buf)) × (s < 8) ⌝ }
     ensures { λ r. ⌜ BitPut i s v (now (buf .entry)) (now (buf .exit)) r ⌝ }
 {
     let old = buf[i];
     let was = (old >> s) % 2 == 1;
-    if was == v {
-        return false;
-    }
-    buf[i] = old ^ (1u8 << s);
-    true
+    let flip: u8 = if was == v { 0 } else { 1 };
+    buf[i] = old ^ (flip << s);
+    flip == 1
 }
 
 // Works out output s in round t anew; whether that changed it.

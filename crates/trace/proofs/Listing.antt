@@ -1,13 +1,14 @@
 -- The order of a sweep, found entry by entry. Assumes nothing.
-use mathlib.Core.Path.{_≡_, sym, _∙_}
-use mathlib.Core.Logic.{_⊎_, inl, inr, ⊎-elim}
-use mathlib.Core.Bool.{Bool, true, false, true≢false}
+use mathlib.Core.Path.{_≡_, _∙_}
+use mathlib.Core.Logic.{_⊎_, ⊎-elim}
+use mathlib.Core.Bool.{Bool, true, false}
 use mathlib.Core.List.{List}
 use Prim.Native.Nat.{ℕ, _+_, _-_, _*_, _/_, _%_, _≤_, _<_}
 use native.Mathlib.Omega.{arith}
-use native.Mathlib.Decide.{ℕ-discrete, decLt}
+use native.Mathlib.Decide.{decLt}
 use lib.ListN.{length, getD, set, length-set}
 use lib.Seq.{getD-set-same, getD-set-other}
+use Rattle.circular.proofs.Fill.{fill-more}
 use Rattle.trace.specs.Order.{Bounded, inSweep, RoundIn, Due, Listed, Ordered}
 
 -- the outputs s with 7 * place + s below i are listed
@@ -81,11 +82,8 @@ module _ (lead : List ℕ) (n i : ℕ) (outputs : List ℕ) (count : ℕ) (n-le 
 
       -- a fact of the entries before and of the new one
       each : (P : ℕ → Type 0) → ((p : ℕ) → p < count → P (getD outputs p 0)) → P (i % 7) → (p : ℕ) → p < count + 1 → P (getD new p 0)
-      each P f x p h = go (decLt p count)
-        where
-          go : Dec (p < count) → P (getD new p 0)
-          go (yes k) = rw (kept p k) (f p k)
-          go (no k) = let e : p ≡ count = omega arith in rw (e, last) x
+      unfolding new
+      each P f x = fill-more (λ p s. P s) outputs count (i % 7) (omega (arith, l .few, l .room)) x f
 
       pub listing-push : Listing lead n (i + 1) (set outputs count (i % 7)) (count + 1)
       unfolding new
@@ -101,9 +99,6 @@ module _ (lead : List ℕ) (n i : ℕ) (outputs : List ℕ) (count : ℕ) (n-le 
             all = λ s h b k. found s h b k (decLt (7 * (getD lead s 0 % 8) + s) i);
           }
         where
-          place : ℕ → ℕ
-          place s = getD lead s 0 % 8
-
           go : (p r : ℕ) → p ≤ r → r < count + 1 → Dec (r < count) → Dec (p < count) → getD lead (getD new p 0) 0 % 8 ≤ getD lead (getD new r 0) 0 % 8
           go p r h k (yes x) y = let z : p < count = omega arith in rw (kept p z, kept r x) (l .rising p r h x)
           go p r h k (no x) (yes y) =

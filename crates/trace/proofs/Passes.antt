@@ -8,7 +8,7 @@ use native.Mathlib.Omega.{arith}
 use native.Mathlib.Decide.{ℕ-discrete, decLt}
 use lib.ListN.{length, getD}
 use Rattle.words.specs.Bits.{bit}
-use Rattle.circular.specs.Places.{Values, Place, Reads, Solves, RightAt, Right}
+use Rattle.circular.specs.Places.{Assignment, Place, Reads, Solves, RightAt, Right}
 use Rattle.circular.proofs.Sweep.{fresh-right}
 use Rattle.trace.specs.Passes.{valuesOf, RoundBytes, BitPut, Kept, Renewed, Passed}
 
@@ -31,7 +31,7 @@ pub kept-then : {n : ℕ} {old mid new : List ℕ} → Kept n old mid → Kept n
 kept-then p q = record { len = q .len ∙ p .len; below = λ b. q .below (p .below b) }
 
 -- a bit that was put is a place worked out anew
-module _ (n : ℕ) (f : Values → Values) (s t : ℕ) (v : Bool) (old new : List ℕ) (changed : Bool) (put : BitPut (t - 1) s v old new changed)
+module _ (n : ℕ) (f : Assignment → Assignment) (s t : ℕ) (v : Bool) (old new : List ℕ) (changed : Bool) (put : BitPut (t - 1) s v old new changed)
     (low : 1 ≤ t) (in-n : s < n) (right : v ≡ f (valuesOf old) s t) where
   byte : ((i : ℕ) → i < length old → getD old i 0 < 2 ^ n) → (i : ℕ) → i < length new → Dec (i ≡ t - 1) → getD new i 0 < 2 ^ n
   byte b i l (yes e) = rw e (put .below n in-n (b (t - 1) (omega (arith, put .len))))
@@ -50,16 +50,16 @@ module _ (n : ℕ) (f : Values → Values) (s t : ℕ) (v : Bool) (old new : Lis
         others = λ q u l h. other q u l h (ℕ-discrete (u - 1) (t - 1));
       }
 
-pub kept-of : {n N : ℕ} {f : Values → Values} {P : ℕ → ℕ → Type 0} {old new : List ℕ} {changed : Bool} → Passed n N f P old new changed → Kept n old new
+pub kept-of : {n N : ℕ} {f : Assignment → Assignment} {P : ℕ → ℕ → Type 0} {old new : List ℕ} {changed : Bool} → Passed n N f P old new changed → Kept n old new
 kept-of p = record { len = p .len; below = p .below }
 
-pub bytes-after : {m n N : ℕ} {f : Values → Values} {P : ℕ → ℕ → Type 0} {letters old new : List ℕ} {changed : Bool}
+pub bytes-after : {m n N : ℕ} {f : Assignment → Assignment} {P : ℕ → ℕ → Type 0} {letters old new : List ℕ} {changed : Bool}
     → Passed n N f P old new changed → RoundBytes m n letters old → RoundBytes m n letters new
 bytes-after p = bytes-kept (kept-of p)
 
 -- ---- passes
 
-module _ (n N : ℕ) (f : Values → Values) where
+module _ (n N : ℕ) (f : Assignment → Assignment) where
   -- nothing was refreshed
   pub passed-none : (P : ℕ → ℕ → Type 0) (l : List ℕ) (changed : Bool) → ((s t : ℕ) → Place n N s t → P s t → ⊥) → Passed n N f P l l changed
   passed-none P l changed h =
@@ -123,7 +123,7 @@ module _ (n N : ℕ) (f : Values → Values) where
     fresh : (q u : ℕ) → q ≡ s → u ≡ t → valuesOf new q u ≡ f (valuesOf old) q u
     fresh q u e g = rw (e, g) (one .value)
 
-    at-place : (E : ℕ → ℕ → ℕ → Bool) → Reads n E N f → (sol : Values) → Solves n N f sol → (k : ℕ) → Right n E N sol k (valuesOf old)
+    at-place : (E : ℕ → ℕ → ℕ → Bool) → Reads n E N f → (sol : Assignment) → Solves n N f sol → (k : ℕ) → Right n E N sol k (valuesOf old)
         → (q u : ℕ) → Place n N q u → (j : ℕ) → j ≤ suc k → RightAt n E N sol j (valuesOf old) q u → RightAt n E N sol j (valuesOf new) q u
     at-place E local sol good k r q u pl j h x =
         ⊎-elim

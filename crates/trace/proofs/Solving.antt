@@ -7,22 +7,22 @@ use native.Mathlib.Numerals.{add-one}
 use native.Mathlib.Nat.{mul-le-mul}
 use lib.ListN.{length, getD}
 use Rattle.circular.specs.Table.{readsOf}
-use Rattle.circular.specs.Places.{Values, Reads, Solves, Right}
+use Rattle.circular.specs.Places.{Assignment, Reads, Solves, Right}
 use Rattle.circular.proofs.Unique.{run, solution}
 use Rattle.circular.proofs.Sweep.{right-start, right-end, solves-of}
 use Rattle.trace.proofs.Passes.{bytes-kept}
 use Rattle.trace.specs.Passes.{valuesOf, RoundBytes, Kept, Passed, Extends, Solved}
 
 -- k passes are done
-pub record Going (n N : ℕ) (f : Values → Values) (old new : List ℕ) (k : ℕ) : Type 0 where
+pub record Going (n N : ℕ) (f : Assignment → Assignment) (old new : List ℕ) (k : ℕ) : Type 0 where
   pub len : length new ≡ length old
   pub below : ((i : ℕ) → i < length old → getD old i 0 < 2 ^ n) → (i : ℕ) → i < length new → getD new i 0 < 2 ^ n
-  pub right : (E : ℕ → ℕ → ℕ → Bool) → Reads n E N f → (sol : Values) → Solves n N f sol → Right n E N sol k (valuesOf new)
+  pub right : (E : ℕ → ℕ → ℕ → Bool) → Reads n E N f → (sol : Assignment) → Solves n N f sol → Right n E N sol k (valuesOf new)
 
-pub bytes-going : {m n N : ℕ} {f : Values → Values} {letters old new : List ℕ} {k : ℕ} → Going n N f old new k → RoundBytes m n letters old → RoundBytes m n letters new
+pub bytes-going : {m n N : ℕ} {f : Assignment → Assignment} {letters old new : List ℕ} {k : ℕ} → Going n N f old new k → RoundBytes m n letters old → RoundBytes m n letters new
 bytes-going p = bytes-kept (record { len = p .len; below = p .below })
 
-module _ (n N : ℕ) (f : Values → Values) (old : List ℕ) where
+module _ (n N : ℕ) (f : Assignment → Assignment) (old : List ℕ) where
   pub going-start : Going n N f old old 0
   going-start =
       record { len = refl; below = λ b. b; right = λ E local sol good. right-start n E N sol (valuesOf old) }
@@ -52,7 +52,7 @@ module _ (n N : ℕ) (f : Values → Values) (old : List ℕ) where
         len = g .len;
         below = g .below;
         holds = λ E local level.
-            let sol : Values = run f (n * N) in
+            let sol : Assignment = run f (n * N) in
             let good : Solves n N f sol = solution n E N f local level in
             solves-of n E N f local sol (valuesOf new) good
             (right-end n E N sol level (valuesOf new) (subst (λ (j : ℕ). Right n E N sol j (valuesOf new)) e (g .right E local sol good)));
@@ -63,18 +63,18 @@ pub most-small : (n N : ℕ) → n ≤ 7 → N ≤ 4096 → n * N ≤ 28672
 most-small n N h k = mul-le-mul {n₁ = n} {m₁ = N} {n₂ = 7} {m₂ = 4096} h k
 
 -- solved from a buffer that was kept
-pub solved-after : {n N : ℕ} {f : Values → Values} {old mid new : List ℕ} → Kept n old mid → Solved n N f mid new → Solved n N f old new
+pub solved-after : {n N : ℕ} {f : Assignment → Assignment} {old mid new : List ℕ} → Kept n old mid → Solved n N f mid new → Solved n N f old new
 solved-after k x = record { len = x .len ∙ k .len; below = λ b. x .below (k .below b); holds = x .holds }
 
 -- all places are right
-pub solved-all : {n N : ℕ} {f : Values → Values} {masks : List ℕ} {all : Bool} {old new : List ℕ} → Extends n N f masks (λ q u. ⊥) (λ q u. all ≡ true) old new
+pub solved-all : {n N : ℕ} {f : Assignment → Assignment} {masks : List ℕ} {all : Bool} {old new : List ℕ} → Extends n N f masks (λ q u. ⊥) (λ q u. all ≡ true) old new
     → Reads n (readsOf masks) N f → all ≡ true → Solved n N f old new
 solved-all {n} {N} {f} {new = new} x reads e =
     record {
       len = x .kept .len;
       below = x .kept .below;
       holds = λ E local level.
-          let sol : Values = run f (n * N) in
+          let sol : Assignment = run f (n * N) in
           let good : Solves n N f sol = solution n E N f local level in
           solves-of n E N f local sol (valuesOf new) good (λ s t pl. x .right reads sol good (λ q u p z. absurd z) s t pl e);
     }

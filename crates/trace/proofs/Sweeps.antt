@@ -3,7 +3,7 @@ use mathlib.Core.Path.{_≡_, refl, sym, ap, _∙_}
 use mathlib.Core.Logic.{_⊎_, inl, inr, ⊎-elim}
 use mathlib.Core.Bool.{Bool, true, false, true≢false}
 use mathlib.Core.List.{List}
-use Prim.Native.Nat.{ℕ, _+_, _-_, _*_, _/_, _%_, _≤_, _<_}
+use Prim.Native.Nat.{ℕ, _+_, _*_, _/_, _%_, _≤_, _<_}
 use native.Mathlib.Omega.{arith}
 use native.Mathlib.Decide.{ℕ-discrete, decLt}
 use lib.ListN.{getD}
@@ -11,13 +11,13 @@ use Rattle.words.specs.Bits.{bit}
 use Rattle.words.proofs.BitLaws.{bit-none, bit-all}
 use Rattle.circular.specs.Circular.{Read}
 use Rattle.circular.specs.Table.{readsOf}
-use Rattle.circular.specs.Places.{Values, Place, Reads, Solves}
+use Rattle.circular.specs.Places.{Assignment, Place, Reads, Solves}
 use Rattle.trace.specs.Order.{Bounded, inSweep, toward, Steady, Settled, RoundIn, Listed, Ordered, InSet, Done, Known}
-use Rattle.trace.specs.Passes.{valuesOf, Kept, Renewed, RightOn, Extends, Sweeps}
+use Rattle.trace.specs.Passes.{valuesOf, Renewed, RightOn, Extends, Sweeps}
 use Rattle.trace.proofs.Passes.{kept-none, kept-then}
 use Rattle.trace.proofs.Listing.{in-sweep}
 
-module _ (n N : ℕ) (f : Values → Values) (lead : List ℕ) (up : Bool) where
+module _ (n N : ℕ) (f : Assignment → Assignment) (lead : List ℕ) (up : Bool) where
   -- nothing was refreshed
   pub sweeps-none : (P Q : ℕ → ℕ → ℕ → Type 0) (l : List ℕ) → ((w q u : ℕ) → Place n N q u → Q w q u → P w q u) → Sweeps n N f lead up P Q l l
   sweeps-none P Q l h = record { kept = kept-none n l; right = λ masks w steady local sol good r q u pl x. r q u pl (h w q u pl x) }
@@ -40,7 +40,7 @@ module _ (n N : ℕ) (f : Values → Values) (lead : List ℕ) (up : Bool) where
       pl-st : Place n N s t
       pl-st = record { s-lt = s-lt; t-low = low; t-high = high }
 
-      new-right : (masks : List ℕ) (w : ℕ) → Steady masks lead n up w → Reads n (readsOf masks) N f → (sol : Values) → Solves n N f sol
+      new-right : (masks : List ℕ) (w : ℕ) → Steady masks lead n up w → Reads n (readsOf masks) N f → (sol : Assignment) → Solves n N f sol
           → RightOn n N sol (P w) (valuesOf old) → valuesOf new s t ≡ sol s t
       new-right masks w steady local sol good r =
           one .value
@@ -48,7 +48,7 @@ module _ (n N : ℕ) (f : Values → Values) (lead : List ℕ) (up : Bool) where
           (λ q u x. r q u (record { s-lt = x .edge .to; t-low = x .u-low; t-high = x .u-high }) (reads masks w steady q u x))
           ∙ sym (good .all s t pl-st)
 
-      go : (masks : List ℕ) (w : ℕ) → Steady masks lead n up w → Reads n (readsOf masks) N f → (sol : Values) → Solves n N f sol
+      go : (masks : List ℕ) (w : ℕ) → Steady masks lead n up w → Reads n (readsOf masks) N f → (sol : Assignment) → Solves n N f sol
           → RightOn n N sol (P w) (valuesOf old) → (q u : ℕ) → Place n N q u → Dec (q ≡ s) → Dec (u ≡ t) → Q w q u → valuesOf new q u ≡ sol q u
       go masks w steady local sol good r q u pl (yes e) (yes g) x = rw (e, g) (new-right masks w steady local sol good r)
       go masks w steady local sol good r q u pl (yes e) (no g) x =
@@ -65,7 +65,7 @@ in-same : (up : Bool) (N t u : ℕ) → t ≤ N → u ≤ N → inSweep up N u �
 in-same true N t u h k e = e
 in-same false N t u h k e = omega arith
 
-module _ (n N : ℕ) (f : Values → Values) (lead : List ℕ) (up : Bool) (outputs : List ℕ) (count block : ℕ) (order : Ordered lead n outputs count) where
+module _ (n N : ℕ) (f : Assignment → Assignment) (lead : List ℕ) (up : Bool) (outputs : List ℕ) (count block : ℕ) (order : Ordered lead n outputs count) where
   -- output s is the next of the block
   module _ (p s : ℕ) (p-lt : p < count) (is : getD outputs p 0 ≡ s) where
     below : s < n
@@ -172,7 +172,7 @@ module _ (n N : ℕ) (f : Values → Values) (lead : List ℕ) (up : Bool) (outp
       none w q u pl (inl x) = x
       none w q u pl (inr b) = let y = order .all q (pl .s-lt) b in absurd (omega (arith, y .inside))
 
-pub sweep-start : (n N : ℕ) (f : Values → Values) (lead : List ℕ) (up : Bool) (outputs l : List ℕ) → Sweeps n N f lead up InSet (Done lead up N outputs 1 0) l l
+pub sweep-start : (n N : ℕ) (f : Assignment → Assignment) (lead : List ℕ) (up : Bool) (outputs l : List ℕ) → Sweeps n N f lead up InSet (Done lead up N outputs 1 0) l l
 sweep-start n N f lead up outputs l =
     sweeps-none n N f lead up _ _ l first
   where
@@ -183,7 +183,7 @@ sweep-start n N f lead up outputs l =
 
 -- ---- settled outputs
 
-module _ (n N : ℕ) (f : Values → Values) (masks : List ℕ) where
+module _ (n N : ℕ) (f : Assignment → Assignment) (masks : List ℕ) where
   pub extends-start : (P : ℕ → ℕ → Type 0) (l : List ℕ) → Extends n N f masks P (InSet 0) l l
   extends-start P l = record { kept = kept-none n l; right = λ local sol good r q u pl e. absurd (true≢false (sym e ∙ bit-none q)) }
 

@@ -22,8 +22,8 @@ use Rattle.lola.specs.Equations.{Satisfies, Letters, joined}
 use Rattle.circular.specs.Circular.{Read, Circular, CircularSheet, edges}
 use Rattle.circular.specs.Masks.{Tells}
 use Rattle.circular.specs.Table.{readsOf}
-use Rattle.circular.specs.Places.{Values, lookAt, right, Reads, Solves}
-use Rattle.circular.proofs.Values.{rightOf, right-reads}
+use Rattle.circular.specs.Places.{Assignment, lookAt, right, Reads, Solves}
+use Rattle.circular.proofs.Sides.{rightOf, right-reads}
 use Rattle.circular.proofs.Lists.{inputsBy, outputsBy, joined-trace}
 use Rattle.trace.specs.Evaluated.{OutputsWritten, Evaluated}
 use Rattle.trace.specs.Passes.{valuesOf, sides, Setting, RoundBytes, Solved, Ready, Left}
@@ -46,16 +46,16 @@ module _ (x : Sheet) (u : Usable x) (letters : List ℕ) where
   abbrev n : ℕ
   n = x .outputs
 
-  abbrev f : Values → Values
+  abbrev f : Assignment → Assignment
   f = sides (x .inputs) (x .outputs) (x .code) (x .len) letters
 
-  abbrev g : Values → Values
+  abbrev g : Assignment → Assignment
   g = rightOf (ruleSheet x) (length letters) (inputsBy letters)
 
   count : outputs (ruleSheet x) ≡ x .outputs
   count = length-trees (x .inputs + x .outputs) (x .code) (x .len) (x .outputs)
 
-  side-same : (v : Values) (s t : ℕ) → s < n → f v s t ≡ g v s t
+  side-same : (v : Assignment) (s t : ℕ) → s < n → f v s t ≡ g v s t
   unfolding sides right valuesOf
   side-same v s t h =
       ap (value (lookAt (x .inputs) (length letters) (inputsBy letters) v t))
@@ -103,7 +103,7 @@ module _ (x : Sheet) (u : Usable x) (letters : List ℕ) where
   solves-as : (os : List ℕ) → Solves n (length letters) f (valuesOf os) → Solves (outputs (ruleSheet x)) (length letters) g (outputsBy 0 os)
   solves-as os h =
       let a : Solves n (length letters) g (outputsBy 0 os) =
-      subst (λ (v : Values). Solves n (length letters) g v) (bytes-as os)
+      subst (λ (v : Assignment). Solves n (length letters) g v) (bytes-as os)
       (record { all = λ s t pl. h .all s t pl ∙ side-same (valuesOf os) s t (pl .s-lt) })
       in
       subst (λ (k : ℕ). Solves k (length letters) g (outputsBy 0 os)) (sym count) a

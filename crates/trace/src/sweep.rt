@@ -1,4 +1,4 @@
-// Passes over all places, and sweeps in an order that leaves little for the passes to do.
+// Sweeps, which refresh places in the order of their keys, and passes over all places.
 ghost use mathlib.Core.Path.{_≡_};
 ghost use mathlib.Core.Bool.{true};
 ghost use Prim.Native.Nat.{_<_, _≤_};
@@ -13,7 +13,7 @@ use super::order::round_in;
 use super::order::settle;
 use super::place::refresh;
 
-// The set of all seven outputs.
+// The set of all seven outputs. Those that a sheet lacks read nothing, and are settled by the first sweep.
 const ALL: u8 = 127;
 
 // Refreshes the outputs of round t, one after the other.
@@ -212,7 +212,8 @@ fn sweeps(
     settled == ALL
 }
 
-// Fills the buffer so that it satisfies the equations. Passes are there for sheets that the sweeps would leave unsettled; none is known.
+// Fills the buffer so that it satisfies the equations. That the sweeps settle every sheet that isn't circular is not proved, so passes stand
+// behind them.
 pub fn solve(
     code: &[u8],
     len: &[usize],

@@ -54,9 +54,9 @@ loop-again c =
     let r = c .before .before .before .loop .inv .1 in (
       omega arith,
       ⊎-elim
-      (λ w. rw (w .5) (raised-read _ _ _ _ _ _ _ _ r (w .4 .ensures .0) _ (w .3 .ensures) (w .4 .ensures .1)))
-      (λ w. rw (w .1) (raised-settled _ _ _ _ _ _ _ _ r (omega arith) (sym (c .before .is-in .ensures) ∙ not-false _ (w .0 .left))))
-      (c .if1 .came),
+          (λ w. rw (w .5) (raised-read _ _ _ _ _ _ _ _ r (w .4 .ensures .0) _ (w .3 .ensures) (w .4 .ensures .1)))
+          (λ w. rw (w .1) (raised-settled _ _ _ _ _ _ _ _ r (omega arith) (sym (c .before .is-in .ensures) ∙ not-false _ (w .0 .left))))
+          (c .if1 .came),
     )
 
 returns : tie.Need-returns Inv-loop μ-loop

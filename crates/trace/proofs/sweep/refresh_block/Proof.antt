@@ -53,7 +53,7 @@ loop-again c =
     let tried = c .before .before .try-refresh .ensures in (
       omega arith,
       sweeps-then _ _ _ _ _ _ _ _ _ _ _ (l .inv .1)
-      (block-more _ _ _ _ _ _ _ _ (st .pre .2) (l .p) _ (omega arith) refl _ _ _ (c .before .before .before .before .round-in .ensures) (tried .0) (tried .1)),
+          (block-more _ _ _ _ _ _ _ _ (st .pre .2) (l .p) _ (omega arith) refl _ _ _ (c .before .before .before .before .round-in .ensures) (tried .0) (tried .1)),
     )
 
 same-length : tie.Need-same-length Inv-loop μ-loop

@@ -50,13 +50,6 @@ module _ (n : ℕ) (f : Assignment → Assignment) (s t : ℕ) (v : Bool) (old n
         others = λ q u l h. other q u l h (ℕ-discrete (u - 1) (t - 1));
       }
 
-pub kept-of : {n N : ℕ} {f : Assignment → Assignment} {P : ℕ → ℕ → Type 0} {old new : List ℕ} {changed : Bool} → Passed n N f P old new changed → Kept n old new
-kept-of p = record { len = p .len; below = p .below }
-
-pub bytes-after : {m n N : ℕ} {f : Assignment → Assignment} {P : ℕ → ℕ → Type 0} {letters old new : List ℕ} {changed : Bool}
-    → Passed n N f P old new changed → RoundBytes m n letters old → RoundBytes m n letters new
-bytes-after p = bytes-kept (kept-of p)
-
 -- ---- passes
 
 module _ (n N : ℕ) (f : Assignment → Assignment) where
@@ -64,8 +57,7 @@ module _ (n N : ℕ) (f : Assignment → Assignment) where
   pub passed-none : (P : ℕ → ℕ → Type 0) (l : List ℕ) (changed : Bool) → ((s t : ℕ) → Place n N s t → P s t → ⊥) → Passed n N f P l l changed
   passed-none P l changed h =
       record {
-        len = refl;
-        below = λ b. b;
+        kept = kept-none n l;
         hold = λ E local sol good k r. r;
         keep = λ E local sol good k r s t pl x. x;
         further = λ E local sol good k r s t pl x. absurd (h s t pl x);
@@ -78,8 +70,7 @@ module _ (n N : ℕ) (f : Assignment → Assignment) where
       → Passed n N f P old new changed → Passed n N f R old new changed
   passed-as P R old new changed h p =
       record {
-        len = p .len;
-        below = p .below;
+        kept = p .kept;
         hold = p .hold;
         keep = p .keep;
         further = λ E local sol good k r s t pl x. p .further E local sol good k r s t pl (h s t pl x);
@@ -92,8 +83,7 @@ module _ (n N : ℕ) (f : Assignment → Assignment) where
       → (c ≡ false → (a ≡ false) × (b ≡ false)) → Passed n N f P old mid a → Passed n N f Q mid new b → Passed n N f R old new c
   passed-then P Q R old mid new a b c h g p q =
       record {
-        len = q .len ∙ p .len;
-        below = λ x. q .below (p .below x);
+        kept = kept-then (p .kept) (q .kept);
         hold = λ E local sol good k r. q .hold E local sol good k (p .hold E local sol good k r);
         keep = λ E local sol good k r s t pl x.
             q .keep E local sol good k (p .hold E local sol good k r) s t pl (p .keep E local sol good k r s t pl x);
@@ -134,8 +124,7 @@ module _ (n N : ℕ) (f : Assignment → Assignment) where
     pub passed-one : Passed n N f (λ q u. (q ≡ s) × (u ≡ t)) old new changed
     passed-one =
         record {
-          len = one .kept .len;
-          below = one .kept .below;
+          kept = one .kept;
           hold = λ E local sol good k r. record { all = λ q u pl. at-place E local sol good k r q u pl k (omega arith) (r .all q u pl) };
           keep = λ E local sol good k r q u pl x. at-place E local sol good k r q u pl (suc k) (omega arith) x;
           further = λ E local sol good k r q u pl e.

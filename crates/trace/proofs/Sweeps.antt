@@ -31,7 +31,7 @@ module _ (n N : ℕ) (f : Assignment → Assignment) (lead : List ℕ) (up : Boo
       }
 
   -- one place, which reads places of P
-  pub sweeps-one : (P Q : ℕ → ℕ → ℕ → Type 0) (s t : ℕ) (old new : List ℕ) → s < n → 1 ≤ t → t ≤ N → Renewed n f s t old new
+  sweeps-one : (P Q : ℕ → ℕ → ℕ → Type 0) (s t : ℕ) (old new : List ℕ) → s < n → 1 ≤ t → t ≤ N → Renewed n f s t old new
       → ((masks : List ℕ) (w : ℕ) → Steady masks lead n up w → (q u : ℕ) → Read n (readsOf masks) N s t q u → P w q u)
       → ((w q u : ℕ) → Place n N q u → Q w q u → P w q u ⊎ ((q ≡ s) × (u ≡ t))) → Sweeps n N f lead up P Q old new
   sweeps-one P Q s t old new s-lt low high one reads adds =

@@ -152,10 +152,10 @@ module _ (x : Sheet) (u : Usable x) (letters out c : List ℕ) (ready : Ready (x
   module _ (level : CircularSheet (ruleSheet x) → ⊥) (a : List ℕ)
       (solved : Solved (x .outputs) (length letters) (sides (x .inputs) (x .outputs) (x .code) (x .len) letters) (take (length letters) (c ++ drop (length letters) out)) a) where
     whole : length a ≡ length letters
-    whole = solved .len ∙ bytes-start .same
+    whole = solved .kept .len ∙ bytes-start .same
 
     below : (i : ℕ) → i < length a → getD a i 0 < 2 ^ x .outputs
-    below = solved .below (bytes-start .bytes-below)
+    below = solved .kept .below (bytes-start .bytes-below)
 
     pub written-of : OutputsWritten (ruleSheet x) letters out (a ++ drop (length letters) (c ++ drop (length letters) out))
     written-of =

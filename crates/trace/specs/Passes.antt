@@ -85,8 +85,7 @@ pub record Renewed (n : ℕ) (f : Assignment → Assignment) (s t : ℕ) (old ne
 -- The places of P were refreshed, and others maybe. What was right stays right; the places of P come one read further; and where
 -- nothing changed, the equations hold at the places of P.
 pub record Passed (n N : ℕ) (f : Assignment → Assignment) (P : ℕ → ℕ → Type 0) (old new : List ℕ) (changed : Bool) : Type 0 where
-  pub len : length new ≡ length old
-  pub below : ((i : ℕ) → i < length old → getD old i 0 < 2 ^ n) → (i : ℕ) → i < length new → getD new i 0 < 2 ^ n
+  pub kept : Kept n old new
   pub hold : (E : ℕ → ℕ → ℕ → Bool) → Reads n E N f → (sol : Assignment) → Solves n N f sol → (k : ℕ)
       → Right n E N sol k (valuesOf old) → Right n E N sol k (valuesOf new)
   pub keep : (E : ℕ → ℕ → ℕ → Bool) → Reads n E N f → (sol : Assignment) → Solves n N f sol → (k : ℕ)
@@ -118,8 +117,7 @@ pub record Sweeps (n N : ℕ) (f : Assignment → Assignment) (lead : List ℕ) 
 
 -- the buffer satisfies the equations, if the reads between the outputs are not circular
 pub record Solved (n N : ℕ) (f : Assignment → Assignment) (old new : List ℕ) : Type 0 where
-  pub len : length new ≡ length old
-  pub below : ((i : ℕ) → i < length old → getD old i 0 < 2 ^ n) → (i : ℕ) → i < length new → getD new i 0 < 2 ^ n
+  pub kept : Kept n old new
   pub holds : (E : ℕ → ℕ → ℕ → Bool) → Reads n E N f → (Circular n E → ⊥) → Solves n N f (valuesOf new)
 
 -- the first letter that isn't below 2 ^ m

@@ -5,7 +5,8 @@ use mathlib.Core.Path.{_∙_}
 use borrow.Author.Tests.{not-true}
 use lib.ListN.{length}
 use Rattle.trace.specs.Passes.{sides}
-use Rattle.trace.proofs.Solving.{Going, going-start, going-more, going-quiet, going-end, bytes-going, most-small}
+use Rattle.trace.proofs.Passes.{bytes-kept}
+use Rattle.trace.proofs.Solving.{Going, going-start, going-more, going-quiet, going-end, most-small}
 use Rattle.trace.proofs.sweep.passes.Statement.{statement}
 use Rattle.trace.proofs.sweep.passes.Tie as tie
 
@@ -24,10 +25,10 @@ loop-holds : tie.Need-loop-holds Inv-loop μ-loop
 loop-holds c = (omega arith, going-start _ _ _ _)
 
 pass-requires : tie.Need-pass-requires Inv-loop μ-loop
-pass-requires c κs = let st = c .before .before .before .before .before .before .before in (st .pre .0, bytes-going (c .before .before .loop .inv .1) (st .pre .1))
+pass-requires c κs = let st = c .before .before .before .before .before .before .before in (st .pre .0, bytes-kept (c .before .before .loop .inv .1 .kept) (st .pre .1))
 
 same-length : tie.Need-same-length Inv-loop μ-loop
-same-length c = c .before .before .before .pass .ensures .len ∙ c .before .before .before .before .before .before .loop .inv .1 .len
+same-length c = c .before .before .before .pass .ensures .kept .len ∙ c .before .before .before .before .before .before .loop .inv .1 .kept .len
 
 returns : tie.Need-returns Inv-loop μ-loop
 returns c = going-quiet _ _ _ _ _ _ _ _ (c .before .before .before .before .before .before .loop .inv .1) (c .before .before .before .pass .ensures) (not-true _ (c .if1 .taken))
@@ -44,7 +45,7 @@ loop-again : tie.Need-loop-again Inv-loop μ-loop
 loop-again c = (omega arith, going-more _ _ _ _ _ _ _ _ (c .before .before .before .before .before .before .loop .inv .1) (c .before .before .before .pass .ensures))
 
 same-length-2 : tie.Need-same-length-2 Inv-loop μ-loop
-same-length-2 c = c .before .loop .inv .1 .len
+same-length-2 c = c .before .loop .inv .1 .kept .len
 
 returns-2 : tie.Need-returns-2 Inv-loop μ-loop
 returns-2 c = going-end _ _ _ _ _ _ (omega arith) (c .before .loop .inv .1)

@@ -50,10 +50,12 @@ loop-again : tie.Need-loop-again Inv-loop μ-loop
 loop-again c =
     let st = c .before .before .before .before .before .before .before .before .before .before .before .before .before in
     let l = c .before .before .before .before .before .before .before .before .loop in
+    let a = st .args in
+    let f = sides (a .m) (a .n) (a .code .now) (a .len .now) (a .letters .now) in
     let tried = c .before .before .try-refresh .ensures in (
       omega arith,
       sweeps-then _ _ _ _ _ _ _ _ _ _ _ (l .inv .1)
-          (block-more _ _ _ _ _ _ _ _ (st .pre .2) (l .p) _ (omega arith) refl _ _ _ (c .before .before .before .before .round-in .ensures) (tried .0) (tried .1)),
+          (block-more _ _ f _ _ _ _ _ (st .pre .2) (l .p) _ (omega arith) refl _ _ _ (c .before .before .before .before .round-in .ensures) (tried .0) (tried .1)),
     )
 
 same-length : tie.Need-same-length Inv-loop μ-loop

@@ -4,7 +4,7 @@ use mathlib.Core.Bool.{true≢false}
 use mathlib.Core.Logic.{⊎-elim}
 use lib.ListN.{length}
 use Rattle.trace.specs.Passes.{Passed, sides}
-use Rattle.trace.proofs.Passes.{passed-none, passed-then, passed-as, passed-one, bytes-after, next-place}
+use Rattle.trace.proofs.Passes.{passed-none, passed-then, passed-as, passed-one, bytes-kept, next-place}
 use native.Mathlib.Omega.{arith}
 use Prim.Native.Nat.{_-_, _≤_, _<_}
 use Rattle.trace.proofs.sweep.refresh_round.Statement.{statement}
@@ -20,7 +20,7 @@ loop-holds : tie.Need-loop-holds Inv-loop μ-loop
 loop-holds c = (omega arith, passed-none _ _ _ _ _ _ (λ q u pl h. omega (arith, h .0)))
 
 refresh-requires : tie.Need-refresh-requires Inv-loop μ-loop
-refresh-requires c κs = let st = c .before .before .before .before .before .before .before in (st .pre .0, bytes-after (c .before .before .loop .inv .1) (st .pre .1), omega arith, st .pre .2, st .pre .3)
+refresh-requires c κs = let st = c .before .before .before .before .before .before .before in (st .pre .0, bytes-kept (c .before .before .loop .inv .1 .kept) (st .pre .1), omega arith, st .pre .2, st .pre .3)
 
 add-s : tie.Need-add-s Inv-loop μ-loop
 add-s c = omega arith
@@ -37,7 +37,7 @@ loop-again c = (
 )
 
 same-length : tie.Need-same-length Inv-loop μ-loop
-same-length c = c .before .loop .inv .1 .len
+same-length c = c .before .loop .inv .1 .kept .len
 
 returns : tie.Need-returns Inv-loop μ-loop
 returns c = passed-as _ _ _ _ _ _ _ _ (λ q u pl h. (omega (arith, pl .s-lt), h)) (c .before .loop .inv .1)

@@ -50,6 +50,15 @@ module _ (n : ℕ) (f : Assignment → Assignment) (s t : ℕ) (v : Bool) (old n
         others = λ q u l h. other q u l h (ℕ-discrete (u - 1) (t - 1));
       }
 
+pub renewed-or-kept : {n : ℕ} {f : Assignment → Assignment} {s t : ℕ} {old new : List ℕ} → Renewed n f s t old new → (q u : ℕ) → 1 ≤ u
+    → ((q ≡ s) × (u ≡ t)) ⊎ (valuesOf new q u ≡ valuesOf old q u)
+renewed-or-kept {s = s} {t = t} {old = old} {new = new} one q u l = go (ℕ-discrete q s) (ℕ-discrete u t)
+  where
+    go : Dec (q ≡ s) → Dec (u ≡ t) → ((q ≡ s) × (u ≡ t)) ⊎ (valuesOf new q u ≡ valuesOf old q u)
+    go (yes e) (yes g) = inl (e, g)
+    go (yes e) (no g) = inr (one .others q u l (λ h. g (h .1)))
+    go (no e) d = inr (one .others q u l (λ h. e (h .0)))
+
 -- ---- passes
 
 module _ (n N : ℕ) (f : Assignment → Assignment) where
@@ -102,14 +111,6 @@ module _ (n N : ℕ) (f : Assignment → Assignment) where
 
   -- one place
   module _ (s t : ℕ) (old new : List ℕ) (changed : Bool) (one : Renewed n f s t old new) (same : changed ≡ false → new ≡ old) where
-    which : (q u : ℕ) → 1 ≤ u → ((q ≡ s) × (u ≡ t)) ⊎ (valuesOf new q u ≡ valuesOf old q u)
-    which q u l = go (ℕ-discrete q s) (ℕ-discrete u t)
-      where
-        go : Dec (q ≡ s) → Dec (u ≡ t) → ((q ≡ s) × (u ≡ t)) ⊎ (valuesOf new q u ≡ valuesOf old q u)
-        go (yes e) (yes g) = inl (e, g)
-        go (yes e) (no g) = inr (one .others q u l (λ h. g (h .1)))
-        go (no e) d = inr (one .others q u l (λ h. e (h .0)))
-
     fresh : (q u : ℕ) → q ≡ s → u ≡ t → valuesOf new q u ≡ f (valuesOf old) q u
     fresh q u e g = rw (e, g) (one .value)
 
@@ -119,7 +120,7 @@ module _ (n N : ℕ) (f : Assignment → Assignment) where
         ⊎-elim
         (λ e. fresh-right n E N f local sol good k (valuesOf old) (valuesOf new) r q u pl j h (fresh q u (e .0) (e .1)))
         (λ e nc. e ∙ x nc)
-        (which q u (pl .t-low))
+        (renewed-or-kept one q u (pl .t-low))
 
     pub passed-one : Passed n N f (λ q u. (q ≡ s) × (u ≡ t)) old new changed
     passed-one =

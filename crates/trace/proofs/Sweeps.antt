@@ -14,7 +14,7 @@ use Rattle.circular.specs.Table.{readsOf}
 use Rattle.circular.specs.Places.{Assignment, Place, Reads, Solves}
 use Rattle.trace.specs.Order.{Bounded, inSweep, toward, Steady, Settled, RoundIn, Listed, Ordered, InSet, Done, Known}
 use Rattle.trace.specs.Passes.{valuesOf, Renewed, RightOn, Extends, Sweeps}
-use Rattle.trace.proofs.Passes.{kept-none, kept-then}
+use Rattle.trace.proofs.Passes.{kept-none, kept-then, renewed-or-kept}
 use Rattle.trace.proofs.Listing.{in-sweep}
 
 module _ (n N : ℕ) (f : Assignment → Assignment) (lead : List ℕ) (up : Bool) where
@@ -31,30 +31,25 @@ module _ (n N : ℕ) (f : Assignment → Assignment) (lead : List ℕ) (up : Boo
       }
 
   -- one place, which reads places of P
-  sweeps-one : (P Q : ℕ → ℕ → ℕ → Type 0) (s t : ℕ) (old new : List ℕ) → s < n → 1 ≤ t → t ≤ N → Renewed n f s t old new
-      → ((masks : List ℕ) (w : ℕ) → Steady masks lead n up w → (q u : ℕ) → Read n (readsOf masks) N s t q u → P w q u)
-      → ((w q u : ℕ) → Place n N q u → Q w q u → P w q u ⊎ ((q ≡ s) × (u ≡ t))) → Sweeps n N f lead up P Q old new
-  sweeps-one P Q s t old new s-lt low high one reads adds =
-      record { kept = one .kept; right = λ masks w steady local sol good r q u pl x. go masks w steady local sol good r q u pl (ℕ-discrete q s) (ℕ-discrete u t) x }
-    where
-      pl-st : Place n N s t
-      pl-st = record { s-lt = s-lt; t-low = low; t-high = high }
+  module _ (P : ℕ → ℕ → ℕ → Type 0) (s t : ℕ) (old new : List ℕ) (at : Place n N s t) (one : Renewed n f s t old new)
+      (reads : (masks : List ℕ) (w : ℕ) → Steady masks lead n up w → (q u : ℕ) → Read n (readsOf masks) N s t q u → P w q u) where
+    fresh : (masks : List ℕ) (w : ℕ) → Steady masks lead n up w → Reads n (readsOf masks) N f → (sol : Assignment) → Solves n N f sol
+        → RightOn n N sol (P w) (valuesOf old) → (q u : ℕ) → (q ≡ s) × (u ≡ t) → valuesOf new q u ≡ sol q u
+    fresh masks w steady local sol good r q u e =
+        rw (e .0, e .1)
+        (one .value
+        ∙ local .only (valuesOf old) sol s t at
+        (λ q u x. r q u (record { s-lt = x .edge .to; t-low = x .u-low; t-high = x .u-high }) (reads masks w steady q u x))
+        ∙ sym (good .all s t at))
 
-      new-right : (masks : List ℕ) (w : ℕ) → Steady masks lead n up w → Reads n (readsOf masks) N f → (sol : Assignment) → Solves n N f sol
-          → RightOn n N sol (P w) (valuesOf old) → valuesOf new s t ≡ sol s t
-      new-right masks w steady local sol good r =
-          one .value
-          ∙ local .only (valuesOf old) sol s t pl-st
-          (λ q u x. r q u (record { s-lt = x .edge .to; t-low = x .u-low; t-high = x .u-high }) (reads masks w steady q u x))
-          ∙ sym (good .all s t pl-st)
-
-      go : (masks : List ℕ) (w : ℕ) → Steady masks lead n up w → Reads n (readsOf masks) N f → (sol : Assignment) → Solves n N f sol
-          → RightOn n N sol (P w) (valuesOf old) → (q u : ℕ) → Place n N q u → Dec (q ≡ s) → Dec (u ≡ t) → Q w q u → valuesOf new q u ≡ sol q u
-      go masks w steady local sol good r q u pl (yes e) (yes g) x = rw (e, g) (new-right masks w steady local sol good r)
-      go masks w steady local sol good r q u pl (yes e) (no g) x =
-          one .others q u (pl .t-low) (λ h. g (h .1)) ∙ ⊎-elim (λ y. r q u pl y) (λ y. absurd (g (y .1))) (adds w q u pl x)
-      go masks w steady local sol good r q u pl (no e) d x =
-          one .others q u (pl .t-low) (λ h. e (h .0)) ∙ ⊎-elim (λ y. r q u pl y) (λ y. absurd (e (y .0))) (adds w q u pl x)
+    sweeps-one : (Q : ℕ → ℕ → ℕ → Type 0) → ((w q u : ℕ) → Place n N q u → Q w q u → P w q u ⊎ ((q ≡ s) × (u ≡ t))) → Sweeps n N f lead up P Q old new
+    sweeps-one Q adds =
+        record {
+          kept = one .kept;
+          right = λ masks w steady local sol good r q u pl x.
+              let new-right = fresh masks w steady local sol good r q u in
+              ⊎-elim (λ y. ⊎-elim new-right (λ e. e ∙ r q u pl y) (renewed-or-kept one q u (pl .t-low))) new-right (adds w q u pl x);
+        }
 
 -- rounds in a sweep's direction
 in-shift : (up : Bool) (N t u o : ℕ) → u + 1 ≡ t + o → t ≤ N → u ≤ N → o ≤ 2 → inSweep up N u + 1 ≡ inSweep up N t + toward up o
@@ -101,30 +96,18 @@ module _ (n N : ℕ) (f : Assignment → Assignment) (lead : List ℕ) (up : Boo
               let x = steady .outputs s below .reads q (r .o) (r .edge .to) (r .edge .off) (r .edge .is) e in
               inr (place (x .bounded bounded) (x .key bounded) (decLt (inSweep up N u + getD lead q 0 / 8) block))
 
-      adds-one : (w q u : ℕ) → Place n N q u → Done lead up N outputs block (p + 1) w q u → Done lead up N outputs block p w q u ⊎ ((q ≡ s) × (u ≡ t))
-      adds-one w q u pl (inl e) = inl (inl e)
-      adds-one w q u pl (inr (inl x)) = inl (inr (inl x))
-      adds-one w q u pl (inr (inr x)) = go (decLt (x .1 .p) p)
-        where
-          go : Dec (x .1 .p < p) → Done lead up N outputs block p w q u ⊎ ((q ≡ s) × (u ≡ t))
-          go (yes l) = inl (inr (inr (x .0, record { p = x .1 .p; inside = l; is = x .1 .is })))
-          go (no l) =
-              let i : x .1 .p ≡ p = omega (arith, x .1 .inside) in
-              let e : q ≡ s = sym (x .1 .is) ∙ ap (λ (z : ℕ). getD outputs z 0) i ∙ is in
-              let z : inSweep up N u + getD lead s 0 / 8 ≡ block = rw e at (x .0) in
-              inr (e, in-same up N t u high (pl .t-high) (omega arith))
-
-    adds-none : (t : ℕ) → RoundIn block (getD lead s 0) N up t → t ≡ 0 → (w q u : ℕ) → Place n N q u → Done lead up N outputs block (p + 1) w q u → Done lead up N outputs block p w q u
-    adds-none t r e w q u pl (inl x) = inl x
-    adds-none t r e w q u pl (inr (inl x)) = inr (inl x)
-    adds-none t r e w q u pl (inr (inr x)) = go (decLt (x .1 .p) p)
+    -- its places in this block are added
+    adds : (w q u : ℕ) → Done lead up N outputs block (p + 1) w q u → Done lead up N outputs block p w q u ⊎ ((q ≡ s) × (inSweep up N u + getD lead s 0 / 8 ≡ block))
+    adds w q u (inl e) = inl (inl e)
+    adds w q u (inr (inl x)) = inl (inr (inl x))
+    adds w q u (inr (inr x)) = go (decLt (x .1 .p) p)
       where
-        go : Dec (x .1 .p < p) → Done lead up N outputs block p w q u
-        go (yes l) = inr (inr (x .0, record { p = x .1 .p; inside = l; is = x .1 .is }))
+        go : Dec (x .1 .p < p) → Done lead up N outputs block p w q u ⊎ ((q ≡ s) × (inSweep up N u + getD lead s 0 / 8 ≡ block))
+        go (yes l) = inl (inr (inr (x .0, record { p = x .1 .p; inside = l; is = x .1 .is })))
         go (no l) =
             let i : x .1 .p ≡ p = omega (arith, x .1 .inside) in
-            let g : q ≡ s = sym (x .1 .is) ∙ ap (λ (z : ℕ). getD outputs z 0) i ∙ is in
-            absurd (r .none e u (pl .t-low) (pl .t-high) (rw g at (x .0)))
+            let e : q ≡ s = sym (x .1 .is) ∙ ap (λ (z : ℕ). getD outputs z 0) i ∙ is in
+            inr (e, rw e at (x .0))
 
     -- one output more
     pub block-more : (t : ℕ) (old new : List ℕ) → RoundIn block (getD lead s 0) N up t → (t ≡ 0 → new ≡ old) → (1 ≤ t → Renewed n f s t old new)
@@ -132,11 +115,14 @@ module _ (n N : ℕ) (f : Assignment → Assignment) (lead : List ℕ) (up : Boo
     block-more t old new r none one = go (ℕ-discrete t 0)
       where
         go : Dec (t ≡ 0) → Sweeps n N f lead up (Done lead up N outputs block p) (Done lead up N outputs block (p + 1)) old new
-        go (yes e) = rw (none e) (sweeps-none n N f lead up _ _ old (adds-none t r e))
+        go (yes e) =
+            rw (none e)
+            (sweeps-none n N f lead up _ _ old (λ w q u pl d. ⊎-elim (λ x. x) (λ x. absurd (r .none e u (pl .t-low) (pl .t-high) (x .1))) (adds w q u d)))
         go (no e) =
             let low : 1 ≤ t = omega arith in
             let at = r .some low in
-            sweeps-one n N f lead up _ _ s t old new below low (r .high) (one low) (reads-done t low (r .high) at) (adds-one t low (r .high) at)
+            sweeps-one n N f lead up _ s t old new (record { s-lt = below; t-low = low; t-high = r .high }) (one low) (reads-done t low (r .high) at) _
+            (λ w q u pl d. ⊎-elim inl (λ x. inr (x .0, in-same up N t u (r .high) (pl .t-high) (omega (arith, x .1)))) (adds w q u d))
 
   -- the end of a block is the start of the next
   block-end : (w q u : ℕ) → Place n N q u → Done lead up N outputs (block + 1) 0 w q u → Done lead up N outputs block count w q u

@@ -11,7 +11,7 @@ pub mod Sweep
 pub mod Trees
 pub mod Masks
 pub mod Decided
-pub mod Values
+pub mod Sides
 pub mod Lists
 pub mod OneTrace
 pub mod Examples

@@ -22,9 +22,9 @@ use Rattle.lola.specs.Value.{value, near, neighbours}
 use Rattle.lola.specs.Equations.{equations, holds, first, Satisfies, letter, Letters, joined}
 use Rattle.circular.specs.Circular.{edges}
 use Rattle.circular.specs.Unique.{TraceOf}
-use Rattle.circular.specs.Places.{Values, joint, lookAt, right, Place, Solves}
+use Rattle.circular.specs.Places.{Assignment, joint, lookAt, right, Place, Solves}
 use Rattle.circular.proofs.Sweep.{solves-of}
-use Rattle.circular.proofs.Values.{expressionOf, rightOf, value-same, right-reads}
+use Rattle.circular.proofs.Sides.{expressionOf, rightOf, value-same, right-reads}
 
 -- ---- the equations one by one
 
@@ -95,10 +95,10 @@ satisfies-from x p (v ∷ vs) h = (h 0 (omega arith) .0, h 0 (omega arith) .1, s
 -- ---- lists and values
 
 -- the inputs of letters, and the outputs of valuations, by round
-abbrev pub inputsBy : List ℕ → Values
+abbrev pub inputsBy : List ℕ → Assignment
 inputsBy ls q u = bit q (getD ls (u - 1) 0)
 
-abbrev pub outputsBy : ℕ → List ℕ → Values
+abbrev pub outputsBy : ℕ → List ℕ → Assignment
 outputsBy m vs s u = bit (m + s) (getD vs (u - 1) 0)
 
 pub letter-at : (x : RuleSheet) (ls vs : List ℕ) → map (letter x) vs ≡ ls → (i : ℕ) → getD ls i 0 ≡ getD vs i 0 % 2 ^ x .inputs
@@ -142,7 +142,7 @@ module _ (m : ℕ) (ls vs : List ℕ) (same : (i : ℕ) → getD ls i 0 ≡ getD
   look-same i h q Later d = late i q d h
 
 module _ (x : RuleSheet) (ls vs : List ℕ) (letters : map (letter x) vs ≡ ls) where
-  abbrev RightSides : Values → ℕ → ℕ → Bool
+  abbrev RightSides : Assignment → ℕ → ℕ → Bool
   RightSides = rightOf x (length vs) (inputsBy ls)
 
   -- the values of a trace solve all equations

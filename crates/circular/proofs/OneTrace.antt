@@ -20,10 +20,10 @@ use Rattle.lola.specs.Equations.{Letters, joined}
 use Rattle.circular.specs.Circular.{CircularSheet, edges}
 use Rattle.circular.specs.Checks.{reading, circular, rule, Broken, checksOf}
 use Rattle.circular.specs.Unique.{TraceOf, OneTrace}
-use Rattle.circular.specs.Places.{Values, Place, Solves}
+use Rattle.circular.specs.Places.{Assignment, Place, Solves}
 use Rattle.circular.proofs.Unique.{run}
 use Rattle.circular.proofs.Sweep.{solves-of}
-use Rattle.circular.proofs.Values.{rightOf, right-reads, a-solution, one-solution}
+use Rattle.circular.proofs.Sides.{rightOf, right-reads, a-solution, one-solution}
 use Rattle.circular.proofs.Lists.{inputsBy, outputsBy, letter-at, length-letters, trace-solves, trace-small, joined-trace}
 
 -- ---- bytes of values
@@ -85,7 +85,7 @@ module _ (x : RuleSheet) (formed : Formed x) (level : CircularSheet x → ⊥) (
   a-trace : Letters (x .inputs) ls → (vs : List ℕ) × TraceOf x ls vs
   a-trace g = (joined (x .inputs) ls os, joined-trace x formed ls os g (omega (arith, rounds-length byte 1 (length ls))) bytes good)
     where
-      sol : Values
+      sol : Assignment
       sol = run (rightOf x (length ls) (inputsBy ls)) (outputs x * length ls)
 
       byte : ℕ → ℕ

@@ -1,13 +1,14 @@
 -- One bit of a byte turned over. Assumes nothing.
 use mathlib.Core.Path.{_≡_, refl, sym, ap, ap₂, _∙_}
+use mathlib.Core.Logic.{_⊎_, inl, inr}
 use mathlib.Core.Bool.{Bool, true, false, not, Bool·beq}
 use mathlib.Core.List.{List}
 use Prim.Native.Nat.{ℕ, zero, suc, _+_, _*_, _/_, _%_, _^_, _<_}
 use native.Mathlib.Omega.{arith}
-use lib.Bits.{bitXor, differ, xor-shr, xor-step, xor-lt}
+use lib.Bits.{bitXor, differ, xor-shr, xor-step, xor-lt, xor-zero-r}
 use lib.Dec.{eqb}
 use lib.ListN.{length, getD, set, length-set}
-use lib.Seq.{getD-set-same, getD-set-other}
+use lib.Seq.{getD-set-same, getD-set-other, set-getD}
 use lib.Pow.{pow-lt}
 use borrow.Author.Tests.{eq-eqb, ne-eqb}
 use Rattle.words.specs.Bits.{digit, bit}
@@ -48,7 +49,7 @@ bit-xor i x y =
 mask : (s : ℕ) → s < 8 → 1 * 2 ^ s % 2 ^ 8 ≡ 2 ^ s
 mask s h = let g : 2 ^ s < 2 ^ 8 = pow-lt h in omega arith
 
-bit-mask : (i s : ℕ) → s < 8 → bit i (1 * 2 ^ s % 2 ^ 8) ≡ eqb i s
+pub bit-mask : (i s : ℕ) → s < 8 → bit i (1 * 2 ^ s % 2 ^ 8) ≡ eqb i s
 bit-mask i s h = ap (bit i) (mask s h ∙ sym (one-shl s (omega arith))) ∙ bit-shl i s (omega arith)
 
 pub bit-flipped : (s x : ℕ) → s < 8 → bit s (bitXor x (1 * 2 ^ s % 2 ^ 8)) ≡ not (bit s x)
@@ -62,11 +63,11 @@ flip-lt n s x h l b = let g : 2 ^ s < 2 ^ n = pow-lt l in xor-lt n x (1 * 2 ^ s 
 
 module _ (i s : ℕ) (v : Bool) (old : List ℕ) where
   -- the bit has its value already
-  pub put-nothing : bit s (getD old i 0) ≡ v → BitPut i s v old old false
+  put-nothing : bit s (getD old i 0) ≡ v → BitPut i s v old old false
   put-nothing e =
       record { len = refl; others = λ j h. refl; put = e; kept = λ k h. refl; below = λ n h b. b; same = λ h. refl }
 
-  pub put-flip : i < length old → s < 8 → not (bit s (getD old i 0)) ≡ v → BitPut i s v old (set old i (bitXor (getD old i 0) (1 * 2 ^ s % 2 ^ 8))) true
+  put-flip : i < length old → s < 8 → not (bit s (getD old i 0)) ≡ v → BitPut i s v old (set old i (bitXor (getD old i 0) (1 * 2 ^ s % 2 ^ 8))) true
   put-flip l h e =
       record {
         len = length-set old i _;
@@ -79,6 +80,19 @@ module _ (i s : ℕ) (v : Bool) (old : List ℕ) where
     where
       here : getD (set old i (bitXor (getD old i 0) (1 * 2 ^ s % 2 ^ 8))) i 0 ≡ bitXor (getD old i 0) (1 * 2 ^ s % 2 ^ 8)
       here = getD-set-same old i _ 0 l
+
+  -- the bit is turned over where it differs
+  pub put-byte : (flip : ℕ) → i < length old → s < 8 → ((flip ≡ 0) × (bit s (getD old i 0) ≡ v)) ⊎ ((flip ≡ 1) × (not (bit s (getD old i 0)) ≡ v))
+      → BitPut i s v old (set old i (bitXor (getD old i 0) (flip * 2 ^ s % 2 ^ 8))) (eqb flip 1)
+  put-byte flip l h (inl x) =
+      rw (x .0) (rw same (put-nothing (x .1)))
+    where
+      none : 0 * 2 ^ s % 2 ^ 8 ≡ 0
+      none = omega arith
+
+      same : set old i (bitXor (getD old i 0) (0 * 2 ^ s % 2 ^ 8)) ≡ old
+      same = ap (λ (z : ℕ). set old i (bitXor (getD old i 0) z)) none ∙ ap (set old i) (xor-zero-r (getD old i 0)) ∙ set-getD old i 0
+  put-byte flip l h (inr x) = rw (x .0) (put-flip l h (x .1))
 
 -- a test whether two values are the same
 pub same-values : (a b : Bool) → Bool·beq a b ≡ true → a ≡ b

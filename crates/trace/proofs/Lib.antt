@@ -1,6 +1,9 @@
 pub mod Rounds
 pub mod Flips
 pub mod Passes
+pub mod Leads
+pub mod Listing
+pub mod Sweeps
 pub mod Solving
 pub mod Decided
 pub mod Whole

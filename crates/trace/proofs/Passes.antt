@@ -1,20 +1,21 @@
 -- Passes put together from refreshed places. Assumes nothing.
 use mathlib.Core.Path.{_≡_, refl, sym, ap, _∙_, subst}
 use mathlib.Core.Logic.{_⊎_, inl, inr, ⊎-elim}
-use mathlib.Core.Bool.{Bool, true, false, true≢false}
+use mathlib.Core.Bool.{Bool, false}
 use mathlib.Core.List.{List}
 use Prim.Native.Nat.{ℕ, suc, _+_, _-_, _^_, _≤_, _<_}
 use native.Mathlib.Omega.{arith}
 use native.Mathlib.Decide.{ℕ-discrete, decLt}
 use lib.ListN.{length, getD}
 use Rattle.words.specs.Bits.{bit}
-use Rattle.circular.specs.Places.{Values, Place, Reads, Solves, RightAt, Right}
+use Rattle.circular.specs.Places.{Assignment, Place, Reads, Solves, RightAt, Right}
 use Rattle.circular.proofs.Sweep.{fresh-right}
-use Rattle.trace.specs.Passes.{valuesOf, Filled, BitPut, Passed}
+use Rattle.trace.specs.Passes.{valuesOf, RoundBytes, BitPut, Kept, Renewed, Passed}
 
-pub filled-after : {m n N : ℕ} {f : Values → Values} {P : ℕ → ℕ → Type 0} {letters old new : List ℕ} {changed : Bool}
-    → Passed n N f P old new changed → Filled m n letters old → Filled m n letters new
-filled-after p x =
+-- ---- buffers that are kept
+
+pub bytes-kept : {m n : ℕ} {letters old new : List ℕ} → Kept n old new → RoundBytes m n letters old → RoundBytes m n letters new
+bytes-kept p x =
     record {
       streams = x .streams;
       rounds = x .rounds;
@@ -23,13 +24,49 @@ filled-after p x =
       bytes-below = p .below (x .bytes-below);
     }
 
-module _ (n N : ℕ) (f : Values → Values) where
+pub kept-none : (n : ℕ) (l : List ℕ) → Kept n l l
+kept-none n l = record { len = refl; below = λ b. b }
+
+pub kept-then : {n : ℕ} {old mid new : List ℕ} → Kept n old mid → Kept n mid new → Kept n old new
+kept-then p q = record { len = q .len ∙ p .len; below = λ b. q .below (p .below b) }
+
+-- a bit that was put is a place worked out anew
+module _ (n : ℕ) (f : Assignment → Assignment) (s t : ℕ) (v : Bool) (old new : List ℕ) (changed : Bool) (put : BitPut (t - 1) s v old new changed)
+    (low : 1 ≤ t) (in-n : s < n) (right : v ≡ f (valuesOf old) s t) where
+  byte : ((i : ℕ) → i < length old → getD old i 0 < 2 ^ n) → (i : ℕ) → i < length new → Dec (i ≡ t - 1) → getD new i 0 < 2 ^ n
+  byte b i l (yes e) = rw e (put .below n in-n (b (t - 1) (omega (arith, put .len))))
+  byte b i l (no e) = rw (put .others i e) (b i (omega (arith, put .len)))
+
+  other : (q u : ℕ) → 1 ≤ u → ((q ≡ s) × (u ≡ t) → ⊥) → Dec (u - 1 ≡ t - 1) → bit q (getD new (u - 1) 0) ≡ bit q (getD old (u - 1) 0)
+  other q u l h (yes e) = rw e (put .kept q (λ g. h (g, omega arith)))
+  other q u l h (no e) = ap (bit q) (put .others (u - 1) e)
+
+  pub renewed-put : Renewed n f s t old new
+  unfolding valuesOf
+  renewed-put =
+      record {
+        kept = record { len = put .len; below = λ b i l. byte b i l (ℕ-discrete i (t - 1)) };
+        value = put .put ∙ right;
+        others = λ q u l h. other q u l h (ℕ-discrete (u - 1) (t - 1));
+      }
+
+pub renewed-or-kept : {n : ℕ} {f : Assignment → Assignment} {s t : ℕ} {old new : List ℕ} → Renewed n f s t old new → (q u : ℕ) → 1 ≤ u
+    → ((q ≡ s) × (u ≡ t)) ⊎ (valuesOf new q u ≡ valuesOf old q u)
+renewed-or-kept {s = s} {t = t} {old = old} {new = new} one q u l = go (ℕ-discrete q s) (ℕ-discrete u t)
+  where
+    go : Dec (q ≡ s) → Dec (u ≡ t) → ((q ≡ s) × (u ≡ t)) ⊎ (valuesOf new q u ≡ valuesOf old q u)
+    go (yes e) (yes g) = inl (e, g)
+    go (yes e) (no g) = inr (one .others q u l (λ h. g (h .1)))
+    go (no e) d = inr (one .others q u l (λ h. e (h .0)))
+
+-- ---- passes
+
+module _ (n N : ℕ) (f : Assignment → Assignment) where
   -- nothing was refreshed
   pub passed-none : (P : ℕ → ℕ → Type 0) (l : List ℕ) (changed : Bool) → ((s t : ℕ) → Place n N s t → P s t → ⊥) → Passed n N f P l l changed
   passed-none P l changed h =
       record {
-        len = refl;
-        below = λ b. b;
+        kept = kept-none n l;
         hold = λ E local sol good k r. r;
         keep = λ E local sol good k r s t pl x. x;
         further = λ E local sol good k r s t pl x. absurd (h s t pl x);
@@ -42,8 +79,7 @@ module _ (n N : ℕ) (f : Values → Values) where
       → Passed n N f P old new changed → Passed n N f R old new changed
   passed-as P R old new changed h p =
       record {
-        len = p .len;
-        below = p .below;
+        kept = p .kept;
         hold = p .hold;
         keep = p .keep;
         further = λ E local sol good k r s t pl x. p .further E local sol good k r s t pl (h s t pl x);
@@ -56,8 +92,7 @@ module _ (n N : ℕ) (f : Values → Values) where
       → (c ≡ false → (a ≡ false) × (b ≡ false)) → Passed n N f P old mid a → Passed n N f Q mid new b → Passed n N f R old new c
   passed-then P Q R old mid new a b c h g p q =
       record {
-        len = q .len ∙ p .len;
-        below = λ x. q .below (p .below x);
+        kept = kept-then (p .kept) (q .kept);
         hold = λ E local sol good k r. q .hold E local sol good k (p .hold E local sol good k r);
         keep = λ E local sol good k r s t pl x.
             q .keep E local sol good k (p .hold E local sol good k r) s t pl (p .keep E local sol good k r s t pl x);
@@ -74,71 +109,30 @@ module _ (n N : ℕ) (f : Values → Values) where
             (h s t pl x);
       }
 
-  -- nothing is claimed of any place
-  pub passed-loose : (P : ℕ → ℕ → Type 0) (old new : List ℕ) (changed : Bool) → Passed n N f P old new changed → Passed n N f (λ q u. ⊥) old new true
-  passed-loose P old new changed p =
-      record {
-        len = p .len;
-        below = p .below;
-        hold = p .hold;
-        keep = p .keep;
-        further = λ E local sol good k r s t pl x. absurd x;
-        same = λ e. absurd (true≢false e);
-        quiet = λ e s t pl x. absurd x;
-      }
-
-  pub passed-on : (old mid new : List ℕ) → Passed n N f (λ q u. ⊥) old mid true → Passed n N f (λ q u. ⊥) mid new true → Passed n N f (λ q u. ⊥) old new true
-  passed-on old mid new p q =
-      passed-then (λ q u. ⊥) (λ q u. ⊥) (λ q u. ⊥) old mid new true true true (λ s t pl x. absurd x) (λ e. absurd (true≢false e)) p q
-
   -- one place
-  module _ (s t : ℕ) (v : Bool) (old new : List ℕ) (changed : Bool) (put : BitPut (t - 1) s v old new changed) (low : 1 ≤ t) (in-n : s < n)
-      (right : v ≡ f (valuesOf old) s t) where
+  module _ (s t : ℕ) (old new : List ℕ) (changed : Bool) (one : Renewed n f s t old new) (same : changed ≡ false → new ≡ old) where
     fresh : (q u : ℕ) → q ≡ s → u ≡ t → valuesOf new q u ≡ f (valuesOf old) q u
-    unfolding valuesOf
-    fresh q u e g = rw (e, g) (put .put ∙ right)
+    fresh q u e g = rw (e, g) (one .value)
 
-    other : (q u : ℕ) → 1 ≤ u → (((q ≡ s) × (u ≡ t)) → ⊥) → valuesOf new q u ≡ valuesOf old q u
-    unfolding valuesOf
-    other q u l h = go (ℕ-discrete (u - 1) (t - 1))
-      where
-        go : Dec (u - 1 ≡ t - 1) → bit q (getD new (u - 1) 0) ≡ bit q (getD old (u - 1) 0)
-        go (yes e) = rw e (put .kept q (λ g. h (g, omega arith)))
-        go (no e) = ap (bit q) (put .others (u - 1) e)
-
-    which : (q u : ℕ) → 1 ≤ u → ((q ≡ s) × (u ≡ t)) ⊎ (valuesOf new q u ≡ valuesOf old q u)
-    which q u l = go (ℕ-discrete q s) (ℕ-discrete u t)
-      where
-        go : Dec (q ≡ s) → Dec (u ≡ t) → ((q ≡ s) × (u ≡ t)) ⊎ (valuesOf new q u ≡ valuesOf old q u)
-        go (yes e) (yes g) = inl (e, g)
-        go (yes e) (no g) = inr (other q u l (λ h. g (h .1)))
-        go (no e) d = inr (other q u l (λ h. e (h .0)))
-
-    at-place : (E : ℕ → ℕ → ℕ → Bool) → Reads n E N f → (sol : Values) → Solves n N f sol → (k : ℕ) → Right n E N sol k (valuesOf old)
+    at-place : (E : ℕ → ℕ → ℕ → Bool) → Reads n E N f → (sol : Assignment) → Solves n N f sol → (k : ℕ) → Right n E N sol k (valuesOf old)
         → (q u : ℕ) → Place n N q u → (j : ℕ) → j ≤ suc k → RightAt n E N sol j (valuesOf old) q u → RightAt n E N sol j (valuesOf new) q u
     at-place E local sol good k r q u pl j h x =
         ⊎-elim
         (λ e. fresh-right n E N f local sol good k (valuesOf old) (valuesOf new) r q u pl j h (fresh q u (e .0) (e .1)))
         (λ e nc. e ∙ x nc)
-        (which q u (pl .t-low))
+        (renewed-or-kept one q u (pl .t-low))
 
     pub passed-one : Passed n N f (λ q u. (q ≡ s) × (u ≡ t)) old new changed
     passed-one =
         record {
-          len = put .len;
-          below = λ b i l. bytes b i l (ℕ-discrete i (t - 1));
+          kept = one .kept;
           hold = λ E local sol good k r. record { all = λ q u pl. at-place E local sol good k r q u pl k (omega arith) (r .all q u pl) };
           keep = λ E local sol good k r q u pl x. at-place E local sol good k r q u pl (suc k) (omega arith) x;
           further = λ E local sol good k r q u pl e.
               fresh-right n E N f local sol good k (valuesOf old) (valuesOf new) r q u pl (suc k) (omega arith) (fresh q u (e .0) (e .1));
-          same = put .same;
-          quiet = λ c q u pl e.
-              sym (ap (λ (l : List ℕ). valuesOf l q u) (put .same c)) ∙ fresh q u (e .0) (e .1);
+          same = same;
+          quiet = λ c q u pl e. sym (ap (λ (l : List ℕ). valuesOf l q u) (same c)) ∙ fresh q u (e .0) (e .1);
         }
-      where
-        bytes : ((i : ℕ) → i < length old → getD old i 0 < 2 ^ n) → (i : ℕ) → i < length new → Dec (i ≡ t - 1) → getD new i 0 < 2 ^ n
-        bytes b i l (yes e) = rw e (put .below n in-n (b (t - 1) (omega (arith, put .len))))
-        bytes b i l (no e) = rw (put .others i e) (b i (omega (arith, put .len)))
 
 -- one place more, one round more
 pub next-place : (s t q u : ℕ) → (q < s + 1) × (u ≡ t) → ((q < s) × (u ≡ t)) ⊎ ((q ≡ s) × (u ≡ t))

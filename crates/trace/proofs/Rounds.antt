@@ -21,7 +21,7 @@ use Rattle.lola.proofs.ValueLaws.{value-of-bytes}
 use Rattle.lola.specs.Slots.{readNo, slots}
 use Rattle.circular.specs.Places.{joint, lookAt, right}
 use Rattle.sheet.specs.Reading.{codeAt}
-use Rattle.trace.specs.Passes.{valuesOf, seen, treeIn, sides, Setting, Filled, SeenRound, Environment}
+use Rattle.trace.specs.Passes.{valuesOf, seen, treeIn, sides, Setting, RoundBytes, SeenRound, Environment}
 
 -- the bits of a round's valuation
 stream-of-round : (m : ℕ) (letters buf : List ℕ) (at q : ℕ) → 2 ≤ at → getD letters (at - 2) 0 < 2 ^ m
@@ -57,7 +57,7 @@ module _ (m : ℕ) (letters buf : List ℕ) (at : ℕ) where
       }
 
   -- the round's valuation
-  module _ (n : ℕ) (filled : Filled m n letters buf) (lo : 2 ≤ at) (hi : at ≤ length letters + 1) (v : ℕ)
+  module _ (n : ℕ) (filled : RoundBytes m n letters buf) (lo : 2 ≤ at) (hi : at ≤ length letters + 1) (v : ℕ)
       (e : v ≡ getD letters (at - 2) 0 + 2 ^ m * getD buf (at - 2) 0) where
     below : getD letters (at - 2) 0 < 2 ^ m
     below = filled .letters-below (at - 2) (omega arith)

@@ -19,12 +19,14 @@ use Rattle.sheet.proofs.Sheets.{tree-at, length-trees}
 use Rattle.sheet.proofs.Formed.{Formed, usable-formed}
 use Rattle.lola.specs.Value.{value}
 use Rattle.lola.specs.Equations.{Satisfies, Letters, joined}
-use Rattle.circular.specs.Circular.{Circular, CircularSheet, edges}
-use Rattle.circular.specs.Places.{Values, lookAt, right, Reads, Solves}
-use Rattle.circular.proofs.Values.{rightOf, right-reads}
+use Rattle.circular.specs.Circular.{Read, Circular, CircularSheet, edges}
+use Rattle.circular.specs.Masks.{Tells}
+use Rattle.circular.specs.Table.{readsOf}
+use Rattle.circular.specs.Places.{Assignment, lookAt, right, Reads, Solves}
+use Rattle.circular.proofs.Sides.{rightOf, right-reads}
 use Rattle.circular.proofs.Lists.{inputsBy, outputsBy, joined-trace}
 use Rattle.trace.specs.Evaluated.{OutputsWritten, Evaluated}
-use Rattle.trace.specs.Passes.{valuesOf, sides, Setting, Filled, Solved, Ready, Left}
+use Rattle.trace.specs.Passes.{valuesOf, sides, Setting, RoundBytes, Solved, Ready, Left}
 
 pub setting-of : (x : Sheet) → Usable x → Setting (x .inputs) (x .outputs) (x .code) (x .len)
 setting-of x u =
@@ -44,16 +46,16 @@ module _ (x : Sheet) (u : Usable x) (letters : List ℕ) where
   abbrev n : ℕ
   n = x .outputs
 
-  abbrev f : Values → Values
+  abbrev f : Assignment → Assignment
   f = sides (x .inputs) (x .outputs) (x .code) (x .len) letters
 
-  abbrev g : Values → Values
+  abbrev g : Assignment → Assignment
   g = rightOf (ruleSheet x) (length letters) (inputsBy letters)
 
   count : outputs (ruleSheet x) ≡ x .outputs
   count = length-trees (x .inputs + x .outputs) (x .code) (x .len) (x .outputs)
 
-  side-same : (v : Values) (s t : ℕ) → s < n → f v s t ≡ g v s t
+  side-same : (v : Assignment) (s t : ℕ) → s < n → f v s t ≡ g v s t
   unfolding sides right valuesOf
   side-same v s t h =
       ap (value (lookAt (x .inputs) (length letters) (inputsBy letters) v t))
@@ -69,6 +71,28 @@ module _ (x : Sheet) (u : Usable x) (letters : List ℕ) where
       in
       record { only = λ v w s t pl a. side-same v s t (pl .s-lt) ∙ r .only v w s t pl a ∙ sym (side-same w s t (pl .s-lt)) }
 
+  told : {masks : List ℕ} {s t q v : ℕ} → Tells (ruleSheet x) masks → Read n (edges (ruleSheet x)) (length letters) s t q v → Read n (readsOf masks) (length letters) s t q v
+  told {s = s} {q = q} tells r =
+      let a = r .edge in
+      record {
+        o = r .o;
+        edge =
+            record {
+              from = a .from;
+              to = a .to;
+              off = a .off;
+              is = tells .reads s q (r .o) (omega (arith, a .from, u .ranges .outputs)) (omega (arith, a .to, u .ranges .outputs)) (a .off) ∙ a .is;
+            };
+        shift = r .shift;
+        t-low = r .t-low;
+        t-high = r .t-high;
+        u-low = r .u-low;
+        u-high = r .u-high;
+      }
+
+  pub told-reads : (masks : List ℕ) → Tells (ruleSheet x) masks → Reads n (readsOf masks) (length letters) f
+  told-reads masks tells = record { only = λ v w s t pl a. side-reads .only v w s t pl (λ q z r. a q z (told tells r)) }
+
   pub not-circular : (CircularSheet (ruleSheet x) → ⊥) → Circular n (edges (ruleSheet x)) → ⊥
   not-circular h c = h (subst (λ (k : ℕ). Circular k (edges (ruleSheet x))) (sym count) c)
 
@@ -79,7 +103,7 @@ module _ (x : Sheet) (u : Usable x) (letters : List ℕ) where
   solves-as : (os : List ℕ) → Solves n (length letters) f (valuesOf os) → Solves (outputs (ruleSheet x)) (length letters) g (outputsBy 0 os)
   solves-as os h =
       let a : Solves n (length letters) g (outputsBy 0 os) =
-      subst (λ (v : Values). Solves n (length letters) g v) (bytes-as os)
+      subst (λ (v : Assignment). Solves n (length letters) g v) (bytes-as os)
       (record { all = λ s t pl. h .all s t pl ∙ side-same (valuesOf os) s t (pl .s-lt) })
       in
       subst (λ (k : ℕ). Solves k (length letters) g (outputsBy 0 os)) (sym count) a
@@ -115,8 +139,8 @@ module _ (N : ℕ) (out c : List ℕ) (h : N ≤ length out) (e : length c ≡ l
 
 module _ (x : Sheet) (u : Usable x) (letters out c : List ℕ) (ready : Ready (x .inputs) letters (length out))
     (e : length c ≡ length (take (length letters) out)) (zeros : (i : ℕ) → i < length c → getD c i 0 ≡ 0) where
-  pub filled-start : Filled (x .inputs) (x .outputs) letters (take (length letters) (c ++ drop (length letters) out))
-  filled-start =
+  pub bytes-start : RoundBytes (x .inputs) (x .outputs) letters (take (length letters) (c ++ drop (length letters) out))
+  bytes-start =
       record {
         streams = u .ranges .streams;
         rounds = ready .few;
@@ -128,10 +152,10 @@ module _ (x : Sheet) (u : Usable x) (letters out c : List ℕ) (ready : Ready (x
   module _ (level : CircularSheet (ruleSheet x) → ⊥) (a : List ℕ)
       (solved : Solved (x .outputs) (length letters) (sides (x .inputs) (x .outputs) (x .code) (x .len) letters) (take (length letters) (c ++ drop (length letters) out)) a) where
     whole : length a ≡ length letters
-    whole = solved .len ∙ filled-start .same
+    whole = solved .kept .len ∙ bytes-start .same
 
     below : (i : ℕ) → i < length a → getD a i 0 < 2 ^ x .outputs
-    below = solved .below (filled-start .bytes-below)
+    below = solved .kept .below (bytes-start .bytes-below)
 
     pub written-of : OutputsWritten (ruleSheet x) letters out (a ++ drop (length letters) (c ++ drop (length letters) out))
     written-of =

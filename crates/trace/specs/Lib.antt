@@ -1,3 +1,4 @@
 pub mod Checks
 pub mod Evaluated
+pub mod Order
 pub mod Passes

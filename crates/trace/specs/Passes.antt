@@ -14,11 +14,13 @@ use Rattle.sheet.specs.RuleSheet.{RuleSheet}
 use Rattle.sheet.specs.declared.Offset.{Offset}
 use Rattle.lola.specs.Slots.{slots}
 use Rattle.trace.specs.Evaluated.{OutputsWritten}
+use Rattle.trace.specs.Order.{Steady}
+use Rattle.circular.specs.Table.{readsOf}
 use Rattle.circular.specs.Circular.{Circular}
-use Rattle.circular.specs.Places.{Values, joint, lookAt, right, Place, Reads, Solves, RightAt, Right}
+use Rattle.circular.specs.Places.{Assignment, joint, lookAt, right, Place, Reads, Solves, RightAt, Right}
 
 -- bit s of the byte of round t
-unfoldable pub valuesOf : List ℕ → Values
+unfoldable pub valuesOf : List ℕ → Assignment
 valuesOf l s t = bit s (getD l (t - 1) 0)
 
 -- the expression of output k, in a sheet of s streams
@@ -26,7 +28,7 @@ abbrev pub treeIn : ℕ → List ℕ → List ℕ → ℕ → Expr
 treeIn s code len k = treeOf (parse s [] (codeAt code len k))
 
 -- the right sides of the equations over the letters
-unfoldable pub sides : ℕ → ℕ → List ℕ → List ℕ → List ℕ → Values → Values
+unfoldable pub sides : ℕ → ℕ → List ℕ → List ℕ → List ℕ → Assignment → Assignment
 sides m n code len letters = right m (treeIn (m + n) code len) (length letters) (valuesOf letters)
 
 -- a sheet of m inputs and n outputs that was read
@@ -38,7 +40,7 @@ pub record Setting (m n : ℕ) (code len : List ℕ) : Type 0 where
   pub parses : (k : ℕ) → k < n → parse (m + n) [] (codeAt code len k) ≡ tree (treeIn (m + n) code len k)
 
 -- a letter of m bits and a byte of n bits for each round
-pub record Filled (m n : ℕ) (letters buf : List ℕ) : Type 0 where
+pub record RoundBytes (m n : ℕ) (letters buf : List ℕ) : Type 0 where
   pub streams : m + n ≤ 8
   pub rounds : length letters ≤ 4096
   pub same : length buf ≡ length letters
@@ -69,17 +71,27 @@ pub record BitPut (i s : ℕ) (v : Bool) (old new : List ℕ) (changed : Bool) :
   pub below : (n : ℕ) → s < n → getD old i 0 < 2 ^ n → getD new i 0 < 2 ^ n
   pub same : changed ≡ false → new ≡ old
 
--- The places of P were refreshed, and others maybe. What was right stays right; the places of P come one read further; and where
--- nothing changed, the equations hold at the places of P.
-pub record Passed (n N : ℕ) (f : Values → Values) (P : ℕ → ℕ → Type 0) (old new : List ℕ) (changed : Bool) : Type 0 where
+-- a buffer of the same length, with n bits a byte
+pub record Kept (n : ℕ) (old new : List ℕ) : Type 0 where
   pub len : length new ≡ length old
   pub below : ((i : ℕ) → i < length old → getD old i 0 < 2 ^ n) → (i : ℕ) → i < length new → getD new i 0 < 2 ^ n
-  pub hold : (E : ℕ → ℕ → ℕ → Bool) → Reads n E N f → (sol : Values) → Solves n N f sol → (k : ℕ)
+
+-- output s was worked out anew in round t, and nothing else
+pub record Renewed (n : ℕ) (f : Assignment → Assignment) (s t : ℕ) (old new : List ℕ) : Type 0 where
+  pub kept : Kept n old new
+  pub value : valuesOf new s t ≡ f (valuesOf old) s t
+  pub others : (q u : ℕ) → 1 ≤ u → ((q ≡ s) × (u ≡ t) → ⊥) → valuesOf new q u ≡ valuesOf old q u
+
+-- The places of P were refreshed, and others maybe. What was right stays right; the places of P come one read further; and where
+-- nothing changed, the equations hold at the places of P.
+pub record Passed (n N : ℕ) (f : Assignment → Assignment) (P : ℕ → ℕ → Type 0) (old new : List ℕ) (changed : Bool) : Type 0 where
+  pub kept : Kept n old new
+  pub hold : (E : ℕ → ℕ → ℕ → Bool) → Reads n E N f → (sol : Assignment) → Solves n N f sol → (k : ℕ)
       → Right n E N sol k (valuesOf old) → Right n E N sol k (valuesOf new)
-  pub keep : (E : ℕ → ℕ → ℕ → Bool) → Reads n E N f → (sol : Values) → Solves n N f sol → (k : ℕ)
+  pub keep : (E : ℕ → ℕ → ℕ → Bool) → Reads n E N f → (sol : Assignment) → Solves n N f sol → (k : ℕ)
       → Right n E N sol k (valuesOf old) → (s t : ℕ) → Place n N s t
       → RightAt n E N sol (suc k) (valuesOf old) s t → RightAt n E N sol (suc k) (valuesOf new) s t
-  pub further : (E : ℕ → ℕ → ℕ → Bool) → Reads n E N f → (sol : Values) → Solves n N f sol → (k : ℕ)
+  pub further : (E : ℕ → ℕ → ℕ → Bool) → Reads n E N f → (sol : Assignment) → Solves n N f sol → (k : ℕ)
       → Right n E N sol k (valuesOf old) → (s t : ℕ) → Place n N s t → P s t → RightAt n E N sol (suc k) (valuesOf new) s t
   pub same : changed ≡ false → new ≡ old
   pub quiet : changed ≡ false → (s t : ℕ) → Place n N s t → P s t → valuesOf old s t ≡ f (valuesOf old) s t
@@ -88,10 +100,24 @@ pub record Passed (n N : ℕ) (f : Values → Values) (P : ℕ → ℕ → Type 
 abbrev pub Refreshed : ℕ → ℕ → List ℕ → List ℕ → List ℕ → (ℕ → ℕ → Type 0) → List ℕ → List ℕ → Bool → Type 0
 Refreshed m n code len letters P old new changed = Passed n (length letters) (sides m n code len letters) P old new changed
 
+-- the values at the places of P are those of a solution
+abbrev pub RightOn : ℕ → ℕ → Assignment → (ℕ → ℕ → Type 0) → Assignment → Type 0
+RightOn n N sol P v = (s t : ℕ) → Place n N s t → P s t → v s t ≡ sol s t
+
+-- what is right at the places of P before is right at the places of Q after, if the reads are those of the masks
+pub record Extends (n N : ℕ) (f : Assignment → Assignment) (masks : List ℕ) (P Q : ℕ → ℕ → Type 0) (old new : List ℕ) : Type 0 where
+  pub kept : Kept n old new
+  pub right : Reads n (readsOf masks) N f → (sol : Assignment) → Solves n N f sol → RightOn n N sol P (valuesOf old) → RightOn n N sol Q (valuesOf new)
+
+-- the same for all masks and settled outputs for which the leads are steady
+pub record Sweeps (n N : ℕ) (f : Assignment → Assignment) (lead : List ℕ) (up : Bool) (P Q : ℕ → ℕ → ℕ → Type 0) (old new : List ℕ) : Type 0 where
+  pub kept : Kept n old new
+  pub right : (masks : List ℕ) (settled : ℕ) → Steady masks lead n up settled → Reads n (readsOf masks) N f → (sol : Assignment) → Solves n N f sol
+      → RightOn n N sol (P settled) (valuesOf old) → RightOn n N sol (Q settled) (valuesOf new)
+
 -- the buffer satisfies the equations, if the reads between the outputs are not circular
-pub record Solved (n N : ℕ) (f : Values → Values) (old new : List ℕ) : Type 0 where
-  pub len : length new ≡ length old
-  pub below : ((i : ℕ) → i < length old → getD old i 0 < 2 ^ n) → (i : ℕ) → i < length new → getD new i 0 < 2 ^ n
+pub record Solved (n N : ℕ) (f : Assignment → Assignment) (old new : List ℕ) : Type 0 where
+  pub kept : Kept n old new
   pub holds : (E : ℕ → ℕ → ℕ → Bool) → Reads n E N f → (Circular n E → ⊥) → Solves n N f (valuesOf new)
 
 -- the first letter that isn't below 2 ^ m

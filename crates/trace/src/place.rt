@@ -1,8 +1,9 @@
 // One place: an output in a round. Its value is worked out from the letters and the buffer, and put into the buffer.
 ghost use mathlib.Core.Path.{_≡_};
+ghost use mathlib.Core.Bool.{false};
 ghost use Prim.Native.Nat.{_+_, _*_, _<_, _≤_, _^_};
 ghost use lib.ListN.{length, getD};
-ghost use Rattle.trace.specs.Passes.{Setting, Filled, SeenRound, Environment, BitPut, Refreshed};
+ghost use Rattle.trace.specs.Passes.{Setting, RoundBytes, SeenRound, Environment, BitPut, sides, Renewed};
 
 pub fn wide(x: u8) -> u64
     ensures { λ r. ⌜ r ≡ x ⌝ }
@@ -20,7 +21,7 @@ fn valuation(m: usize, letters: &[u8], buf: &[u8], i: usize) -> u64
 
 // The streams of round at - 1 twice, or false and true where there is no such round.
 fn beside(m: usize, n: usize, letters: &[u8], buf: &[u8], at: usize) -> u64
-    requires { ⌜ Filled m n (now letters) (now buf) ⌝ }
+    requires { ⌜ RoundBytes m n (now letters) (now buf) ⌝ }
     ensures { λ r. ⌜ SeenRound m (now (letters .entry)) (now (buf .entry)) at r ⌝ }
 {
     if at < 2 {
@@ -35,7 +36,7 @@ fn beside(m: usize, n: usize, letters: &[u8], buf: &[u8], at: usize) -> u64
 
 // The reads of round t in one word: two bytes each for now, earlier and later.
 fn environment(m: usize, n: usize, letters: &[u8], buf: &[u8], t: usize) -> u64
-    requires { ⌜ Filled m n (now letters) (now buf) × (1 ≤ t) × (t ≤ length (now letters)) ⌝ }
+    requires { ⌜ RoundBytes m n (now letters) (now buf) × (1 ≤ t) × (t ≤ length (now letters)) ⌝ }
     ensures { λ r. ⌜ Environment m (now (letters .entry)) (now (buf .entry)) t r ⌝ }
 {
     let current = beside(m, n, letters, buf, t + 1);
@@ -44,18 +45,16 @@ fn environment(m: usize, n: usize, letters: &[u8], buf: &[u8], t: usize) -> u64
     current + 65536 * (earlier + 65536 * later)
 }
 
-// Makes bit s of byte i the value v; whether that changed it.
+// Makes bit s of byte i the value v; whether that changed it. The byte is stored in any case: no processor foretells what the values are.
 fn put_bit(buf: &mut [u8], i: usize, s: usize, v: bool) -> bool
     requires { ⌜ (i < length (now buf)) × (s < 8) ⌝ }
     ensures { λ r. ⌜ BitPut i s v (now (buf .entry)) (now (buf .exit)) r ⌝ }
 {
     let old = buf[i];
     let was = (old >> s) % 2 == 1;
-    if was == v {
-        return false;
-    }
-    buf[i] = old ^ (1u8 << s);
-    true
+    let flip: u8 = if was == v { 0 } else { 1 };
+    buf[i] = old ^ (flip << s);
+    flip == 1
 }
 
 // Works out output s in round t anew; whether that changed it.
@@ -69,8 +68,8 @@ pub fn refresh(
     s: usize,
     t: usize,
 ) -> bool
-    requires { ⌜ Setting m n (now code) (now len) × Filled m n (now letters) (now buf) × (s < n) × (1 ≤ t) × (t ≤ length (now letters)) ⌝ }
-    ensures { λ r. ⌜ Refreshed m n (now (code .entry)) (now (len .entry)) (now (letters .entry)) (λ q u. (q ≡ s) × (u ≡ t)) (now (buf .entry)) (now (buf .exit)) r ⌝ }
+    requires { ⌜ Setting m n (now code) (now len) × RoundBytes m n (now letters) (now buf) × (s < n) × (1 ≤ t) × (t ≤ length (now letters)) ⌝ }
+    ensures { λ r. ⌜ Renewed n (sides m n (now (code .entry)) (now (len .entry)) (now (letters .entry))) s t (now (buf .entry)) (now (buf .exit)) × (r ≡ false → now (buf .exit) ≡ now (buf .entry)) ⌝ }
 {
     let env = environment(m, n, letters, &buf[..], t);
     let from = 64 * s;

@@ -1,13 +1,20 @@
-// Passes over all places, and sweeps in an order that leaves little for the passes to do.
+// Sweeps, which refresh places in the order of their keys, and passes over all places.
 ghost use mathlib.Core.Path.{_≡_};
 ghost use mathlib.Core.Bool.{true};
 ghost use Prim.Native.Nat.{_<_, _≤_};
 ghost use lib.ListN.{length};
-ghost use Rattle.trace.specs.Passes.{Setting, Filled, Refreshed, sides, Solved};
+ghost use Rattle.circular.specs.Table.{readsOf};
+ghost use Rattle.circular.specs.Places.{Reads};
+ghost use Rattle.trace.specs.Order.{Ordered, InSet, Done, Known};
+ghost use Rattle.trace.specs.Passes.{Setting, RoundBytes, Renewed, Refreshed, Extends, Sweeps, sides, Solved};
 use super::order::leads;
-use super::order::round_at;
+use super::order::order_of;
+use super::order::round_in;
 use super::order::settle;
 use super::place::refresh;
+
+// The set of all seven outputs. Those that a sheet lacks read nothing, and are settled by the first sweep.
+const ALL: u8 = 127;
 
 // Refreshes the outputs of round t, one after the other.
 fn refresh_round(
@@ -19,7 +26,7 @@ fn refresh_round(
     buf: &mut [u8],
     t: usize,
 ) -> bool
-    requires { ⌜ Setting m n (now code) (now len) × Filled m n (now letters) (now buf) × (1 ≤ t) × (t ≤ length (now letters)) ⌝ }
+    requires { ⌜ Setting m n (now code) (now len) × RoundBytes m n (now letters) (now buf) × (1 ≤ t) × (t ≤ length (now letters)) ⌝ }
     ensures { λ r. ⌜ Refreshed m n (now (code .entry)) (now (len .entry)) (now (letters .entry)) (λ q u. u ≡ t) (now (buf .entry)) (now (buf .exit)) r ⌝ }
 {
     let mut changed = false;
@@ -35,7 +42,7 @@ fn refresh_round(
 
 // Refreshes every place once; whether anything changed.
 fn pass(code: &[u8], len: &[usize], m: usize, n: usize, letters: &[u8], buf: &mut [u8]) -> bool
-    requires { ⌜ Setting m n (now code) (now len) × Filled m n (now letters) (now buf) ⌝ }
+    requires { ⌜ Setting m n (now code) (now len) × RoundBytes m n (now letters) (now buf) ⌝ }
     ensures { λ r. ⌜ Refreshed m n (now (code .entry)) (now (len .entry)) (now (letters .entry)) (λ q u. Unit {0}) (now (buf .entry)) (now (buf .exit)) r ⌝ }
 {
     let mut changed = false;
@@ -49,6 +56,21 @@ fn pass(code: &[u8], len: &[usize], m: usize, n: usize, letters: &[u8], buf: &mu
     changed
 }
 
+// Refreshes until a pass changes nothing.
+fn passes(code: &[u8], len: &[usize], m: usize, n: usize, letters: &[u8], buf: &mut [u8])
+    requires { ⌜ Setting m n (now code) (now len) × RoundBytes m n (now letters) (now buf) ⌝ }
+    ensures { λ r. ⌜ Solved n (length (now (letters .entry))) (sides m n (now (code .entry)) (now (len .entry)) (now (letters .entry))) (now (buf .entry)) (now (buf .exit)) ⌝ }
+{
+    let most = n * letters.len();
+    let mut k: usize = 0;
+    while k < most {
+        if !pass(code, len, m, n, letters, &mut buf[..]) {
+            return;
+        }
+        k += 1;
+    }
+}
+
 // Refreshes a place; none where t is 0.
 fn try_refresh(
     code: &[u8],
@@ -60,8 +82,8 @@ fn try_refresh(
     s: usize,
     t: usize,
 )
-    requires { ⌜ Setting m n (now code) (now len) × Filled m n (now letters) (now buf) × (s < n) × (t ≤ length (now letters)) ⌝ }
-    ensures { λ r. ⌜ Refreshed m n (now (code .entry)) (now (len .entry)) (now (letters .entry)) (λ q u. ⊥) (now (buf .entry)) (now (buf .exit)) true ⌝ }
+    requires { ⌜ Setting m n (now code) (now len) × RoundBytes m n (now letters) (now buf) × (s < n) × (t ≤ length (now letters)) ⌝ }
+    ensures { λ r. ⌜ (t ≡ 0 → now (buf .exit) ≡ now (buf .entry)) × (1 ≤ t → Renewed n (sides m n (now (code .entry)) (now (len .entry)) (now (letters .entry))) s t (now (buf .entry)) (now (buf .exit))) ⌝ }
 {
     if t == 0 {
         return;
@@ -69,8 +91,8 @@ fn try_refresh(
     let changed = refresh(code, len, m, n, letters, &mut buf[..], s, t);
 }
 
-// Refreshes the places of one key.
-fn refresh_key(
+// Refreshes the places of one block.
+fn refresh_block(
     code: &[u8],
     len: &[usize],
     m: usize,
@@ -78,21 +100,24 @@ fn refresh_key(
     letters: &[u8],
     buf: &mut [u8],
     lead: &[u8; 7],
+    outputs: &[usize; 56],
+    count: usize,
     up: bool,
-    key: usize,
+    block: usize,
 )
-    requires { ⌜ Setting m n (now code) (now len) × Filled m n (now letters) (now buf) ⌝ }
-    ensures { λ r. ⌜ Refreshed m n (now (code .entry)) (now (len .entry)) (now (letters .entry)) (λ q u. ⊥) (now (buf .entry)) (now (buf .exit)) true ⌝ }
+    requires { ⌜ Setting m n (now code) (now len) × RoundBytes m n (now letters) (now buf) × Ordered (now lead) n (now outputs) count ⌝ }
+    ensures { λ r. ⌜ Sweeps n (length (now (letters .entry))) (sides m n (now (code .entry)) (now (len .entry)) (now (letters .entry))) (now (lead .entry)) up (Done (now (lead .entry)) up (length (now (letters .entry))) (now (outputs .entry)) block 0) (Done (now (lead .entry)) up (length (now (letters .entry))) (now (outputs .entry)) block count) (now (buf .entry)) (now (buf .exit)) ⌝ }
 {
-    let mut s: usize = 0;
-    while s < n {
-        let t = round_at(key, lead[s], letters.len(), up);
+    let mut p: usize = 0;
+    while p < count {
+        let s = outputs[p];
+        let t = round_in(block, lead[s], letters.len(), up);
         try_refresh(code, len, m, n, letters, &mut buf[..], s, t);
-        s += 1;
+        p += 1;
     }
 }
 
-// Refreshes the places in the order of their keys.
+// Refreshes the places of the outputs with bounded leads in the order of their keys.
 fn sweep(
     code: &[u8],
     len: &[usize],
@@ -103,18 +128,56 @@ fn sweep(
     lead: &[u8; 7],
     up: bool,
 )
-    requires { ⌜ Setting m n (now code) (now len) × Filled m n (now letters) (now buf) ⌝ }
-    ensures { λ r. ⌜ Refreshed m n (now (code .entry)) (now (len .entry)) (now (letters .entry)) (λ q u. ⊥) (now (buf .entry)) (now (buf .exit)) true ⌝ }
+    requires { ⌜ Setting m n (now code) (now len) × RoundBytes m n (now letters) (now buf) ⌝ }
+    ensures { λ r. ⌜ Sweeps n (length (now (letters .entry))) (sides m n (now (code .entry)) (now (len .entry)) (now (letters .entry))) (now (lead .entry)) up InSet (Known (now (lead .entry))) (now (buf .entry)) (now (buf .exit)) ⌝ }
 {
-    let end = 8 * letters.len() + 64;
-    let mut key: usize = 8;
-    while key < end {
-        refresh_key(code, len, m, n, letters, &mut buf[..], lead, up, key);
-        key += 1;
+    let order = order_of(lead, n);
+    let outputs = order.outputs;
+    let count = order.count;
+    if count == 0 {
+        return;
+    }
+    let end = letters.len() + 7;
+    let mut block: usize = 1;
+    while block < end {
+        refresh_block(
+            code,
+            len,
+            m,
+            n,
+            letters,
+            &mut buf[..],
+            lead,
+            &outputs,
+            count,
+            up,
+            block,
+        );
+        block += 1;
     }
 }
 
-// A sweep up and a sweep down, over the outputs that aren't settled; those that are settled then.
+// A sweep over the outputs that aren't settled and whose leads are bounded; those that are settled then.
+fn settle_more(
+    code: &[u8],
+    len: &[usize],
+    m: usize,
+    n: usize,
+    letters: &[u8],
+    buf: &mut [u8],
+    masks: &[u8; 49],
+    up: bool,
+    settled: u8,
+) -> u8
+    requires { ⌜ Setting m n (now code) (now len) × RoundBytes m n (now letters) (now buf) ⌝ }
+    ensures { λ r. ⌜ Extends n (length (now (letters .entry))) (sides m n (now (code .entry)) (now (len .entry)) (now (letters .entry))) (now (masks .entry)) (InSet settled) (InSet r) (now (buf .entry)) (now (buf .exit)) ⌝ }
+{
+    let lead = leads(masks, n, up, settled);
+    sweep(code, len, m, n, letters, &mut buf[..], &lead, up);
+    settle(&lead, settled)
+}
+
+// Sweeps up and down by turns until all outputs are settled; whether they are. Two sweeps settle one output at least.
 fn sweeps(
     code: &[u8],
     len: &[usize],
@@ -123,20 +186,34 @@ fn sweeps(
     letters: &[u8],
     buf: &mut [u8],
     masks: &[u8; 49],
-    settled: u8,
-) -> u8
-    requires { ⌜ Setting m n (now code) (now len) × Filled m n (now letters) (now buf) ⌝ }
-    ensures { λ r. ⌜ Refreshed m n (now (code .entry)) (now (len .entry)) (now (letters .entry)) (λ q u. ⊥) (now (buf .entry)) (now (buf .exit)) true ⌝ }
+) -> bool
+    requires { ⌜ Setting m n (now code) (now len) × RoundBytes m n (now letters) (now buf) ⌝ }
+    ensures { λ r. ⌜ Extends n (length (now (letters .entry))) (sides m n (now (code .entry)) (now (len .entry)) (now (letters .entry))) (now (masks .entry)) (λ q u. ⊥) (λ q u. r ≡ true) (now (buf .entry)) (now (buf .exit)) ⌝ }
 {
-    let rising = leads(masks, true, settled);
-    sweep(code, len, m, n, letters, &mut buf[..], &rising, true);
-    let half = settle(&rising, settled);
-    let falling = leads(masks, false, half);
-    sweep(code, len, m, n, letters, &mut buf[..], &falling, false);
-    settle(&falling, half)
+    let mut settled: u8 = 0;
+    let mut k: usize = 0;
+    while k < 14 {
+        if settled == ALL {
+            return true;
+        }
+        settled = settle_more(
+            code,
+            len,
+            m,
+            n,
+            letters,
+            &mut buf[..],
+            masks,
+            k % 2 == 0,
+            settled,
+        );
+        k += 1;
+    }
+    settled == ALL
 }
 
-// Refreshes until a pass changes nothing.
+// Fills the buffer so that it satisfies the equations. That the sweeps settle every sheet that isn't circular is not proved, so passes stand
+// behind them.
 pub fn solve(
     code: &[u8],
     len: &[usize],
@@ -146,17 +223,11 @@ pub fn solve(
     buf: &mut [u8],
     masks: &[u8; 49],
 )
-    requires { ⌜ Setting m n (now code) (now len) × Filled m n (now letters) (now buf) ⌝ }
+    requires { ⌜ Setting m n (now code) (now len) × RoundBytes m n (now letters) (now buf) × Reads n (readsOf (now masks)) (length (now letters)) (sides m n (now code) (now len) (now letters)) ⌝ }
     ensures { λ r. ⌜ Solved n (length (now (letters .entry))) (sides m n (now (code .entry)) (now (len .entry)) (now (letters .entry))) (now (buf .entry)) (now (buf .exit)) ⌝ }
 {
-    let most = n * letters.len();
-    let mut settled: u8 = 0;
-    let mut k: usize = 0;
-    while k < most {
-        settled = sweeps(code, len, m, n, letters, &mut buf[..], masks, settled);
-        if !pass(code, len, m, n, letters, &mut buf[..]) {
-            return;
-        }
-        k += 1;
+    if sweeps(code, len, m, n, letters, &mut buf[..], masks) {
+        return;
     }
+    passes(code, len, m, n, letters, &mut buf[..]);
 }

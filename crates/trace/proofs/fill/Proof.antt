@@ -1,5 +1,5 @@
 -- `trace::fill` meets its contract. Assumes nothing.
-use Rattle.trace.proofs.Whole.{setting-of, part-length, cleared-room, filled-start, written-of}
+use Rattle.trace.proofs.Whole.{setting-of, told-reads, part-length, cleared-room, bytes-start, written-of}
 use borrow.Author.Needs.{needs}
 use Rattle.trace.proofs.fill.Statement.{statement}
 use Rattle.trace.proofs.fill.Tie as tie
@@ -43,7 +43,8 @@ solve-requires c κs =
     let a = st .args in
     let cleared = c .before .before .before .before .before .before .clear in (
       setting-of (a .x) (st .pre .0),
-      filled-start (a .x) (st .pre .0) _ (a .out .now) (cleared .last .0) (st .pre .2) (cleared .ensures .0) (cleared .ensures .1),
+      bytes-start (a .x) (st .pre .0) _ (a .out .now) (cleared .last .0) (st .pre .2) (cleared .ensures .0) (cleared .ensures .1),
+      told-reads (a .x) (st .pre .0) _ _ (c .before .before .before .before .before .before .before .before .sheet-masks .ensures),
     )
 
 same-length : tie.Need-same-length

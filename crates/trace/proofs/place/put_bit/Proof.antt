@@ -1,8 +1,9 @@
 -- `trace::place::put_bit` meets its contract. Assumes nothing.
+use mathlib.Core.Logic.{inl, inr, ⊎-elim}
 use lib.ListN.{getD}
-use Rattle.trace.proofs.Flips.{same-values, other-values, put-nothing, put-flip}
-use Rattle.words.specs.Bits.{bit, digit}
 use borrow.Author.Needs.{needs}
+use Rattle.words.specs.Bits.{bit, digit}
+use Rattle.trace.proofs.Flips.{same-values, other-values, put-byte}
 use Rattle.trace.proofs.place.put_bit.Statement.{statement}
 use Rattle.trace.proofs.place.put_bit.Tie as tie
 
@@ -14,10 +15,6 @@ cast-was c = search needs
 
 shr-was : tie.Need-shr-was
 shr-was c = search needs
-
-returns : tie.Need-returns
-unfolding bit digit
-returns c = put-nothing _ _ _ _ (same-values _ _ (c .if1 .taken))
 
 cast-buf : tie.Need-cast-buf
 cast-buf c = search needs
@@ -31,20 +28,16 @@ slice-write-buf c = search needs
 same-length : tie.Need-same-length
 same-length c = search needs
 
-returns-2 : tie.Need-returns-2
+returns : tie.Need-returns
 unfolding bit digit
-returns-2 c = let a = c .before .before .args in put-flip _ _ _ _ (c .before .before .pre .0) (c .before .before .pre .1) (other-values (bit (a .s) (getD (a .buf .now) (a .i) 0)) (a .v) (c .if1 .left))
+returns c =
+    let st = c .before .before .before in
+    let a = st .args in
+    let was = bit (a .s) (getD (a .buf .now) (a .i) 0) in
+    put-byte _ _ _ _ _ (st .pre .0) (st .pre .1)
+    (⊎-elim (λ w. inl (w .1, same-values was (a .v) (w .0 .taken))) (λ w. inr (w .1, other-values was (a .v) (w .0 .left))) (c .before .if1 .came))
 
 pub put-bit-spec : {M : Type 1} → statement M
 put-bit-spec =
     tie.close
-    (tie.spec
-    slice-read-old
-    cast-was
-    shr-was
-    returns
-    cast-buf
-    shl-buf
-    slice-write-buf
-    same-length
-    returns-2)
+    (tie.spec slice-read-old cast-was shr-was cast-buf shl-buf slice-write-buf same-length returns)

@@ -1,6 +1,6 @@
 -- `trace::place::refresh` meets its contract. Assumes nothing.
 use Rattle.trace.proofs.Rounds.{part-short, place-value}
-use Rattle.trace.proofs.Passes.{passed-one}
+use Rattle.trace.proofs.Passes.{renewed-put}
 use native.Mathlib.Omega.{arith}
 use borrow.Author.Needs.{needs}
 use Rattle.trace.proofs.place.refresh.Statement.{statement}
@@ -52,8 +52,9 @@ same-length c = search needs
 returns : tie.Need-returns
 returns c =
     let st = c .before .before .before .before .before .before .before .before .before .before .before .before .before in
-    passed-one _ _ _ _ _ _ _ _ _ (c .before .before .put-bit .ensures) (st .pre .3) (st .pre .2)
-    (place-value _ _ _ _ _ _ _ _ _ _ (st .pre .0) (st .pre .2) (c .before .before .before .before .before .before .before .environment .ensures) (c .before .before .before .before .value-bit .ensures))
+    let put = c .before .before .put-bit .ensures in
+    let right = place-value _ _ _ _ _ _ _ _ _ _ (st .pre .0) (st .pre .2) (c .before .before .before .before .before .before .before .environment .ensures) (c .before .before .before .before .value-bit .ensures) in
+    (renewed-put _ _ _ _ _ _ _ _ put (st .pre .3) (st .pre .2) right, put .same)
 
 pub refresh-spec : {M : Type 1} → statement M
 refresh-spec =

@@ -6,7 +6,7 @@ use mathlib.Core.Bool.{true≢false}
 use mathlib.Core.Logic.{⊎-elim}
 use lib.ListN.{length}
 use Rattle.trace.specs.Passes.{Passed, sides}
-use Rattle.trace.proofs.Passes.{passed-none, passed-then, passed-as, filled-after, next-round}
+use Rattle.trace.proofs.Passes.{passed-none, passed-then, passed-as, bytes-kept, next-round}
 use Rattle.trace.proofs.sweep.pass.Statement.{statement}
 use Rattle.trace.proofs.sweep.pass.Tie as tie
 
@@ -20,7 +20,7 @@ loop-holds : tie.Need-loop-holds Inv-loop μ-loop
 loop-holds c = (omega arith, omega arith, passed-none _ _ _ _ _ _ (λ q u pl h. omega (arith, pl .t-low)))
 
 refresh-round-requires : tie.Need-refresh-round-requires Inv-loop μ-loop
-refresh-round-requires c κs = let st = c .before .before .before .before .before .before .before in (st .pre .0, filled-after (c .before .before .loop .inv .2) (st .pre .1), omega arith, omega arith)
+refresh-round-requires c κs = let st = c .before .before .before .before .before .before .before in (st .pre .0, bytes-kept (c .before .before .loop .inv .2 .kept) (st .pre .1), omega arith, omega arith)
 
 add-t : tie.Need-add-t Inv-loop μ-loop
 add-t c = omega (arith, c .before .before .before .before .before .before .before .before .before .before .before .pre .1 .rounds)
@@ -38,7 +38,7 @@ loop-again c = (
 )
 
 same-length : tie.Need-same-length Inv-loop μ-loop
-same-length c = c .before .loop .inv .2 .len
+same-length c = c .before .loop .inv .2 .kept .len
 
 returns : tie.Need-returns Inv-loop μ-loop
 returns c = passed-as _ _ _ _ _ _ _ _ (λ q u pl h. omega (arith, pl .t-high)) (c .before .loop .inv .2)

@@ -1,78 +1,30 @@
 -- `trace::sweep::solve` meets its contract. Assumes nothing.
-use native.Mathlib.Omega.{arith}
-use Prim.Native.Nat.{_-_, _≤_}
+use borrow.Author.Needs.{needs}
 use mathlib.Core.Path.{_∙_}
-use borrow.Author.Tests.{not-true}
-use lib.ListN.{length}
-use Rattle.trace.specs.Passes.{sides}
-use Rattle.trace.proofs.Passes.{filled-after}
-use Rattle.trace.proofs.Solving.{Going, going-start, going-more, going-quiet, going-end, filled-going, most-small}
+use Rattle.trace.proofs.Passes.{bytes-kept}
+use Rattle.trace.proofs.Solving.{solved-all, solved-after}
 use Rattle.trace.proofs.sweep.solve.Statement.{statement}
 use Rattle.trace.proofs.sweep.solve.Tie as tie
 
-abbrev Inv-loop : tie.InvT-loop
-Inv-loop code len m n letters buf₀ masks most settled₀ k₀ buf settled k = (k ≤ most) × Going n (length letters) (sides m n code len letters) buf₀ buf k
+sweeps-requires : tie.Need-sweeps-requires
+sweeps-requires c κs = search needs
 
-abbrev μ-loop : tie.MeasureT-loop
-μ-loop code len m n letters buf₀ masks most settled₀ k₀ buf settled k = most - k
+same-length : tie.Need-same-length
+same-length c = c .before .before .before .sweeps .ensures .kept .len
 
-mul-most : tie.Need-mul-most Inv-loop μ-loop
-mul-most c =
-    let st = c .before .before .before .before in
-    omega (arith, most-small (st .args .n) (length (st .args .letters .now)) (st .pre .0 .outputs) (st .pre .1 .rounds))
+returns : tie.Need-returns
+returns c = solved-all (c .before .before .before .sweeps .ensures) (c .before .before .before .before .before .before .before .before .before .pre .2) (c .if1 .taken)
 
-loop-holds : tie.Need-loop-holds Inv-loop μ-loop
-loop-holds c = (omega arith, going-start _ _ _ _)
+passes-requires : tie.Need-passes-requires
+passes-requires c κs = let st = c .before .before .before .before .before .before .before .before .before .before in (st .pre .0, bytes-kept (c .before .before .before .before .sweeps .ensures .kept) (st .pre .1))
 
-sweeps-requires : tie.Need-sweeps-requires Inv-loop μ-loop
-sweeps-requires c κs = let st = c .before .before .before .before .before .before .before in (st .pre .0, filled-going (c .before .before .loop .inv .1) (st .pre .1))
+same-length-2 : tie.Need-same-length-2
+same-length-2 c = c .before .before .passes .ensures .kept .len ∙ c .before .before .before .before .before .before .before .sweeps .ensures .kept .len
 
-pass-requires : tie.Need-pass-requires Inv-loop μ-loop
-pass-requires c κs = let st = c .before .before .before .before .before .before .before .before .before .before .before in (st .pre .0, filled-after (c .before .before .before .sweeps .ensures) (filled-going (c .before .before .before .before .before .before .loop .inv .1) (st .pre .1)))
-
-same-length : tie.Need-same-length Inv-loop μ-loop
-same-length c =
-    let g = c .before .before .before .before .before .before .before .before .before .before .loop .inv .1 in
-    c .before .before .before .pass .ensures .len ∙ c .before .before .before .before .before .before .before .sweeps .ensures .len ∙ g .len
-
-returns : tie.Need-returns Inv-loop μ-loop
-returns c =
-    let g = c .before .before .before .before .before .before .before .before .before .before .loop .inv .1 in
-    going-quiet _ _ _ _ _ _ _ _ _ _ _ g (c .before .before .before .before .before .before .before .sweeps .ensures) (c .before .before .before .pass .ensures) (not-true _ (c .if1 .taken))
-
-add-k : tie.Need-add-k Inv-loop μ-loop
-add-k c =
-    let st = c .before .before .before .before .before .before .before .before .before .before .before .before .before .before .before in
-    omega (arith, most-small (st .args .n) (length (st .args .letters .now)) (st .pre .0 .outputs) (st .pre .1 .rounds))
-
-loop-less : tie.Need-loop-less Inv-loop μ-loop
-loop-less c = omega arith
-
-loop-again : tie.Need-loop-again Inv-loop μ-loop
-loop-again c =
-    let g = c .before .before .before .before .before .before .before .before .before .before .loop .inv .1 in
-    (omega arith, going-more _ _ _ _ _ _ _ _ _ _ _ g (c .before .before .before .before .before .before .before .sweeps .ensures) (c .before .before .before .pass .ensures))
-
-same-length-2 : tie.Need-same-length-2 Inv-loop μ-loop
-same-length-2 c = c .before .loop .inv .1 .len
-
-returns-2 : tie.Need-returns-2 Inv-loop μ-loop
-returns-2 c = going-end _ _ _ _ _ _ (omega arith) (c .before .loop .inv .1)
+returns-2 : tie.Need-returns-2
+returns-2 c = solved-after (c .before .before .before .before .before .before .before .sweeps .ensures .kept) (c .before .before .passes .ensures)
 
 pub solve-spec : {M : Type 1} → statement M
 solve-spec =
     tie.close
-    (tie.spec
-    Inv-loop
-    μ-loop
-    mul-most
-    loop-holds
-    sweeps-requires
-    pass-requires
-    same-length
-    returns
-    add-k
-    loop-less
-    loop-again
-    same-length-2
-    returns-2)
+    (tie.spec sweeps-requires same-length returns passes-requires same-length-2 returns-2)

@@ -1,45 +1,54 @@
 -- `trace::sweep::sweep` meets its contract. Assumes nothing.
 use native.Mathlib.Omega.{arith}
 use Prim.Native.Nat.{_-_, _≤_}
-use mathlib.Core.Bool.{true}
+use borrow.Author.Needs.{needs}
 use lib.ListN.{length}
-use Rattle.trace.specs.Passes.{Passed, sides}
-use Rattle.trace.proofs.Passes.{passed-none, passed-on, filled-after}
+use Rattle.trace.specs.Order.{InSet, Done}
+use Rattle.trace.specs.Passes.{Sweeps, sides}
+use Rattle.trace.proofs.Passes.{bytes-kept}
+use Rattle.trace.proofs.Sweeps.{sweep-start, sweep-more, sweep-end, sweep-nothing}
 use Rattle.trace.proofs.sweep.sweep.Statement.{statement}
 use Rattle.trace.proofs.sweep.sweep.Tie as tie
 
 abbrev Inv-loop : tie.InvT-loop
-Inv-loop code len m n letters buf₀ lead up end key₀ buf key = (key ≤ end) × Passed n (length letters) (sides m n code len letters) (λ q u. ⊥) buf₀ buf true
+Inv-loop code len m n letters buf₀ lead up outputs count end block₀ buf block =
+    (block ≤ end)
+    × Sweeps n (length letters) (sides m n code len letters) lead up InSet (Done lead up (length letters) outputs block 0) buf₀ buf
 
 abbrev μ-loop : tie.MeasureT-loop
-μ-loop code len m n letters buf₀ lead up end key₀ buf key = end - key
+μ-loop code len m n letters buf₀ lead up outputs count end block₀ buf block = end - block
 
-mul-end : tie.Need-mul-end Inv-loop μ-loop
-mul-end c = omega (arith, c .before .before .before .before .pre .1 .rounds)
-
-add-end : tie.Need-add-end Inv-loop μ-loop
-add-end c = omega (arith, c .before .before .before .before .pre .1 .rounds)
-
-loop-holds : tie.Need-loop-holds Inv-loop μ-loop
-loop-holds c = (omega arith, passed-none _ _ _ _ _ _ (λ q u pl h. h))
-
-refresh-key-requires : tie.Need-refresh-key-requires Inv-loop μ-loop
-refresh-key-requires c κs = let st = c .before .before .before .before .before .before .before in (st .pre .0, filled-after (c .before .before .loop .inv .1) (st .pre .1))
-
-add-key : tie.Need-add-key Inv-loop μ-loop
-add-key c = omega (arith, c .before .before .before .before .before .before .before .before .before .before .pre .1 .rounds)
-
-loop-less : tie.Need-loop-less Inv-loop μ-loop
-loop-less c = omega arith
-
-loop-again : tie.Need-loop-again Inv-loop μ-loop
-loop-again c = (omega arith, passed-on _ _ _ _ _ _ (c .before .before .before .before .before .loop .inv .1) (c .before .before .refresh-key .ensures))
-
-same-length : tie.Need-same-length Inv-loop μ-loop
-same-length c = c .before .loop .inv .1 .len
+order-of-requires : tie.Need-order-of-requires Inv-loop μ-loop
+order-of-requires c κs = search needs
 
 returns : tie.Need-returns Inv-loop μ-loop
-returns c = c .before .loop .inv .1
+returns c = sweep-nothing _ _ _ _ _ _ _ 0 (c .before .before .order-of .ensures) (c .if1 .taken) _
+
+add-end : tie.Need-add-end Inv-loop μ-loop
+add-end c = search needs
+
+loop-holds : tie.Need-loop-holds Inv-loop μ-loop
+loop-holds c = (omega arith, sweep-start _ _ _ _ _ _ _)
+
+refresh-block-requires : tie.Need-refresh-block-requires Inv-loop μ-loop
+refresh-block-requires c κs =
+    let st = c .before .before .before .before .before .before .before .before .before .before .before in
+    (st .pre .0, bytes-kept (c .before .before .before .loop .inv .1 .kept) (st .pre .1), c .before .before .before .before .before .before .order-of .ensures)
+
+add-block : tie.Need-add-block Inv-loop μ-loop
+add-block c = search needs
+
+loop-less : tie.Need-loop-less Inv-loop μ-loop
+loop-less c = search needs
+
+loop-again : tie.Need-loop-again Inv-loop μ-loop
+loop-again c = (omega arith, sweep-more _ _ _ _ _ _ _ _ (c .before .before .before .before .before .before .before .before .before .order-of .ensures) _ _ _ (c .before .before .before .before .before .before .loop .inv .1) (c .before .before .refresh-block .ensures))
+
+same-length : tie.Need-same-length Inv-loop μ-loop
+same-length c = c .before .loop .inv .1 .kept .len
+
+returns-2 : tie.Need-returns-2 Inv-loop μ-loop
+returns-2 c = sweep-end _ _ _ _ _ _ _ _ (c .before .before .before .before .order-of .ensures) (omega arith) _ _ (c .before .loop .inv .1)
 
 pub sweep-spec : {M : Type 1} → statement M
 sweep-spec =
@@ -47,12 +56,13 @@ sweep-spec =
     (tie.spec
     Inv-loop
     μ-loop
-    mul-end
+    order-of-requires
+    returns
     add-end
     loop-holds
-    refresh-key-requires
-    add-key
+    refresh-block-requires
+    add-block
     loop-less
     loop-again
     same-length
-    returns)
+    returns-2)

@@ -1,42 +1,60 @@
 -- `trace::sweep::sweeps` meets its contract. Assumes nothing.
-use Rattle.trace.proofs.Passes.{passed-on, filled-after}
-use borrow.Author.Needs.{needs}
+use native.Mathlib.Omega.{arith}
+use Prim.Native.Nat.{_-_, _≤_}
+use borrow.Author.Tests.{eqb-true}
+use lib.ListN.{length}
+use Rattle.trace.specs.Order.{InSet}
+use Rattle.trace.specs.Passes.{Extends, sides}
+use Rattle.trace.proofs.Passes.{bytes-kept}
+use Rattle.trace.proofs.Sweeps.{extends-start, extends-then, extends-all}
 use Rattle.trace.proofs.sweep.sweeps.Statement.{statement}
 use Rattle.trace.proofs.sweep.sweeps.Tie as tie
 
-leads-requires : tie.Need-leads-requires
-leads-requires c κs = search needs
+abbrev Inv-loop : tie.InvT-loop
+Inv-loop code len m n letters buf₀ masks settled₀ k₀ buf settled k = (k ≤ 14) × Extends n (length letters) (sides m n code len letters) masks (λ q u. ⊥) (InSet settled) buf₀ buf
 
-sweep-requires : tie.Need-sweep-requires
-sweep-requires c κs = search needs
+abbrev μ-loop : tie.MeasureT-loop
+μ-loop code len m n letters buf₀ masks settled₀ k₀ buf settled k = 14 - k
 
-settle-requires : tie.Need-settle-requires
-settle-requires c κs = search needs
+loop-holds : tie.Need-loop-holds Inv-loop μ-loop
+loop-holds c = (omega arith, extends-start _ _ _ _ _ _)
 
-leads-requires-2 : tie.Need-leads-requires-2
-leads-requires-2 c κs = search needs
+same-length : tie.Need-same-length Inv-loop μ-loop
+same-length c = c .before .before .loop .inv .1 .kept .len
 
-sweep-requires-2 : tie.Need-sweep-requires-2
-sweep-requires-2 c κs = let st = c .before .before .before .before .before .before .before .before .before .before .before .before .before .before .before in (st .pre .0, filled-after (c .before .before .before .before .before .before .before .sweep .ensures) (st .pre .1))
+returns : tie.Need-returns Inv-loop μ-loop
+returns c = extends-all _ _ _ _ _ _ _ _ _ (c .before .before .before .before .before .before .before .pre .0 .outputs) (λ e. c .if1 .taken) (c .before .before .loop .inv .1)
 
-settle-requires-2 : tie.Need-settle-requires-2
-settle-requires-2 c κs = search needs
+settle-more-requires : tie.Need-settle-more-requires Inv-loop μ-loop
+settle-more-requires c κs = let st = c .before .before .before .before .before .before .before .before in (st .pre .0, bytes-kept (c .before .before .before .loop .inv .1 .kept) (st .pre .1))
 
-same-length : tie.Need-same-length
-same-length c = search needs
+add-k : tie.Need-add-k Inv-loop μ-loop
+add-k c = omega arith
 
-returns : tie.Need-returns
-returns c = passed-on _ _ _ _ _ _ (c .before .before .before .before .before .before .before .before .before .before .before .before .sweep .ensures) (c .before .before .before .before .sweep2 .ensures)
+loop-less : tie.Need-loop-less Inv-loop μ-loop
+loop-less c = omega arith
+
+loop-again : tie.Need-loop-again Inv-loop μ-loop
+loop-again c = (omega arith, extends-then _ _ _ _ _ _ _ _ _ _ (c .before .before .before .before .before .before .loop .inv .1) (c .before .before .settle-more .ensures))
+
+same-length-2 : tie.Need-same-length-2 Inv-loop μ-loop
+same-length-2 c = c .before .loop .inv .1 .kept .len
+
+returns-2 : tie.Need-returns-2 Inv-loop μ-loop
+returns-2 c = extends-all _ _ _ _ _ _ _ _ _ (c .before .before .before .before .before .before .pre .0 .outputs) (eqb-true _ 127) (c .before .loop .inv .1)
 
 pub sweeps-spec : {M : Type 1} → statement M
 sweeps-spec =
     tie.close
     (tie.spec
-    leads-requires
-    sweep-requires
-    settle-requires
-    leads-requires-2
-    sweep-requires-2
-    settle-requires-2
+    Inv-loop
+    μ-loop
+    loop-holds
     same-length
-    returns)
+    returns
+    settle-more-requires
+    add-k
+    loop-less
+    loop-again
+    same-length-2
+    returns-2)

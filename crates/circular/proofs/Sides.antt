@@ -16,7 +16,7 @@ use Rattle.lola.specs.Reads.{place, hasRead}
 use Rattle.circular.specs.Circular.{CircularSheet, edges}
 use Rattle.circular.proofs.Bools.{or-l, or-r, and-both, and-l, and-r}
 use Rattle.circular.proofs.Masks.{place-le}
-use Rattle.circular.specs.Places.{Values, joint, lookAt, right, Place, Reads, Solves}
+use Rattle.circular.specs.Places.{Assignment, joint, lookAt, right, Place, Reads, Solves}
 use Rattle.circular.proofs.Unique.{run, unique, solution}
 
 -- the expression of output s
@@ -24,7 +24,7 @@ abbrev pub expressionOf : RuleSheet → ℕ → Expr
 expressionOf x s = getD (x .expressions) s (constant false)
 
 -- the right sides of a sheet, in a trace of N rounds with the inputs xs
-abbrev pub rightOf : RuleSheet → ℕ → Values → Values → ℕ → ℕ → Bool
+abbrev pub rightOf : RuleSheet → ℕ → Assignment → Assignment → ℕ → ℕ → Bool
 rightOf x N xs = right (x .inputs) (expressionOf x) N xs
 
 -- looks that are the same give the same values
@@ -36,7 +36,7 @@ value-same f g h (conjunction a b) = ap₂ _&&_ (value-same f g h a) (value-same
 value-same f g h (disjunction a b) = ap₂ _||_ (value-same f g h a) (value-same f g h b)
 value-same f g h (read q o d) = h q o d
 
-module _ (m n N t : ℕ) (xs v w : Values) where
+module _ (m n N t : ℕ) (xs v w : Assignment) where
   -- v and w agree where the expression reads an output
   abbrev Agree : Expr → Type 0
   Agree e = (q u o : ℕ) → hasRead e (m + q) o ≡ true → q < n → o ≤ 2 → u + 1 ≡ t + o → 1 ≤ u → u ≤ N → v q u ≡ w q u
@@ -71,7 +71,7 @@ module _ (m n N t : ℕ) (xs v w : Values) where
           stream (leb-true 2 (t + o) (and-l (leb 2 (t + o)) (leb (t + o) (suc N)) e)) (leb-true (t + o) (suc N) (and-r (leb 2 (t + o)) (leb (t + o) (suc N)) e)) (ltb q m) refl
       inside false e = refl
 
-module _ (x : RuleSheet) (formed : Formed x) (N : ℕ) (xs : Values) where
+module _ (x : RuleSheet) (formed : Formed x) (N : ℕ) (xs : Assignment) where
   pub right-reads : Reads (outputs x) (edges x) N (rightOf x N xs)
   unfolding right edges
   right-reads =
@@ -97,5 +97,5 @@ module _ (x : RuleSheet) (formed : Formed x) (N : ℕ) (xs : Values) where
     a-solution = solution (outputs x) (edges x) N (rightOf x N xs) right-reads level
 
     -- and there are no others
-    pub one-solution : (v w : Values) → Solves (outputs x) N (rightOf x N xs) v → Solves (outputs x) N (rightOf x N xs) w → (s t : ℕ) → Place (outputs x) N s t → v s t ≡ w s t
+    pub one-solution : (v w : Assignment) → Solves (outputs x) N (rightOf x N xs) v → Solves (outputs x) N (rightOf x N xs) w → (s t : ℕ) → Place (outputs x) N s t → v s t ≡ w s t
     one-solution v w = unique (outputs x) (edges x) N (rightOf x N xs) right-reads level v w

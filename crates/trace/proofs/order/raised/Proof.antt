@@ -1,0 +1,86 @@
+-- `trace::order::raised` meets its contract. Assumes nothing.
+use native.Mathlib.Omega.{arith}
+use Prim.Native.Nat.{_-_, _≤_}
+use borrow.Author.Needs.{needs}
+use mathlib.Core.Path.{_≡_, sym, _∙_}
+use borrow.Author.Tests.{not-false}
+use mathlib.Core.Logic.{⊎-elim}
+use Rattle.trace.specs.Order.{Raised}
+use Rattle.trace.proofs.Leads.{raised-none, raised-settled, raised-read}
+use Rattle.trace.proofs.order.raised.Statement.{statement}
+use Rattle.trace.proofs.order.raised.Tie as tie
+
+abbrev Inv-loop : tie.InvT-loop
+Inv-loop masks old n up settled s lead₀ q₀ lead q = (q ≤ n) × Raised masks old q up settled s lead
+
+abbrev μ-loop : tie.MeasureT-loop
+μ-loop masks old n up settled s lead₀ q₀ lead q = n - q
+
+element-copy-out-lead : tie.Need-element-copy-out-lead Inv-loop μ-loop
+element-copy-out-lead c = search needs
+
+loop-holds : tie.Need-loop-holds Inv-loop μ-loop
+loop-holds c = (omega arith, raised-none _ _ _ _ _ _)
+
+is-in-requires : tie.Need-is-in-requires Inv-loop μ-loop
+is-in-requires c κs = search needs
+
+mul-ahead : tie.Need-mul-ahead Inv-loop μ-loop
+mul-ahead c = search needs
+
+add-ahead : tie.Need-add-ahead Inv-loop μ-loop
+add-ahead c = search needs
+
+element-copy-out-ahead : tie.Need-element-copy-out-ahead Inv-loop μ-loop
+element-copy-out-ahead c = search needs
+
+element-copy-out-ahead-2 : tie.Need-element-copy-out-ahead-2 Inv-loop μ-loop
+element-copy-out-ahead-2 c = search needs
+
+ahead-requires : tie.Need-ahead-requires Inv-loop μ-loop
+ahead-requires c κs = search needs
+
+larger-requires : tie.Need-larger-requires Inv-loop μ-loop
+larger-requires c κs = search needs
+
+add-q : tie.Need-add-q Inv-loop μ-loop
+add-q c = omega arith
+
+loop-less : tie.Need-loop-less Inv-loop μ-loop
+loop-less c = omega arith
+
+loop-again : tie.Need-loop-again Inv-loop μ-loop
+loop-again c =
+    let r = c .before .before .before .loop .inv .1 in (
+      omega arith,
+      ⊎-elim
+          (λ w. rw (w .5) (raised-read _ _ _ _ _ _ _ _ r (w .4 .ensures .0) _ (w .3 .ensures) (w .4 .ensures .1)))
+          (λ w. rw (w .1) (raised-settled _ _ _ _ _ _ _ _ r (omega arith) (sym (c .before .is-in .ensures) ∙ not-false _ (w .0 .left))))
+          (c .if1 .came),
+    )
+
+returns : tie.Need-returns Inv-loop μ-loop
+returns c =
+    let l = c .before .loop in
+    let e : l .q ≡ c .before .before .before .args .n = omega arith in
+    rw e at (l .inv .1)
+
+pub raised-spec : {M : Type 1} → statement M
+raised-spec =
+    tie.close
+    (tie.spec
+    Inv-loop
+    μ-loop
+    element-copy-out-lead
+    loop-holds
+    is-in-requires
+    mul-ahead
+    add-ahead
+    element-copy-out-ahead
+    element-copy-out-ahead-2
+    ahead-requires
+    larger-requires
+    add-q
+    loop-less
+    loop-again
+    returns)

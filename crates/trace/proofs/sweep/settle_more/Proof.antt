@@ -1,0 +1,24 @@
+-- `trace::sweep::settle_more` meets its contract. Assumes nothing.
+use borrow.Author.Needs.{needs}
+use Rattle.trace.proofs.Sweeps.{extends-sweep}
+use Rattle.trace.proofs.sweep.settle_more.Statement.{statement}
+use Rattle.trace.proofs.sweep.settle_more.Tie as tie
+
+leads-requires : tie.Need-leads-requires
+leads-requires c κs = search needs
+
+sweep-requires : tie.Need-sweep-requires
+sweep-requires c κs = search needs
+
+settle-requires : tie.Need-settle-requires
+settle-requires c κs = search needs
+
+same-length : tie.Need-same-length
+same-length c = search needs
+
+returns : tie.Need-returns
+returns c = extends-sweep _ _ _ _ _ _ _ _ _ _ (c .before .before .before .before .before .before .before .before .before .before .before .before .pre .0 .outputs) (c .before .before .before .before .before .before .before .leads .ensures) (c .settle .ensures) (c .before .before .before .before .sweep .ensures)
+
+pub settle-more-spec : {M : Type 1} → statement M
+settle-more-spec =
+    tie.close (tie.spec leads-requires sweep-requires settle-requires same-length returns)

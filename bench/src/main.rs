@@ -49,6 +49,7 @@ fn document() -> String {
         setting = report::setting(),
         enough = Effort::FULL.enough,
         targets = report::targets(&preparations, &rounds, &traces, &program),
+        beside = report::beside(&checks, &preparations, &rounds),
         checks = report::checks(&checks),
         preparations = report::preparations(&preparations),
         rounds = report::rounds(&rounds),

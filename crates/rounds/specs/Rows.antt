@@ -78,6 +78,10 @@ grouped S r mask w k g c = anyBelow k (λ a. eqb g (bitAnd a mask) && heardIn S 
 abbrev pub Sparse : ℕ → List ℕ → Pairs → Type 0
 Sparse w groups G = (g : ℕ) → g < w → rowBit groups 0 g ≡ false → (b : ℕ) → b < 256 → G g (some b) ≡ false
 
+-- no valuation has the end mark after it
+abbrev pub NoEnds : Pairs → Type 0
+NoEnds G = (b : ℕ) → b < 256 → G b none ≡ false
+
 -- the rows from a on, those below b, have no valuation
 abbrev pub Quiet : Pairs → ℕ → ℕ → Type 0
 Quiet S a b = (x y : ℕ) → a ≤ x → x < b → y < 256 → S x (some y) ≡ false

@@ -10,10 +10,10 @@ ghost use Rattle.words.specs.Bits.{bit};
 ghost use Rattle.words.specs.Below.{anyBelow};
 ghost use Rattle.completions.specs.Steps.{startSet, stepSet};
 ghost use Rattle.pairs.specs.Storage.{stored};
-ghost use Rattle.pairs.specs.Changes.{Adds, eqNext};
+ghost use Rattle.pairs.specs.Changes.{Adds, eqNext, RowsCleared};
 ghost use Rattle.lanes.specs.Around.{room, Before, Seen};
 ghost use Rattle.lanes.specs.Coded.{Coded, sheetOf};
-ghost use Rattle.rounds.specs.Rows.{among, Wide, Earlier, below, cut, gains, NoneNew, NoEndNew, inRow, heardFirst, brought, heardIn, grouped, Sparse, Quiet};
+ghost use Rattle.rounds.specs.Rows.{among, Wide, Earlier, below, cut, gains, NoneNew, NoEndNew, inRow, heardFirst, brought, heardIn, grouped, Sparse, NoEnds, Quiet};
 ghost use Rattle.rounds.specs.Round.{Rounded};
 
 // ---- Valuations
@@ -310,6 +310,18 @@ fn bring_pairs(s: &mut [u64], groups: &[u64], code: &[u8], len: &[usize], m: usi
     bring_rows(s, &mut st, groups, code, len, m, n);
 }
 
+// Empties the rows of the groups, where no other row below v of the scratch set has anything.
+fn clear_groups(s: &mut [u64], groups: &[u64], v: usize, w: usize)
+    requires { ⌜ (v ≤ 64 * w) × (w ≤ 4) × (v ≤ 256) × (length (now groups) ≡ 4) × (3084 ≤ length (now s)) × Sparse v (now groups) (stored (now s) 2056) × NoEnds (stored (now s) 2056) ⌝ }
+    ensures { λ r. ⌜ RowsCleared 2056 v (now (s .entry)) (now (s .exit)) ⌝ }
+{
+    let mut g = pairs::next_bit(groups, 0, w, 0);
+    while g < v {
+        pairs::take_row(s, 2056, g);
+        g = pairs::next_bit(groups, 0, w, g + 1);
+    }
+}
+
 // A later round. Pairs (a, b) and (a', b) whose first parts agree in every stream that is read one round earlier have the same
 // successors, so the rows of the reached set, what was heard of them, are first joined by these groups.
 pub fn later_round(s: &mut [u64], code: &[u8], len: &[usize], m: usize, n: usize, letters: u64)
@@ -321,8 +333,9 @@ pub fn later_round(s: &mut [u64], code: &[u8], len: &[usize], m: usize, n: usize
     let mask = lanes::earlier_mask(code, len, m, n);
     pairs::clear_rows(s, 2056, v);
     let mut groups = [0u64; 4];
-    group_rows(s, &mut groups, v, row_words(m, n), letters, mask);
+    let w = row_words(m, n);
+    group_rows(s, &mut groups, v, w, letters, mask);
     pairs::clear_rows(s, 1028, v);
     bring_pairs(s, &groups, code, len, m, n);
-    pairs::clear_rows(s, 2056, v);
+    clear_groups(s, &groups, v, w);
 }

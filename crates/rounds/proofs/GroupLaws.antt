@@ -1,0 +1,116 @@
+-- The rows of the groups, emptied one after the other. Assumes nothing.
+use mathlib.Core.Path.{_≡_, refl, sym, ap, ap₂, _∙_}
+use mathlib.Core.Bool.{Bool, true, false, cond, not, _&&_, _||_}
+use mathlib.Core.List.{List}
+use mathlib.Core.Option.{Option, none, some}
+use Prim.Native.Nat.{ℕ, _+_, _*_, _≤_, _<_, min}
+use native.Mathlib.Omega.{arith}
+use native.Mathlib.Decide.{ℕ-discrete, decLt}
+use borrow.Author.Tests.{eq-eqb, ne-eqb, lt-ltb, le-ltb}
+use lib.Bits.{bitAnd}
+use lib.Dec.{eqb, ltb}
+use lib.ListN.{length, getD}
+use Rattle.completions.specs.Live.{Pairs}
+use Rattle.completions.specs.Steps.{Within}
+use Rattle.pairs.specs.Storage.{stored, used}
+use Rattle.pairs.specs.Changes.{rowBit, Adds, NextBit, RowsCleared, RowTaken}
+use Rattle.pairs.proofs.Bools.{and-true, and-false}
+use Rattle.pairs.proofs.Sets.{rows-beyond, adds-beyond}
+use Rattle.words.proofs.AnyLaws.{none-any}
+use Rattle.rounds.specs.Rows.{Sparse, NoEnds, grouped}
+
+-- of the scratch set, the groups below g and v are emptied
+pub record Emptying (groups : List ℕ) (v : ℕ) (s t : List ℕ) (g : ℕ) : Type 0 where
+  pub same-length : length t ≡ length s
+  pub before : (k : ℕ) → k < 2056 → getD t k 0 ≡ getD s k 0
+  pub beyond : (k : ℕ) → 2056 + 1028 ≤ k → getD t k 0 ≡ getD s k 0
+  pub left : (x : ℕ) (y : Option ℕ) → x < 256 → Within 256 y → stored t 2056 x y ≡ (stored s 2056 x y && not (rowBit groups 0 x && ltb x (min g v)))
+
+module _ (groups : List ℕ) (v : ℕ) where
+  kept : (x g : ℕ) (u : Bool) → (x < min g v → rowBit groups 0 x ≡ false) → (u && not (rowBit groups 0 x && ltb x (min g v))) ≡ u
+  kept x g u f = go (decLt x (min g v))
+    where
+      go : Dec (x < min g v) → (u && not (rowBit groups 0 x && ltb x (min g v))) ≡ u
+      go (yes h) = ap (λ (z : Bool). u && not (z && ltb x (min g v))) (f h) ∙ and-true u
+      go (no h) =
+          let l : min g v ≤ x = omega arith in
+          ap (λ (z : Bool). u && not (rowBit groups 0 x && z)) (le-ltb x (min g v) l) ∙ ap (λ (z : Bool). u && not z) (and-false (rowBit groups 0 x)) ∙ and-true u
+
+  pub emptying-none : (s : List ℕ) (n g : ℕ) → NextBit groups 0 n 0 g → Emptying groups v s s g
+  emptying-none s n g z = record {
+    same-length = refl;
+    before = λ k h. refl;
+    beyond = λ k h. refl;
+    left = λ x y hx hy. sym (kept x g (stored s 2056 x y) (λ h. z .skipped x (omega arith) (omega arith)));
+  }
+
+  pub emptying-more : (s t u : List ℕ) (n g g′ : ℕ) → g < v → rowBit groups 0 g ≡ true → Emptying groups v s t g → RowTaken 2056 g t u → NextBit groups 0 n (g + 1) g′
+      → Emptying groups v s u g′
+  emptying-more s t u n g g′ h noted e r z = record {
+    same-length = r .same-length ∙ e .same-length;
+    before = λ k l. r .before k l ∙ e .before k l;
+    beyond = λ k l. r .beyond k l ∙ e .beyond k l;
+    left = λ x y hx hy. r .taken x y hx hy ∙ ap (λ (b : Bool). b && not (eqb x g)) (e .left x y hx hy) ∙ go (stored s 2056 x y) x (ℕ-discrete x g) (decLt x g);
+  }
+    where
+      go : (b : Bool) (x : ℕ) → Dec (x ≡ g) → Dec (x < g)
+          → ((b && not (rowBit groups 0 x && ltb x (min g v))) && not (eqb x g)) ≡ (b && not (rowBit groups 0 x && ltb x (min g′ v)))
+      go b x (yes q) d =
+          let l : x < min g′ v = omega (arith, z .onward) in
+          ap (λ (k : Bool). (b && not (rowBit groups 0 x && ltb x (min g v))) && not k) (eq-eqb x g q)
+          ∙ and-false (b && not (rowBit groups 0 x && ltb x (min g v)))
+          ∙ sym (ap₂ (λ (k m : Bool). b && not (k && m)) (ap (rowBit groups 0) q ∙ noted) (lt-ltb x (min g′ v) l) ∙ and-false b)
+      go b x (no q) (yes l) =
+          let i : x < min g v = omega arith in
+          let j : x < min g′ v = omega (arith, z .onward) in
+          ap₂ (λ (k m : Bool). (b && not (rowBit groups 0 x && k)) && not m) (lt-ltb x (min g v) i) (ne-eqb x g q)
+          ∙ and-true (b && not (rowBit groups 0 x && true))
+          ∙ sym (ap (λ (k : Bool). b && not (rowBit groups 0 x && k)) (lt-ltb x (min g′ v) j))
+      go b x (no q) (no l) =
+          let i : min g v ≤ x = omega arith in
+          ap₂ (λ (k m : Bool). (b && not (rowBit groups 0 x && k)) && not m) (le-ltb x (min g v) i) (ne-eqb x g q)
+          ∙ and-true (b && not (rowBit groups 0 x && false))
+          ∙ ap (λ (k : Bool). b && not k) (and-false (rowBit groups 0 x))
+          ∙ and-true b
+          ∙ sym (kept x g′ b (λ k. z .skipped x (omega arith) (omega arith)))
+
+  pub emptying-all : (s t : List ℕ) (g : ℕ) → v ≤ g → v ≤ 256 → Sparse v groups (stored s 2056) → NoEnds (stored s 2056) → Emptying groups v s t g → RowsCleared 2056 v s t
+  unfolding used
+  emptying-all s t g h hv sparse ends e = record {
+    same-length = e .same-length;
+    before = e .before;
+    beyond = e .beyond;
+    emptied = λ x y hx hy. e .left x y hx hy ∙ go x y hx hy;
+  }
+    where
+      noted : (x b : ℕ) (u : Bool) → x < v → b < 256 → rowBit groups 0 x ≡ u → (stored s 2056 x (some b) && not (u && true)) ≡ false
+      noted x b true l hb q = and-false (stored s 2056 x (some b))
+      noted x b false l hb q = ap (λ (k : Bool). k && true) (sparse x l q b hb)
+
+      row : (x b : ℕ) → b < 256 → Dec (x < v) → (stored s 2056 x (some b) && not (rowBit groups 0 x && ltb x (min g v))) ≡ cond (ltb x v) false (stored s 2056 x (some b))
+      row x b hb (yes l) =
+          let i : x < min g v = omega arith in
+          ap (λ (k : Bool). stored s 2056 x (some b) && not (rowBit groups 0 x && k)) (lt-ltb x (min g v) i)
+          ∙ noted x b (rowBit groups 0 x) l hb refl
+          ∙ sym (ap (λ (k : Bool). cond k false (stored s 2056 x (some b))) (lt-ltb x v l))
+      row x b hb (no l) =
+          let i : v ≤ x = omega arith in
+          kept x g (stored s 2056 x (some b)) (λ k. absurd (omega arith)) ∙ sym (ap (λ (k : Bool). cond k false (stored s 2056 x (some b))) (le-ltb x v i))
+
+      go : (x : ℕ) (y : Option ℕ) → x < 256 → Within 256 y → (stored s 2056 x y && not (rowBit groups 0 x && ltb x (min g v))) ≡ cond (used v x y) false (stored s 2056 x y)
+      go x none hx hy = ap (λ (k : Bool). k && not (rowBit groups 0 x && ltb x (min g v))) (ends x hx)
+      go x (some b) hx hy = row x b hy (decLt x v)
+
+-- changes of the reached set leave the scratch set sparse
+pub sparse-brought : (v : ℕ) (groups s t : List ℕ) (P : Pairs) → v ≤ 256 → Adds 1028 s t P → Sparse v groups (stored s 2056) → Sparse v groups (stored t 2056)
+sparse-brought v groups s t P hv d f g hg e k hk = adds-beyond 1028 s t P d 2056 g (some k) (omega arith) hk (omega arith) ∙ f g hg e k hk
+
+-- a scratch set that was cleared and has the groups put into it has no ends, and changes of the reached set leave it so
+pub no-ends : (v : ℕ) (s s₁ s₂ s₃ s₄ : List ℕ) (S P : Pairs) (r : ℕ → Bool) (mask w : ℕ) → RowsCleared 2056 v s s₁ → Adds 2056 s₁ s₂ (grouped S r mask w v) → RowsCleared 1028 v s₂ s₃
+    → Adds 1028 s₃ s₄ P → NoEnds (stored s₄ 2056)
+unfolding grouped used
+no-ends v s s₁ s₂ s₃ s₄ S P r mask w a b c d k h =
+    adds-beyond 1028 s₃ s₄ P d 2056 k none h tt (omega arith)
+    ∙ rows-beyond 1028 v s₂ s₃ c 2056 k none h tt (omega arith)
+    ∙ b .adds k none h tt
+    ∙ ap₂ _||_ (a .emptied k none h tt) (none-any v _ (λ i l. and-false (eqb k (bitAnd i mask))))

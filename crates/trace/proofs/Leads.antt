@@ -15,7 +15,7 @@ use Rattle.words.proofs.BitLaws.{digit-zero, bit-none, bit-or}
 use Rattle.circular.specs.Table.{readsOf}
 use Rattle.circular.proofs.Bools.{and-l, and-r}
 use Rattle.trace.proofs.Flips.{bit-mask}
-use Rattle.trace.specs.Order.{Bounded, toward, Farthest, Behind, Ahead, Raised, Steady, Settled}
+use Rattle.trace.specs.Order.{Bounded, toward, Farthest, Behind, BehindAll, Raised, Steady, Settled}
 
 -- the bits of a mask
 bit-0 : (mask : ℕ) → bit 0 mask ≡ true → mask % 2 ≡ 1
@@ -53,14 +53,14 @@ farthest-of mask next up came none =
 
 -- ---- one output that is read
 
-pub ahead-none : (mask other : ℕ) (up : Bool) (r : ℕ) → mask ≡ 0 → Ahead mask other up r
+pub ahead-none : (mask other : ℕ) (up : Bool) (r : ℕ) → mask ≡ 0 → BehindAll mask other up r
 ahead-none mask other up r e = record { reads = λ o h b. absurd (true≢false (sym b ∙ ap (bit o) e ∙ bit-none o)) }
 
-pub ahead-unbounded : (mask other : ℕ) (up : Bool) (r : ℕ) → 54 < r → Ahead mask other up r
+pub ahead-unbounded : (mask other : ℕ) (up : Bool) (r : ℕ) → 54 < r → BehindAll mask other up r
 ahead-unbounded mask other up r h =
     record { reads = λ o k b. record { bounded = λ l. absurd (omega arith); key = λ l. absurd (omega arith) } }
 
-pub ahead-of : (mask other : ℕ) (up : Bool) (far r : ℕ) → Farthest mask up far → other ≤ 54 → 8 * far + other < 8 + r → Ahead mask other up r
+pub ahead-of : (mask other : ℕ) (up : Bool) (far r : ℕ) → Farthest mask up far → other ≤ 54 → 8 * far + other < 8 + r → BehindAll mask other up r
 ahead-of mask other up far r f h k =
     record { reads = λ o l b. record { bounded = λ x. h; key = λ x. let g = f .reads o l b in omega arith } }
 
@@ -87,7 +87,7 @@ module _ (masks lead : List ℕ) (up : Bool) (settled s : ℕ) where
     pub raised-settled : bit n settled ≡ true → Raised masks lead (n + 1) up settled s x
     raised-settled e = step (λ o h b c. absurd (true≢false (sym e ∙ c)))
 
-    pub raised-read : (y : ℕ) → Ahead (getD masks (7 * s + n) 0) (getD lead n 0) up y → y ≤ x → Raised masks lead (n + 1) up settled s x
+    pub raised-read : (y : ℕ) → BehindAll (getD masks (7 * s + n) 0) (getD lead n 0) up y → y ≤ x → Raised masks lead (n + 1) up settled s x
     unfolding readsOf
     raised-read y a h = step (λ o l b c. behind-more (a .reads o l b) h)
 

@@ -10,11 +10,11 @@ use lib.ListN.{length, getD}
 use Rattle.words.specs.Bits.{bit}
 use Rattle.circular.specs.Places.{Assignment, Place, Reads, Solves, RightAt, Right}
 use Rattle.circular.proofs.Sweep.{fresh-right}
-use Rattle.trace.specs.Passes.{valuesOf, RoundBytes, BitPut, Kept, Renewed, Passed}
+use Rattle.trace.specs.Passes.{valuesOf, RoundBytes, BitPut, SameShape, Renewed, Passed}
 
 -- ---- buffers that are kept
 
-pub bytes-kept : {m n : ℕ} {letters old new : List ℕ} → Kept n old new → RoundBytes m n letters old → RoundBytes m n letters new
+pub bytes-kept : {m n : ℕ} {letters old new : List ℕ} → SameShape n old new → RoundBytes m n letters old → RoundBytes m n letters new
 bytes-kept p x =
     record {
       streams = x .streams;
@@ -24,10 +24,10 @@ bytes-kept p x =
       bytes-below = p .below (x .bytes-below);
     }
 
-pub kept-none : (n : ℕ) (l : List ℕ) → Kept n l l
+pub kept-none : (n : ℕ) (l : List ℕ) → SameShape n l l
 kept-none n l = record { len = refl; below = λ b. b }
 
-pub kept-then : {n : ℕ} {old mid new : List ℕ} → Kept n old mid → Kept n mid new → Kept n old new
+pub kept-then : {n : ℕ} {old mid new : List ℕ} → SameShape n old mid → SameShape n mid new → SameShape n old new
 kept-then p q = record { len = q .len ∙ p .len; below = λ b. q .below (p .below b) }
 
 -- a bit that was put is a place worked out anew

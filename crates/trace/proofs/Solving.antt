@@ -10,11 +10,11 @@ use Rattle.circular.specs.Places.{Assignment, Reads, Solves, Right}
 use Rattle.circular.proofs.Unique.{run, solution}
 use Rattle.circular.proofs.Sweep.{right-start, right-end, solves-of}
 use Rattle.trace.proofs.Passes.{kept-none, kept-then}
-use Rattle.trace.specs.Passes.{valuesOf, Kept, Passed, Extends, Solved}
+use Rattle.trace.specs.Passes.{valuesOf, SameShape, Passed, Extends, Solved}
 
 -- k passes are done
 pub record Going (n N : ℕ) (f : Assignment → Assignment) (old new : List ℕ) (k : ℕ) : Type 0 where
-  pub kept : Kept n old new
+  pub kept : SameShape n old new
   pub right : (E : ℕ → ℕ → ℕ → Bool) → Reads n E N f → (sol : Assignment) → Solves n N f sol → Right n E N sol k (valuesOf new)
 
 module _ (n N : ℕ) (f : Assignment → Assignment) (old : List ℕ) where
@@ -55,7 +55,7 @@ pub most-small : (n N : ℕ) → n ≤ 7 → N ≤ 4096 → n * N ≤ 28672
 most-small n N h k = mul-le-mul {n₁ = n} {m₁ = N} {n₂ = 7} {m₂ = 4096} h k
 
 -- solved from a buffer that was kept
-pub solved-after : {n N : ℕ} {f : Assignment → Assignment} {old mid new : List ℕ} → Kept n old mid → Solved n N f mid new → Solved n N f old new
+pub solved-after : {n N : ℕ} {f : Assignment → Assignment} {old mid new : List ℕ} → SameShape n old mid → Solved n N f mid new → Solved n N f old new
 solved-after k x = record { kept = kept-then k (x .kept); holds = x .holds }
 
 -- all places are right

@@ -34,7 +34,7 @@ pub record Behind (up : Bool) (o other r : ℕ) : Type 0 where
   pub key : r ≤ 54 → 8 * toward up o + other < 8 + r
 
 -- the same for all reads of a mask
-pub record Ahead (mask other : ℕ) (up : Bool) (r : ℕ) : Type 0 where
+pub record BehindAll (mask other : ℕ) (up : Bool) (r : ℕ) : Type 0 where
   pub reads : (o : ℕ) → o ≤ 2 → bit o mask ≡ true → Behind up o other r
 
 -- the same for all reads of output s, of n outputs that aren't settled

@@ -72,20 +72,20 @@ pub record BitPut (i s : ℕ) (v : Bool) (old new : List ℕ) (changed : Bool) :
   pub same : changed ≡ false → new ≡ old
 
 -- a buffer of the same length, with n bits a byte
-pub record Kept (n : ℕ) (old new : List ℕ) : Type 0 where
+pub record SameShape (n : ℕ) (old new : List ℕ) : Type 0 where
   pub len : length new ≡ length old
   pub below : ((i : ℕ) → i < length old → getD old i 0 < 2 ^ n) → (i : ℕ) → i < length new → getD new i 0 < 2 ^ n
 
 -- output s was worked out anew in round t, and nothing else
 pub record Renewed (n : ℕ) (f : Assignment → Assignment) (s t : ℕ) (old new : List ℕ) : Type 0 where
-  pub kept : Kept n old new
+  pub kept : SameShape n old new
   pub value : valuesOf new s t ≡ f (valuesOf old) s t
   pub others : (q u : ℕ) → 1 ≤ u → ((q ≡ s) × (u ≡ t) → ⊥) → valuesOf new q u ≡ valuesOf old q u
 
 -- The places of P were refreshed, and others maybe. What was right stays right; the places of P come one read further; and where
 -- nothing changed, the equations hold at the places of P.
 pub record Passed (n N : ℕ) (f : Assignment → Assignment) (P : ℕ → ℕ → Type 0) (old new : List ℕ) (changed : Bool) : Type 0 where
-  pub kept : Kept n old new
+  pub kept : SameShape n old new
   pub hold : (E : ℕ → ℕ → ℕ → Bool) → Reads n E N f → (sol : Assignment) → Solves n N f sol → (k : ℕ)
       → Right n E N sol k (valuesOf old) → Right n E N sol k (valuesOf new)
   pub keep : (E : ℕ → ℕ → ℕ → Bool) → Reads n E N f → (sol : Assignment) → Solves n N f sol → (k : ℕ)
@@ -106,18 +106,18 @@ RightOn n N sol P v = (s t : ℕ) → Place n N s t → P s t → v s t ≡ sol 
 
 -- what is right at the places of P before is right at the places of Q after, if the reads are those of the masks
 pub record Extends (n N : ℕ) (f : Assignment → Assignment) (masks : List ℕ) (P Q : ℕ → ℕ → Type 0) (old new : List ℕ) : Type 0 where
-  pub kept : Kept n old new
+  pub kept : SameShape n old new
   pub right : Reads n (readsOf masks) N f → (sol : Assignment) → Solves n N f sol → RightOn n N sol P (valuesOf old) → RightOn n N sol Q (valuesOf new)
 
 -- the same for all masks and settled outputs for which the leads are steady
 pub record Sweeps (n N : ℕ) (f : Assignment → Assignment) (lead : List ℕ) (up : Bool) (P Q : ℕ → ℕ → ℕ → Type 0) (old new : List ℕ) : Type 0 where
-  pub kept : Kept n old new
+  pub kept : SameShape n old new
   pub right : (masks : List ℕ) (settled : ℕ) → Steady masks lead n up settled → Reads n (readsOf masks) N f → (sol : Assignment) → Solves n N f sol
       → RightOn n N sol (P settled) (valuesOf old) → RightOn n N sol (Q settled) (valuesOf new)
 
 -- the buffer satisfies the equations, if the reads between the outputs are not circular
 pub record Solved (n N : ℕ) (f : Assignment → Assignment) (old new : List ℕ) : Type 0 where
-  pub kept : Kept n old new
+  pub kept : SameShape n old new
   pub holds : (E : ℕ → ℕ → ℕ → Bool) → Reads n E N f → (Circular n E → ⊥) → Solves n N f (valuesOf new)
 
 -- the first letter that isn't below 2 ^ m

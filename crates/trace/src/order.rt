@@ -4,7 +4,7 @@ ghost use mathlib.Core.Bool.{true};
 ghost use Prim.Native.Nat.{ℕ, _<_, _≤_};
 ghost use lib.ListN.{getD};
 ghost use Rattle.words.specs.Bits.{bit};
-ghost use Rattle.trace.specs.Order.{Farthest, Ahead, Raised, Steady, Settled, Due, Ordered, RoundIn};
+ghost use Rattle.trace.specs.Order.{Farthest, BehindAll, Raised, Steady, Settled, Due, Ordered, RoundIn};
 
 // Output s in round t has the key 8 t + lead[s], or 8 (rounds + 1 - t) + lead[s] where the sweep goes down. A lead is the largest
 // weight of the walks from an output along reads: 9 for a read of the next round in the sweep's direction, 1 for a read now, -7 for
@@ -26,7 +26,7 @@ fn farthest(mask: u8, up: bool) -> u8
 
 // The least lead for reads of a mask, of an output with the lead `other`.
 fn ahead(mask: u8, other: u8, up: bool) -> u8
-    ensures { λ r. ⌜ Ahead mask other up r ⌝ }
+    ensures { λ r. ⌜ BehindAll mask other up r ⌝ }
 {
     if mask == 0 {
         return 0;

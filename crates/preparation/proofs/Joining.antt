@@ -4,23 +4,27 @@ use mathlib.Core.Logic.{inl, inr}
 use mathlib.Core.Bool.{Bool, true, false, not, _&&_, _||_}
 use mathlib.Core.List.{List}
 use mathlib.Core.Option.{Option, none, some}
-use Prim.Native.Nat.{ℕ, _+_, _*_, _^_, _≤_, _<_}
+use Prim.Native.Nat.{ℕ, _+_, _-_, _*_, _/_, _%_, _^_, _≤_, _<_}
 use native.Mathlib.Omega.{arith}
 use native.Mathlib.Decide.{ℕ-discrete, decLt}
 use borrow.Author.Tests.{eq-eqb, ne-eqb, lt-ltb, le-ltb}
 use lib.Dec.{eqb, ltb}
+use lib.Bits.{bitAnd, and-le-l}
+use lib.Count.{trailingZeros}
 use lib.ListN.{getD}
 use Rattle.sheet.specs.RuleSheet.{RuleSheet, streams}
 use Rattle.completions.specs.Live.{Pairs, allowed, assumed}
 use Rattle.lola.specs.Equations.{holds}
 use Rattle.completions.specs.Steps.{Within, anyNext}
+use Rattle.words.specs.Bits.{bit}
+use Rattle.words.proofs.BitLaws.{bit-and, bit-not, bit-shl, bit-none, Lowest, lowest}
 use Rattle.words.proofs.AnyLaws.{none-any}
 use Rattle.pairs.specs.Storage.{stored}
 use Rattle.pairs.specs.Changes.{eqNext, Adds, rowBit, NextBit, RowTaken, Noted}
 use Rattle.pairs.proofs.Bools.{and-true, and-false, or-false, or-assoc}
 use Rattle.pairs.proofs.Sets.{stored-eq, adds-before, adds-beyond}
 use Rattle.unions.specs.Rows.{meets, Row}
-use Rattle.preparation.specs.Search.{joining, joinersAt, joiners, newcomers, enders, Joins, Occupied, Apart, Swept}
+use Rattle.preparation.specs.Search.{joining, joinersAt, joiners, newcomers, newcomersIn, enders, Joins, Occupied, Apart, Swept}
 use Rattle.preparation.proofs.Layers.{joining-same, wider}
 
 -- ---- numbers below a bound
@@ -164,75 +168,138 @@ occupied-beside w layer next b rows s t hw d r o = record {
   some-there = λ x h e. let y = o .some-there x h e in (y .0, y .1, taken-beside layer next b s t d r x (y .0) (omega arith) (y .1) ∙ y .2);
 }
 
--- ---- the members of a row, one after the other; a is the next, or the bound n
+-- ---- the lanes of a word, one after the other
 
-pub record Column (base : ℕ) (s t : List ℕ) (w : ℕ) (row : List ℕ) (b a : ℕ) : Type 0 where
-  pub inside : a ≤ 64 * w
-  pub sofar : Joins base s t (newcomers a row b (stored s 0))
-  pub next : a < 64 * w → rowBit row 0 a ≡ true
+-- a word without lane i
+abbrev pub without : ℕ → ℕ → ℕ
+without x i = bitAnd x (18446744073709551615 - 1 * 2 ^ i % 2 ^ 64)
 
-module _ (base : ℕ) (s : List ℕ) (w : ℕ) (row : List ℕ) (b : ℕ) (hb : b < 256) (hw : w ≤ 4) where
+lane-off : (k x i : ℕ) → k < 64 → i < 64 → bit k (without x i) ≡ (bit k x && not (eqb k i))
+lane-off k x i h l =
+    bit-and k x (18446744073709551615 - 1 * 2 ^ i % 2 ^ 64)
+    ∙ ap (λ (u : Bool). bit k x && u) (bit-not 64 k (1 * 2 ^ i % 2 ^ 64) h (omega arith) ∙ ap not (bit-shl k i l))
+
+lane-gone : (x i : ℕ) → i < 64 → bit i (without x i) ≡ false
+lane-gone x i h = lane-off i x i h h ∙ ap (λ (v : Bool). bit i x && not v) (eq-eqb i i refl) ∙ and-false (bit i x)
+
+pub lane-less : (x i : ℕ) → i < 64 → bit i x ≡ true → without x i < x
+lane-less x i h e = let l : without x i ≤ x = and-le-l x (18446744073709551615 - 1 * 2 ^ i % 2 ^ 64) in let n : without x i ≡ x → ⊥ = differs in omega arith
+  where
+    differs : without x i ≡ x → ⊥
+    differs q = let y : true ≡ false = sym e ∙ ap (bit i) (sym q) ∙ lane-gone x i h in let z : _≡_ {A = ℕ} 0 1 = cc in omega arith
+
+-- once the lanes of `rest` have joined, those of the word have
+pub record Lanes (base : ℕ) (s t : List ℕ) (j word b rest : ℕ) : Type 0 where
+  pub fits : rest < 2 ^ 64
+  pub whole : (u : List ℕ) → Joins base t u (newcomersIn j rest b (stored t 0)) → Joins base s u (newcomersIn j word b (stored s 0))
+
+pub lanes-first : (base : ℕ) (s : List ℕ) (j word b : ℕ) → word < 2 ^ 64 → Lanes base s s j word b word
+lanes-first base s j word b l = record { fits = l; whole = λ u h. h }
+
+module _ (base : ℕ) (s t : List ℕ) (j word b rest : ℕ) (p : Lanes base s t j word b rest) where
+  pub lanes-next : (rest ≡ 0 → ⊥) → Lowest 64 rest (trailingZeros 64 rest)
+  lanes-next n = lowest 64 rest (p .fits) n
+
+  pub lanes-all : rest ≡ 0 → Joins base s t (newcomersIn j word b (stored s 0))
+  unfolding newcomersIn
+  lanes-all e = p .whole t (joins-none base t (newcomersIn j rest b (stored t 0)) at)
+    where
+      at : (x : ℕ) (y : Option ℕ) → x < 256 → Within 256 y → newcomersIn j rest b (stored t 0) x y ≡ false
+      at x none hx hy = refl
+      at x (some y) hx hy =
+          ap (λ (v : Bool). eqb y b && ((eqb (x / 64) j && v) && not (stored t 0 x (some y)))) (ap (bit (x % 64)) e ∙ bit-none (x % 64))
+          ∙ ap (λ (v : Bool). eqb y b && (v && not (stored t 0 x (some y)))) (and-false (eqb (x / 64) j)) ∙ and-false (eqb y b)
+
+  pub lanes-more : (u : List ℕ) (i : ℕ) → i < 64 → bit i rest ≡ true → Joins base t u (λ x y. eqb x (64 * j + i) && (eqNext y (some b) && not (stored t 0 (64 * j + i) (some b))))
+      → Lanes base s u j word b (without rest i)
+  unfolding newcomersIn eqNext
+  lanes-more u i l o q = record {
+    fits = omega (arith, p .fits, lane-less rest i l o);
+    whole = λ z h. p .whole z (joins-then base t u z one (newcomersIn j (without rest i) b (stored u 0)) (newcomersIn j rest b (stored t 0)) q h at);
+  }
+    where
+      one : Pairs
+      one x y = eqb x (64 * j + i) && (eqNext y (some b) && not (stored t 0 (64 * j + i) (some b)))
+
+      -- other pairs are as they were, and so are other lanes
+      kept : (x y : ℕ) → x < 256 → y < 256 → (x ≡ 64 * j + i → ⊥) → stored u 0 x (some y) ≡ stored t 0 x (some y)
+      kept x y hx hy e =
+          q .live x (some y) hx hy
+          ∙ ap (λ (v : Bool). stored t 0 x (some y) || (v && (eqb y b && not (stored t 0 (64 * j + i) (some b))))) (ne-eqb x (64 * j + i) e)
+          ∙ or-false (stored t 0 x (some y))
+
+      same : (k : ℕ) → k < 64 → (k ≡ i → ⊥) → bit k (without rest i) ≡ bit k rest
+      same k h e = lane-off k rest i h l ∙ ap (λ (v : Bool). bit k rest && not v) (ne-eqb k i e) ∙ and-true (bit k rest)
+
+      at : (x : ℕ) (y : Option ℕ) → x < 256 → Within 256 y → (one x y || newcomersIn j (without rest i) b (stored u 0) x y) ≡ newcomersIn j rest b (stored t 0) x y
+      at x none hx hy = ap (λ (v : Bool). v || false) (and-false (eqb x (64 * j + i)))
+      at x (some y) hx hy = go (ℕ-discrete y b) (ℕ-discrete x (64 * j + i)) (ℕ-discrete (x / 64) j)
+        where
+          go : Dec (y ≡ b) → Dec (x ≡ 64 * j + i) → Dec (x / 64 ≡ j)
+              → ((eqb x (64 * j + i) && (eqb y b && not (stored t 0 (64 * j + i) (some b)))) || (eqb y b && ((eqb (x / 64) j && bit (x % 64) (without rest i)) && not (stored u 0 x (some y)))))
+              ≡ (eqb y b && ((eqb (x / 64) j && bit (x % 64) rest) && not (stored t 0 x (some y))))
+          go (no d) e f = rw (ne-eqb y b d) (ap (λ (v : Bool). v || false) (and-false (eqb x (64 * j + i))))
+          go (yes d) (yes e) f =
+              let m : x % 64 ≡ i = omega arith in
+              rw (m, eq-eqb y b d, eq-eqb x (64 * j + i) e, eq-eqb (x / 64) j (omega arith), lane-gone rest i l, o)
+              (or-false (not (stored t 0 (64 * j + i) (some b))) ∙ ap₂ (λ (k n : ℕ). not (stored t 0 k (some n))) (sym e) (sym d))
+          go (yes d) (no e) (yes f) = rw (ne-eqb x (64 * j + i) e, kept x y hx hy e, same (x % 64) (omega arith) (omega arith)) refl
+          go (yes d) (no e) (no f) = rw (ne-eqb x (64 * j + i) e, ne-eqb (x / 64) j f) refl
+
+-- ---- the words of a row, one after the other; those below j have joined
+
+module _ (base : ℕ) (s : List ℕ) (row : List ℕ) (b : ℕ) where
   abbrev N : ℕ → ℕ → ℕ → Bool
   N a x y = ltb x a && (rowBit row 0 x && not (stored s 0 x (some y)))
 
-  -- the skipped numbers are no members
-  skip : (a a′ x y : ℕ) → a ≤ a′ → ((x : ℕ) → a ≤ x → x < a′ → rowBit row 0 x ≡ false) → N a x y ≡ N a′ x y
-  skip a a′ x y l h = below-wider x a a′ (rowBit row 0 x && not (stored s 0 x (some y))) l (λ g k. ap (λ (u : Bool). u && not (stored s 0 x (some y))) (h x g k))
-
-  pub column-first : (a : ℕ) → NextBit row 0 w 0 a → Column base s s w row b a
+  pub words-first : Joins base s s (newcomers (64 * 0) row b (stored s 0))
   unfolding newcomers
-  column-first a n = record {
-    inside = n .inside;
-    sofar = joins-none base s (newcomers a row b (stored s 0)) at;
-    next = n .found;
-  }
+  words-first = joins-none base s (newcomers (64 * 0) row b (stored s 0)) at
     where
-      at : (x : ℕ) (y : Option ℕ) → x < 256 → Within 256 y → newcomers a row b (stored s 0) x y ≡ false
+      at : (x : ℕ) (y : Option ℕ) → x < 256 → Within 256 y → newcomers (64 * 0) row b (stored s 0) x y ≡ false
       at x none hx hy = refl
-      at x (some y) hx hy =
-          ap (λ (u : Bool). eqb y b && u) (sym (skip 0 a x y (omega arith) (n .skipped)) ∙ below-none x (rowBit row 0 x && not (stored s 0 x (some y)))) ∙ and-false (eqb y b)
+      at x (some y) hx hy = ap (λ (u : Bool). eqb y b && u) (below-none x (rowBit row 0 x && not (stored s 0 x (some y)))) ∙ and-false (eqb y b)
 
-  pub column-more : (t u : List ℕ) (a a′ : ℕ) → a < 64 * w → Column base s t w row b a → Joins base t u (λ x y. eqb x a && (eqNext y (some b) && not (stored t 0 a (some b))))
-      → NextBit row 0 w (a + 1) a′ → Column base s u w row b a′
-  unfolding newcomers eqNext
-  column-more t u a a′ ha c j n = record {
-    inside = n .inside;
-    sofar = joins-then base s t u (newcomers a row b (stored s 0)) (λ x y. eqb x a && (eqNext y (some b) && not (stored t 0 a (some b)))) (newcomers a′ row b (stored s 0)) (c .sofar) j at;
-    next = n .found;
-  }
+  pub words-more : (t u : List ℕ) (j : ℕ) → Joins base s t (newcomers (64 * j) row b (stored s 0)) → Joins base t u (newcomersIn j (getD row j 0) b (stored t 0))
+      → Joins base s u (newcomers (64 * (j + 1)) row b (stored s 0))
+  unfolding newcomers newcomersIn rowBit
+  words-more t u j p q =
+      joins-then base s t u (newcomers (64 * j) row b (stored s 0)) (newcomersIn j (getD row j 0) b (stored t 0)) (newcomers (64 * (j + 1)) row b (stored s 0)) p q at
     where
-      was : stored t 0 a (some b) ≡ stored s 0 a (some b)
-      was =
-          c .sofar .live a (some b) (omega arith) hb
-          ∙ ap (λ (u : Bool). stored s 0 a (some b) || u) (ap (λ (u : Bool). eqb b b && u) (not-below a (rowBit row 0 a && not (stored s 0 a (some b)))) ∙ and-false (eqb b b))
-          ∙ or-false (stored s 0 a (some b))
-
       at : (x : ℕ) (y : Option ℕ) → x < 256 → Within 256 y
-          → (newcomers a row b (stored s 0) x y || (eqb x a && (eqNext y (some b) && not (stored t 0 a (some b))))) ≡ newcomers a′ row b (stored s 0) x y
-      at x none hx hy = and-false (eqb x a)
-      at x (some y) hx hy = go (ℕ-discrete y b)
-        where
-          go : Dec (y ≡ b) → ((eqb y b && N a x y) || (eqb x a && (eqb y b && not (stored t 0 a (some b))))) ≡ (eqb y b && N a′ x y)
-          go (yes d) =
-              ap (λ (v : Bool). (v && N a x y) || (eqb x a && (v && not (stored t 0 a (some b))))) (eq-eqb y b d)
-              ∙ below-more x a (rowBit row 0 x && not (stored s 0 x (some y))) (not (stored t 0 a (some b)))
-              (λ q. ap not (was ∙ ap₂ (λ (i k : ℕ). stored s 0 i (some k)) (sym q) (sym d))
-              ∙ sym (ap (λ (v : Bool). v && not (stored s 0 x (some y))) (ap (rowBit row 0) q ∙ c .next ha)))
-              ∙ skip (a + 1) a′ x y (n .onward) (n .skipped)
-              ∙ ap (λ (v : Bool). v && N a′ x y) (sym (eq-eqb y b d))
-          go (no d) =
-              ap (λ (v : Bool). (v && N a x y) || (eqb x a && (v && not (stored t 0 a (some b))))) (ne-eqb y b d) ∙ and-false (eqb x a)
-              ∙ ap (λ (v : Bool). v && N a′ x y) (sym (ne-eqb y b d))
-
-  pub column-all : (t : List ℕ) (a : ℕ) → 64 * w ≤ a → Column base s t w row b a → Joins base s t (newcomers (64 * w) row b (stored s 0))
-  unfolding newcomers
-  column-all t a h c = joins-as base s t (newcomers a row b (stored s 0)) (newcomers (64 * w) row b (stored s 0)) (c .sofar) at
-    where
-      at : (x : ℕ) (y : Option ℕ) → x < 256 → Within 256 y → newcomers a row b (stored s 0) x y ≡ newcomers (64 * w) row b (stored s 0) x y
+          → (newcomers (64 * j) row b (stored s 0) x y || newcomersIn j (getD row j 0) b (stored t 0) x y) ≡ newcomers (64 * (j + 1)) row b (stored s 0) x y
       at x none hx hy = refl
-      at x (some y) hx hy = let e : a ≡ 64 * w = omega (arith, c .inside) in ap (λ (k : ℕ). eqb y b && N k x y) e
+      at x (some y) hx hy = go (ℕ-discrete (x / 64) j)
+        where
+          W : Bool
+          W = (eqb (x / 64) j && bit (x % 64) (getD row j 0)) && not (stored t 0 x (some y))
 
--- ---- the same for the ends
+          -- the pairs of word j are as they were
+          kept : N (64 * j) x y ≡ false → stored t 0 x (some y) ≡ stored s 0 x (some y)
+          kept e =
+              p .live x (some y) hx hy ∙ ap (λ (v : Bool). stored s 0 x (some y) || (eqb y b && v)) e
+              ∙ ap (λ (v : Bool). stored s 0 x (some y) || v) (and-false (eqb y b)) ∙ or-false (stored s 0 x (some y))
+
+          same : x / 64 ≡ j → N (64 * j) x y ≡ false → W ≡ N (64 * (j + 1)) x y
+          same f e =
+              let there : j ≡ 0 + x / 64 = omega arith in
+              ap₂ (λ (v w : Bool). (v && bit (x % 64) (getD row j 0)) && not w) (eq-eqb (x / 64) j f) (kept e)
+              ∙ ap (λ (k : ℕ). bit (x % 64) (getD row k 0) && not (stored s 0 x (some y))) there
+              ∙ sym (ap (λ (v : Bool). v && (rowBit row 0 x && not (stored s 0 x (some y)))) (lt-ltb x (64 * (j + 1)) (omega arith)))
+
+          go : Dec (x / 64 ≡ j) → ((eqb y b && N (64 * j) x y) || (eqb y b && W)) ≡ (eqb y b && N (64 * (j + 1)) x y)
+          go (yes f) =
+              let e : N (64 * j) x y ≡ false = ap (λ (v : Bool). v && (rowBit row 0 x && not (stored s 0 x (some y)))) (le-ltb x (64 * j) (omega arith)) in
+              ap₂ (λ (v w : Bool). (eqb y b && v) || (eqb y b && w)) e (same f e) ∙ ap (λ (v : Bool). v || (eqb y b && N (64 * (j + 1)) x y)) (and-false (eqb y b))
+          go (no f) =
+              ap (λ (v : Bool). (eqb y b && N (64 * j) x y) || (eqb y b && ((v && bit (x % 64) (getD row j 0)) && not (stored t 0 x (some y))))) (ne-eqb (x / 64) j f)
+              ∙ ap (λ (v : Bool). (eqb y b && N (64 * j) x y) || v) (and-false (eqb y b)) ∙ or-false (eqb y b && N (64 * j) x y)
+              ∙ ap (λ (v : Bool). eqb y b && v) (below-wider x (64 * j) (64 * (j + 1)) (rowBit row 0 x && not (stored s 0 x (some y))) (omega arith) (λ g k. absurd (f (omega arith))))
+
+  pub words-all : (t : List ℕ) (j w : ℕ) → j ≡ w → Joins base s t (newcomers (64 * j) row b (stored s 0)) → Joins base s t (newcomers (64 * w) row b (stored s 0))
+  words-all t j w e p = rw e at p
+
+-- ---- the ends, one after the other; a is the next, or the bound n
 
 pub record Ends (base : ℕ) (s t : List ℕ) (w : ℕ) (row : List ℕ) (a : ℕ) : Type 0 where
   pub inside : a ≤ 64 * w

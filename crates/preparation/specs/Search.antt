@@ -4,10 +4,11 @@ use mathlib.Core.Logic.{_⊎_}
 use mathlib.Core.Bool.{Bool, true, false, not, _&&_, _||_}
 use mathlib.Core.List.{List}
 use mathlib.Core.Option.{Option, none, some}
-use Prim.Native.Nat.{ℕ, _+_, _*_, _≤_, _<_}
+use Prim.Native.Nat.{ℕ, _+_, _*_, _/_, _%_, _≤_, _<_}
 use lib.Dec.{eqb, ltb}
 use lib.ListN.{length, getD}
 use Rattle.sheet.specs.RuleSheet.{RuleSheet}
+use Rattle.words.specs.Bits.{bit}
 use Rattle.completions.specs.Live.{Pairs, allowed}
 use Rattle.completions.specs.Steps.{Within}
 use Rattle.pairs.specs.Storage.{stored}
@@ -32,6 +33,11 @@ joiners x n v L F a (some b) = ltb b v && joining x n L F a b
 unfoldable pub newcomers : ℕ → List ℕ → ℕ → Pairs → Pairs
 newcomers n row b L a none = false
 newcomers n row b L a (some c) = eqb c b && (ltb a n && (rowBit row 0 a && not (L a (some c))))
+
+-- those of word j: the pairs (64 j + i, b) that are not in L, for each lane i of the word
+unfoldable pub newcomersIn : ℕ → ℕ → ℕ → Pairs → Pairs
+newcomersIn j word b L a none = false
+newcomersIn j word b L a (some c) = eqb c b && ((eqb (a / 64) j && bit (a % 64) word) && not (L a (some c)))
 
 -- the pairs (a, end), for each a below n in the row of words
 unfoldable pub enders : ℕ → List ℕ → Pairs

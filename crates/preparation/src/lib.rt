@@ -13,7 +13,7 @@ ghost use Rattle.pairs.specs.Storage.{stored};
 ghost use Rattle.pairs.specs.Changes.{eqNext};
 ghost use Rattle.lanes.specs.Coded.{Coded, sheetOf};
 ghost use Rattle.unions.specs.Rows.{Row};
-ghost use Rattle.preparation.specs.Search.{joinersAt, newcomers, enders, Joins, Occupied, Apart, Started, Swept};
+ghost use Rattle.preparation.specs.Search.{joinersAt, newcomers, newcomersIn, enders, Joins, Occupied, Apart, Started, Swept};
 ghost use Rattle.preparation.specs.Prepared.{Prepared, Reach};
 use sheet::Assumed;
 
@@ -31,16 +31,30 @@ fn join(s: &mut [u64], rows: &mut [u64], next: usize, a: usize, b: usize)
     pairs::note(rows, a);
 }
 
+// Each a = 64 * j + i with lane i of the word joins with b.
+fn join_word(s: &mut [u64], rows: &mut [u64], word: u64, j: usize, next: usize, b: usize)
+    requires { ⌜ (j < 4) × (b < 256) × (1028 ≤ next) × (next ≤ 2056) × (length (now rows) ≡ 4) × (3084 ≤ length (now s)) ⌝ }
+    ensures { λ r. ⌜ Joins next (now (s .entry)) (now (s .exit)) (newcomersIn j word b (stored (now (s .entry)) 0)) ⌝ }
+    ensures { λ r. ⌜ ((w : ℕ) → w ≤ 4 → j < w → Occupied w (now (rows .entry)) (now (s .entry)) next → Occupied w (now (rows .exit)) (now (s .exit)) next) ⌝ }
+{
+    let mut rest = word;
+    while rest != 0 {
+        let i = u64::trailing_zeros(rest) as usize;
+        join(s, rows, next, 64 * j + i, b);
+        rest = rest & !(1 << i);
+    }
+}
+
 // Each a of the row joins with b.
 fn join_row(s: &mut [u64], rows: &mut [u64], row: &[u64], w: usize, next: usize, b: usize)
     requires { ⌜ (w ≤ 4) × (b < 256) × (1028 ≤ next) × (next ≤ 2056) × (length (now row) ≡ 4) × (length (now rows) ≡ 4) × (3084 ≤ length (now s)) ⌝ }
     ensures { λ r. ⌜ Joins next (now (s .entry)) (now (s .exit)) (newcomers (64 * w) (now (row .entry)) b (stored (now (s .entry)) 0)) ⌝ }
     ensures { λ r. ⌜ (Occupied w (now (rows .entry)) (now (s .entry)) next → Occupied w (now (rows .exit)) (now (s .exit)) next) ⌝ }
 {
-    let mut a = pairs::next_bit(row, 0, w, 0);
-    while a < 64 * w {
-        join(s, rows, next, a, b);
-        a = pairs::next_bit(row, 0, w, a + 1);
+    let mut j: usize = 0;
+    while j < w {
+        join_word(s, rows, row[j], j, next, b);
+        j += 1;
     }
 }
 

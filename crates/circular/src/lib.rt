@@ -30,14 +30,14 @@ pub fn accept_sheet(s: &[u8]) -> SheetRead
     ensures sheet { λ r. ⌜ whenAccepted (r .outcome) (AcceptedSheet (now (s .entry)) (r .sheet)) ⌝ }
     ensures refused { λ r. ⌜ blankIfRefused (r .outcome) (r .sheet) ⌝ }
 {
-    let got = sheet::read_sheet(s);
+    let got = reader::read_sheet(s);
     let outcome = got.outcome;
     match outcome {
         Outcome::Accepted => {
             let m = got.sheet.inputs;
             let n = got.sheet.outputs as usize;
             if is_circular(&got.sheet.code, &got.sheet.len, m, n) {
-                return sheet::refused_sheet(Refusal::Circular);
+                return reader::refused_sheet(Refusal::Circular);
             }
             got
         }

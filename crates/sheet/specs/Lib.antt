@@ -3,7 +3,6 @@ pub mod Expression
 pub mod Header
 pub mod RuleSheet
 pub mod Depth
-pub mod Answer
 pub mod Reading
 pub mod Checks
 pub mod Postfix

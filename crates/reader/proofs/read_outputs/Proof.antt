@@ -4,9 +4,9 @@ use mathlib.Core.Path.{refl, sym, _∙_}
 use Prim.Native.Nat.{_-_}
 use denote.Ref.{now}
 use native.Mathlib.Nat.{add-sub-cancel-left}
-use Rattle.sheet.proofs.Sheets.{OutputsTo, begins, lies, next, stopped, left-over, nothing-left, all-held}
-use Rattle.sheet.proofs.read_outputs.Statement.{statement}
-use Rattle.sheet.proofs.read_outputs.Tie as tie
+use Rattle.reader.proofs.AllOutputs.{OutputsTo, begins, lies, next, stopped, left-over, nothing-left, all-held}
+use Rattle.reader.proofs.read_outputs.Statement.{statement}
+use Rattle.reader.proofs.read_outputs.Tie as tie
 
 abbrev Inv-loop : tie.InvT-loop
 Inv-loop s streams n len₀ code₀ outputs at₀ k₀ len code at k = OutputsTo s streams n len code at k

@@ -7,9 +7,9 @@ use mathlib.Core.Path.{_≡_, refl, sym, _∙_, subst}
 use mathlib.Core.List.{List}
 use lib.ListN.{length, take, drop, getD, set, length-set, length-drop}
 use lib.Seq.{ext-getD, getD-take, getD-drop, getD-set-same, getD-set-other, length-take-le, take-all}
 use Rattle.sheet.specs.Reading.{codeAt, Usable, Ranges, Below}
-use Rattle.sheet.specs.Answer.{Put, Held}
+use Rattle.reader.specs.Answer.{Put, Held}
 use Rattle.sheet.specs.declared.Assumed.{Assumed}
 
 -- the first i bytes of e are copied
 pub record PutSoFar (from : ℕ) (e old new : List ℕ) (i : ℕ) : Type 0 where

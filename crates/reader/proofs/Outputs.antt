@@ -8,14 +8,14 @@ use mathlib.Core.List.{List, [], _∷_}
 use lib.ListN.{length, take, drop, getD, length-drop, drop-of-length-le}
 use lib.Seq.{drop-cons}
 use borrow.Author.Tests.{le-leb, lt-leb}
 use Rattle.sheet.specs.Expression.{Parsed, tree, broken, parse, outcomeOf}
-use Rattle.sheet.specs.Answer.{outputAt, outputOf}
+use Rattle.reader.specs.Answer.{outputAt, outputOf}
 use Rattle.refusal.specs.declared.Refusal.{Refusal}
 use Rattle.refusal.specs.declared.Refusal.the-variants.{Length}
 use Rattle.refusal.specs.declared.Outcome.{Outcome}
 use Rattle.refusal.specs.declared.Outcome.the-variants.{Accepted}
 use Rattle.refusal.specs.declared.Outcome.the-variants as outcome
-use Rattle.sheet.specs.declared.OutputRead.the-variants.{Bytes, Refused}
+use Rattle.reader.specs.declared.OutputRead.the-variants.{Bytes, Refused}
 
 pub no-byte : (s at : ℕ) (bs : List ℕ) → length bs ≤ at → outputAt s (drop at bs) ≡ Refused Length
 unfolding outputAt

@@ -1,11 +1,11 @@
 use Prim.Native.Nat.{_+_, _-_, _≤_}
 use lib.ListN.{length, length-set}
 use native.Mathlib.Omega.{arith}
-use Rattle.sheet.proofs.Packing.{PutSoFar, put-none, put-more, put-all}
-use Rattle.sheet.proofs.put.Statement.{statement}
-use Rattle.sheet.proofs.put.Tie as tie
-use Rattle.sheet.proofs.put.Reads as reads
-use Rattle.sheet.proofs.put.Lts as lts
+use Rattle.reader.proofs.Packing.{PutSoFar, put-none, put-more, put-all}
+use Rattle.reader.proofs.put.Statement.{statement}
+use Rattle.reader.proofs.put.Tie as tie
+use Rattle.reader.proofs.put.Reads as reads
+use Rattle.reader.proofs.put.Lts as lts
 
 abbrev Inv-loop : tie.InvT-loop
 Inv-loop buffer₀ from e i₀ buffer i = (i ≤ length e) × (from + length e ≤ length buffer) × PutSoFar from e buffer₀ buffer i

@@ -1,19 +1,19 @@
 use native.Mathlib.Omega.{arith}
 use mathlib.Core.Path.{refl, sym, _∙_}
 use Prim.Native.Nat.{_+_}
 use Rattle.sheet.specs.RuleSheet.{readSheet}
 use Rattle.sheet.specs.Reading.{treesOf}
 use Rattle.sheet.proofs.Headers.{fields}
-use Rattle.sheet.proofs.Sheets.{reading-by}
-use Rattle.sheet.proofs.Packing.{usable}
+use Rattle.reader.proofs.AllOutputs.{reading-by}
+use Rattle.reader.proofs.Packing.{usable}
 use borrow.Author.Needs.{needs}
-use Rattle.sheet.proofs.read_sheet.Statement.{statement}
-use Rattle.sheet.proofs.read_sheet.Tie as tie
-use Rattle.sheet.proofs.read_sheet.Reads as reads
-use Rattle.sheet.proofs.read_sheet.Lts as lts
-use Rattle.sheet.proofs.read_header.Reads as read-header-reads
-use Rattle.sheet.proofs.read_outputs.Reads as read-outputs-reads
-use Rattle.sheet.proofs.refused_sheet.Reads as refused-sheet-reads
+use Rattle.reader.proofs.read_sheet.Statement.{statement}
+use Rattle.reader.proofs.read_sheet.Tie as tie
+use Rattle.reader.proofs.read_sheet.Reads as reads
+use Rattle.reader.proofs.read_sheet.Lts as lts
+use Rattle.reader.proofs.read_header.Reads as read-header-reads
+use Rattle.reader.proofs.read_outputs.Reads as read-outputs-reads
+use Rattle.reader.proofs.refused_sheet.Reads as refused-sheet-reads
 
 read-header-requires : tie.Need-read-header-requires
 read-header-requires c κs = search needs

@@ -9,7 +9,6 @@ use native.Mathlib.Omega.{arith}
 use native.Mathlib.Decide.{ℕ-discrete, decLt}
 use borrow.Author.Tests.{eq-eqb, ne-eqb, lt-ltb, le-ltb}
 use lib.Dec.{eqb, ltb}
-use lib.Bits.{bitAnd, and-le-l}
 use lib.Count.{trailingZeros}
 use lib.ListN.{getD}
 use Rattle.sheet.specs.RuleSheet.{RuleSheet, streams}
@@ -17,7 +16,7 @@ use Rattle.completions.specs.Live.{Pairs, allowed, assumed}
 use Rattle.lola.specs.Equations.{holds}
 use Rattle.completions.specs.Steps.{Within, anyNext}
 use Rattle.words.specs.Bits.{bit}
-use Rattle.words.proofs.BitLaws.{bit-and, bit-not, bit-shl, bit-none, Lowest, lowest}
+use Rattle.words.proofs.BitLaws.{bit-none, Lowest, lowest, without, lane-off, lane-gone, lane-less}
 use Rattle.words.proofs.AnyLaws.{none-any}
 use Rattle.pairs.specs.Storage.{stored}
 use Rattle.pairs.specs.Changes.{eqNext, Adds, rowBit, NextBit, RowTaken, Noted}
@@ -169,24 +168,6 @@ occupied-beside w layer next b rows s t hw d r o = record {
 }
 
 -- ---- the lanes of a word, one after the other
-
--- a word without lane i
-abbrev pub without : ℕ → ℕ → ℕ
-without x i = bitAnd x (18446744073709551615 - 1 * 2 ^ i % 2 ^ 64)
-
-lane-off : (k x i : ℕ) → k < 64 → i < 64 → bit k (without x i) ≡ (bit k x && not (eqb k i))
-lane-off k x i h l =
-    bit-and k x (18446744073709551615 - 1 * 2 ^ i % 2 ^ 64)
-    ∙ ap (λ (u : Bool). bit k x && u) (bit-not 64 k (1 * 2 ^ i % 2 ^ 64) h (omega arith) ∙ ap not (bit-shl k i l))
-
-lane-gone : (x i : ℕ) → i < 64 → bit i (without x i) ≡ false
-lane-gone x i h = lane-off i x i h h ∙ ap (λ (v : Bool). bit i x && not v) (eq-eqb i i refl) ∙ and-false (bit i x)
-
-pub lane-less : (x i : ℕ) → i < 64 → bit i x ≡ true → without x i < x
-lane-less x i h e = let l : without x i ≤ x = and-le-l x (18446744073709551615 - 1 * 2 ^ i % 2 ^ 64) in let n : without x i ≡ x → ⊥ = differs in omega arith
-  where
-    differs : without x i ≡ x → ⊥
-    differs q = let y : true ≡ false = sym e ∙ ap (bit i) (sym q) ∙ lane-gone x i h in let z : _≡_ {A = ℕ} 0 1 = cc in omega arith
 
 -- once the lanes of `rest` have joined, those of the word have
 pub record Lanes (base : ℕ) (s t : List ℕ) (j word b rest : ℕ) : Type 0 where

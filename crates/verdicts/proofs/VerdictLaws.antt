@@ -9,12 +9,12 @@ use native.Mathlib.Decide.{ℕ-discrete, decLt}
 use borrow.Author.Tests.{le-ltb, lt-ltb, ltb-true, eq-eqb, ne-eqb}
 use lib.Dec.{eqb, ltb}
 use lib.Count.{trailingZeros}
-use lib.Bits.{bitAnd, bitOr, and-lt, and-le-l}
+use lib.Bits.{bitAnd, bitOr, and-lt}
 use lib.ListN.{length, getD, set, length-set, replicate}
 use lib.Seq.{getD-set-same, getD-set-other}
 use Rattle.words.specs.Bits.{bit}
 use Rattle.words.specs.Below.{anyBelow}
-use Rattle.words.proofs.BitLaws.{bit-and, bit-or, bit-not, bit-shl, bit-none, Lowest, lowest}
+use Rattle.words.proofs.BitLaws.{bit-and, bit-or, bit-shl, bit-none, Lowest, lowest, without, lane-off, lane-less}
 use Rattle.words.proofs.AnyLaws.{any-cong, any-add, any-groups, any-word, none-any, some-any}
 use Rattle.words.proofs.LaneLaws.{beq-true, beq-false}
 use Rattle.refusal.specs.declared.Verdict.{Verdict}
@@ -95,24 +95,6 @@ pub record Looking (g : ℕ → Bool) (all word rest : ℕ) : Type 0 where
 
 pub looking-start : (g : ℕ → Bool) (all : ℕ) → all < 2 ^ 64 → Looking g all 0 all
 looking-start g all l = record { fits = l; lanes = λ k h. ap (λ (u : Bool). u || (bit k all && g k)) (bit-none k) }
-
--- a word without lane i
-abbrev pub without : ℕ → ℕ → ℕ
-without x i = bitAnd x (18446744073709551615 - 1 * 2 ^ i % 2 ^ 64)
-
-lane-off : (k x i : ℕ) → k < 64 → i < 64 → bit k (without x i) ≡ (bit k x && not (eqb k i))
-lane-off k x i h l =
-    bit-and k x (18446744073709551615 - 1 * 2 ^ i % 2 ^ 64)
-    ∙ ap (λ (u : Bool). bit k x && u) (bit-not 64 k (1 * 2 ^ i % 2 ^ 64) h (omega arith) ∙ ap not (bit-shl k i l))
-
-pub lane-less : (x i : ℕ) → i < 64 → bit i x ≡ true → without x i < x
-lane-less x i h e = let l : without x i ≤ x = and-le-l x (18446744073709551615 - 1 * 2 ^ i % 2 ^ 64) in let n : without x i ≡ x → ⊥ = differs in omega arith
-  where
-    off : bit i (without x i) ≡ false
-    off = lane-off i x i h h ∙ ap₂ (λ (u v : Bool). u && not v) e (eq-eqb i i refl)
-
-    differs : without x i ≡ x → ⊥
-    differs q = let y : true ≡ false = sym e ∙ ap (bit i) (sym q) ∙ off in let z : _≡_ {A = ℕ} 0 1 = cc in omega arith
 
 pub looking-more : (g : ℕ → Bool) (all word rest i word′ : ℕ) (v : Bool) → i < 64 → bit i rest ≡ true → v ≡ g i → ((k : ℕ) → bit k word′ ≡ (bit k word || (eqb k i && v))) → Looking g all word rest
     → Looking g all word′ (without rest i)

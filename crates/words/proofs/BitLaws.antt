@@ -8,7 +8,7 @@ use native.Mathlib.Omega.{arith}
 use native.Mathlib.Decide.{ℕ-discrete}
 use borrow.Author.Tests.{eq-eqb, ne-eqb}
 use lib.Dec.{eqb}
-use lib.Bits.{bitAnd, bitOr, and-shr, or-shr, and-step, or-step}
+use lib.Bits.{bitAnd, bitOr, and-le-l, and-shr, or-shr, and-step, or-step}
 use lib.Pow.{pow-lt, pow-pos, pow-mono, shr-shr}
 use lib.Count.{trailingZeros, under}
 use Rattle.words.specs.Bits.{digit, bit}
@@ -196,3 +196,26 @@ lowest (suc k) w h n = go (w % 2) refl (λ g. lowest k (w / 2) (omega arith) g)
         record { under-k = omega (arith, r .under-k); is-set = bit-suc (trailingZeros k (w / 2)) w ∙ r .is-set; clear = clear-at (trailingZeros k (w / 2)) e (r .clear) }
     go (suc zero) e f = record { under-k = omega arith; is-set = bit-zero-is w e; clear = λ i l. absurd (omega arith) }
     go (suc (suc d)) e f = absurd (omega arith)
+
+-- ---- a word of 64 bits without one of its lanes
+
+abbrev pub without : ℕ → ℕ → ℕ
+without x i = bitAnd x (18446744073709551615 - 1 * 2 ^ i % 2 ^ 64)
+
+pub lane-off : (k x i : ℕ) → k < 64 → i < 64 → bit k (without x i) ≡ (bit k x && not (eqb k i))
+lane-off k x i h l =
+    bit-and k x (18446744073709551615 - 1 * 2 ^ i % 2 ^ 64)
+    ∙ ap (λ (u : Bool). bit k x && u) (bit-not 64 k (1 * 2 ^ i % 2 ^ 64) h (omega arith) ∙ ap not (bit-shl k i l))
+
+pub lane-gone : (x i : ℕ) → i < 64 → bit i (without x i) ≡ false
+lane-gone x i h = lane-off i x i h h ∙ ap (λ (v : Bool). bit i x && not v) (eq-eqb i i refl) ∙ none (bit i x)
+  where
+    none : (u : Bool) → (u && false) ≡ false
+    none true = refl
+    none false = refl
+
+pub lane-less : (x i : ℕ) → i < 64 → bit i x ≡ true → without x i < x
+lane-less x i h e = let l : without x i ≤ x = and-le-l x (18446744073709551615 - 1 * 2 ^ i % 2 ^ 64) in let n : without x i ≡ x → ⊥ = differs in omega arith
+  where
+    differs : without x i ≡ x → ⊥
+    differs q = let y : true ≡ false = sym e ∙ ap (bit i) (sym q) ∙ lane-gone x i h in let z : _≡_ {A = ℕ} 0 1 = cc in omega arith

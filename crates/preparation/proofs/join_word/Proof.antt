@@ -4,7 +4,8 @@ use mathlib.Core.Path.{_≡_, refl}
 use lib.ListN.{length}
 use lib.Count.{trailing-le}
 use Rattle.preparation.specs.Search.{Occupied}
-use Rattle.preparation.proofs.Joining.{Lanes, lanes-first, lanes-next, lanes-more, lanes-all, lane-less}
+use Rattle.words.proofs.BitLaws.{lane-less}
+use Rattle.preparation.proofs.Joining.{Lanes, lanes-first, lanes-next, lanes-more, lanes-all}
 use borrow.Author.Needs.{needs}
 use Rattle.preparation.proofs.join_word.Statement.{statement}
 use Rattle.preparation.proofs.join_word.Tie as tie

@@ -5,9 +5,10 @@ use mathlib.Core.Bool.{Bool, _&&_}
 use Prim.Native.Nat.{_+_, _*_}
 use lib.Bits.{and-le-l}
 use lib.Count.{trailing-le}
+use Rattle.words.proofs.BitLaws.{lane-less}
 use Rattle.completions.specs.Steps.{anyNext}
 use Rattle.pairs.specs.Storage.{stored}
-use Rattle.verdicts.proofs.VerdictLaws.{Looking, looking-start, looking-next, looking-more, looking-done, lane-less, heard-below}
+use Rattle.verdicts.proofs.VerdictLaws.{Looking, looking-start, looking-next, looking-more, looking-done, heard-below}
 use Rattle.verdicts.proofs.firsts_word.Statement.{statement}
 use Rattle.verdicts.proofs.firsts_word.Tie as tie
 

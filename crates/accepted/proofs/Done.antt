@@ -9,8 +9,8 @@ use lib.ListN.{length}
 use lib.Pow.{pow-mono}
 use Rattle.words.specs.Bits.{bit}
 use Rattle.refusal.specs.declared.Verdict.{Verdict}
-use Rattle.refusal.specs.declared.Verdict.the-variants.{False, True, Open, Broken}
-use Rattle.refusal.specs.Numbers.{verdictNo}
+use Rattle.refusal.specs.Numbers.{verdictNo, Verdicts}
+use Rattle.refusal.proofs.NumberLaws.{verdict-small}
 use Rattle.sheet.specs.RuleSheet.{RuleSheet, outputs, streams}
 use Rattle.sheet.specs.Reading.{ruleSheet, Usable}
 use Rattle.sheet.specs.declared.Sheet.{Sheet}
@@ -19,7 +19,8 @@ use Rattle.lola.specs.Equations.{output}
 use Rattle.lanes.specs.Coded.{sheetOf}
 use Rattle.completions.specs.Live.{Pairs}
 use Rattle.completions.specs.Completion.{masked}
-use Rattle.completions.specs.Steps.{Within, stepSet, pairsVerdict, endsVerdict}
+use Rattle.completions.specs.Steps.{Within, stepSet, pairsVerdict, endsVerdict, pairsWithin}
+use Rattle.completions.proofs.Range.{wider}
 use Rattle.letters.specs.Matching.{matches}
 use Rattle.pairs.specs.Storage.{stored, used}
 use Rattle.record.specs.Record.{Counted}
@@ -27,24 +28,17 @@ use Rattle.record.specs.Columns.{AreVerdicts}
 use Rattle.record.specs.declared.JournalRecord.{JournalRecord}
 use Rattle.rounds.specs.Rows.{among}
 use Rattle.rounds.specs.Round.{Rounded}
-use Rattle.verdicts.specs.Firsts.{Passing, Told}
+use Rattle.verdicts.specs.Firsts.{Passing}
 use Rattle.checks.specs.Checks.{given}
-use Rattle.accepted.specs.Results.{width, heard, nextSet, pairsWithin, Verdicts, RoundDone, ClosingDone}
+use Rattle.accepted.specs.Results.{width, heard, nextSet, RoundDone, ClosingDone}
 use Rattle.checks.specs.Ready.{RoundReady}
 use Rattle.accepted.specs.Shares.{Shares}
 use Rattle.accepted.specs.declared.RoundAnswer.{RoundAnswer}
 use Rattle.accepted.specs.declared.ClosingAnswer.{ClosingAnswer}
-use Rattle.accepted.proofs.Rounding.{sheet-outputs, sheet-width, heard-as, pairs-verdict-as, reached-below, wider, only-heard}
-use Rattle.accepted.proofs.Rounding.{next-later}
+use Rattle.accepted.proofs.Rounding.{sheet-outputs, sheet-width, heard-as, next-later, pairs-verdict-as, reached-below, only-heard}
 
-verdict-small : (v : Verdict) → verdictNo v ≤ 3
-verdict-small False = omega arith
-verdict-small True = omega arith
-verdict-small Open = omega arith
-verdict-small Broken = omega arith
-
-pub told-are : (n : ℕ) (f : ℕ → Verdict) (vs : List ℕ) → Told n f vs → AreVerdicts n vs
-told-are n f vs x k h = subst (λ (z : ℕ). z ≤ 3) (sym (x .each k h)) (verdict-small (f k))
+pub verdicts-small : (n : ℕ) (f : ℕ → Verdict) (vs : List ℕ) → Verdicts n f vs → AreVerdicts n vs
+verdicts-small n f vs x k h = subst (λ (z : ℕ). z ≤ 3) (sym (x .each k h)) (verdict-small (f k))
 
 pub later-step : (m n : ℕ) (code len ks : List ℕ) (L S : Pairs) (r : ℕ → Bool) (t : ℕ) → (t ≡ 0 → ⊥)
     → nextSet (sheetOf m n code len ks) L t S r ≡ stepSet (sheetOf m n code len ks) (2 ^ (m + n)) L S r
@@ -65,8 +59,8 @@ module _ (x : Sheet) (u : Usable x) where
   heard-firsts s t n letters d = only-heard (2 ^ (x .inputs + x .outputs)) s t X (stored s 0) n (stored s 1028) (among letters) (pow-mono (u .ranges .streams)) d
 
   -- verdicts over the valuations of the sheet
-  told-verdicts : (f g : ℕ → Verdict) (vs : List ℕ) → ((k : ℕ) → f k ≡ g k) → Told (x .outputs) f vs → Verdicts (outputs X) g vs
-  told-verdicts f g vs e v = record {
+  verdicts-of : (f g : ℕ → Verdict) (vs : List ℕ) → ((k : ℕ) → f k ≡ g k) → Verdicts (x .outputs) f vs → Verdicts (outputs X) g vs
+  verdicts-of f g vs e v = record {
     size = v .size;
     each = λ k h. v .each k (omega (arith, sheet-outputs x)) ∙ ap verdictNo (e k);
     beyond = λ k h. v .beyond k (omega (arith, sheet-outputs x));
@@ -76,7 +70,7 @@ module _ (x : Sheet) (u : Usable x) where
       → RoundReady (x .inputs) (x .outputs) (given (length s) r known val)
       → ((l : ℕ) → l < 64 → bit l letters ≡ matches known val 6 l)
       → Rounded (2 ^ (x .inputs + x .outputs)) s t (nextSet X (stored s 0) (r .rounds) (stored s 1028) (among letters))
-      → Told (x .outputs) (λ k. pairsVerdict (2 ^ (x .inputs + x .outputs)) (stored t 1028) (bit (x .inputs + k))) (a .verdicts)
+      → Verdicts (x .outputs) (λ k. pairsVerdict (2 ^ (x .inputs + x .outputs)) (stored t 1028) (bit (x .inputs + k))) (a .verdicts)
       → a .record .rounds ≡ r .rounds + 1 → a .record .closed ≡ r .closed → Counted (x .outputs) (a .verdicts) (r .counts) (a .record .counts)
       → RoundDone X s t r known val a
   round-done s t r known val letters a ready f d v e₁ e₂ e₃ =
@@ -91,11 +85,11 @@ module _ (x : Sheet) (u : Usable x) where
         live = d .live;
         reached = same;
         scratch = λ b c hb hc. d .scratch b c hb hc ∙ ap (λ (w : ℕ). cond (used w b c) false (stored s 2056 b c)) (sym (sheet-width x));
-        verdicts = told-verdicts _ (λ k. pairsVerdict (width X) R (output X k)) (a .verdicts)
+        verdicts = verdicts-of _ (λ k. pairsVerdict (width X) R (output X k)) (a .verdicts)
             (λ k.
             ap (λ (w : ℕ). pairsVerdict w (stored t 1028) (bit (x .inputs + k))) (sym (sheet-width x))
             ∙ pairs-verdict-as (width X) (stored t 1028) R (output X k)
-            (λ b c hb hc. same b c (omega (arith, small)) (wider (width X) small c hc) ∙ reached-below (width X) R (stored s 1028 b c) b c hb hc))
+            (λ b c hb hc. same b c (omega (arith, small)) (wider (width X) 256 small c hc) ∙ reached-below (width X) R (stored s 1028 b c) b c hb hc))
             v;
         rounds = e₁;
         closed = e₂;
@@ -103,12 +97,12 @@ module _ (x : Sheet) (u : Usable x) where
       }
 
   pub closing-done : (s : List ℕ) (r : JournalRecord) (a : ClosingAnswer)
-      → Told (x .outputs) (λ k. endsVerdict (2 ^ (x .inputs + x .outputs)) (stored s 1028) (bit (x .inputs + k))) (a .verdicts)
+      → Verdicts (x .outputs) (λ k. endsVerdict (2 ^ (x .inputs + x .outputs)) (stored s 1028) (bit (x .inputs + k))) (a .verdicts)
       → Shares (x .outputs) r (a .shares)
       → a .record .rounds ≡ r .rounds → a .record .closed ≡ true → a .record .counts ≡ r .counts → ClosingDone X s r a
   closing-done s r a v h e₁ e₂ e₃ =
       record {
-        verdicts = told-verdicts _ (λ k. endsVerdict (width X) (stored s 1028) (output X k)) (a .verdicts)
+        verdicts = verdicts-of _ (λ k. endsVerdict (width X) (stored s 1028) (output X k)) (a .verdicts)
             (λ k. ap (λ (w : ℕ). endsVerdict w (stored s 1028) (bit (x .inputs + k))) (sym (sheet-width x))) v;
         sizes = h .size;
         shares = λ k l. h .each k (omega (arith, sheet-outputs x));

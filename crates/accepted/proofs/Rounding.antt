@@ -1,6 +1,6 @@
 -- From what a step leaves in the storage to what a round is defined to do.
 use mathlib.Core.Path.{_≡_, refl, ap, ap₂, _∙_, fun-ext}
-use mathlib.Core.Bool.{Bool, false, cond, not, _&&_, _||_}
+use mathlib.Core.Bool.{Bool, false, cond, not, _&&_, _||_, and-false}
 use mathlib.Core.List.{List}
 use mathlib.Core.Option.{Option, none, some}
 use Prim.Native.Nat.{ℕ, zero, suc, _+_, _%_, _^_, _<_, _≤_}
@@ -16,17 +16,17 @@ use Rattle.sheet.proofs.Sheets.{length-trees}
 use Rattle.lola.specs.Equations.{holds}
 use Rattle.completions.specs.Live.{Pairs}
 use Rattle.completions.specs.Completion.{masked}
-use Rattle.completions.specs.Steps.{Within, startSet, stepSet, anyNext, anyPair, verdictOf, pairsVerdict}
+use Rattle.completions.specs.Steps.{Within, startSet, stepSet, anyNext, anyPair, verdictOf, pairsVerdict, pairsWithin}
+use Rattle.completions.proofs.Range.{wider}
 use Rattle.letters.specs.Masks.{badMasks}
 use Rattle.letters.specs.Matching.{matches}
 use Rattle.letters.proofs.Matching.{valid, matches-masked, masked-low}
 use Rattle.pairs.specs.Storage.{stored, used}
-use Rattle.pairs.proofs.Bools.{and-false}
 use Rattle.pairs.proofs.Sets.{used-below}
 use Rattle.rounds.specs.Rows.{among}
 use Rattle.rounds.specs.Round.{Rounded}
 use Rattle.verdicts.specs.Firsts.{Passing}
-use Rattle.accepted.specs.Results.{width, heard, nextSet, pairsWithin}
+use Rattle.accepted.specs.Results.{width, heard, nextSet}
 
 -- ---- the sheet's numbers
 
@@ -81,10 +81,6 @@ within-same w S b (some c) h i = rw (lt-ltb b w h, lt-ltb c w i)
 pub reached-below : (w : ℕ) (S : Pairs) (l : Bool) (b : ℕ) (c : Option ℕ) → b < w → Within w c → cond (used w b c) (pairsWithin w S b c) l ≡ S b c
 reached-below w S l b c h i = ap (λ (u : Bool). cond u (pairsWithin w S b c) l) (used-below w b c h) ∙ within-same w S b c h i
 
-pub wider : (w : ℕ) → w ≤ 256 → (c : Option ℕ) → Within w c → Within 256 c
-wider w h none i = tt
-wider w h (some c) i = omega arith
-
 -- ---- after a round, only what was heard is a first part
 
 next-unheard : (x : RuleSheet) (L : Pairs) (t : ℕ) (S : Pairs) (r : ℕ → Bool) (b : ℕ) (c : Option ℕ) → r b ≡ false → nextSet x L t S r b c ≡ false
@@ -94,4 +90,4 @@ next-unheard x L (suc t) S r b c e = ap (λ (u : Bool). L b c && (u && anyBelow 
 
 pub only-heard : (w : ℕ) (s t : List ℕ) (x : RuleSheet) (L : Pairs) (n : ℕ) (S : Pairs) (r : ℕ → Bool) → w ≤ 256 → Rounded w s t (nextSet x L n S r) → Passing w r (stored t 1028)
 only-heard w s t x L n S r h d b c hb hc e =
-    d .reached b c (omega arith) (wider w h c hc) ∙ reached-below w (nextSet x L n S r) (stored s 1028 b c) b c hb hc ∙ next-unheard x L n S r b c e
+    d .reached b c (omega arith) (wider w 256 h c hc) ∙ reached-below w (nextSet x L n S r) (stored s 1028 b c) b c hb hc ∙ next-unheard x L n S r b c e

@@ -1,11 +1,12 @@
 -- The shares, output by output.
 use mathlib.Core.Path.{_≡_, refl, sym, _∙_, subst}
 use mathlib.Core.List.{List}
-use Prim.Native.Nat.{ℕ, zero, suc, _+_, _<_, _≤_}
+use Prim.Native.Nat.{ℕ, _+_, _<_, _≤_}
 use native.Mathlib.Omega.{arith}
 use native.Mathlib.Decide.{decLt}
 use lib.ListN.{length, getD, set, length-set, replicate}
 use lib.Seq.{getD-set-same, getD-set-other}
+use Rattle.words.proofs.ListLaws.{zeros}
 use Rattle.refusal.specs.declared.Verdict.the-variants.{True}
 use Rattle.record.specs.Record.{countAt, share}
 use Rattle.record.specs.declared.JournalRecord.{JournalRecord}
@@ -16,13 +17,8 @@ pub record SharesTo (k : ℕ) (counts : List ℕ) (t : ℕ) (xs : List ℕ) : Ty
   pub each : (j : ℕ) → j < k → getD xs j 0 ≡ share (countAt counts j True) t
   pub beyond : (j : ℕ) → k ≤ j → getD xs j 0 ≡ 0
 
-zeros : (k m : ℕ) → getD (replicate {A = ℕ} m 0) k 0 ≡ 0
-zeros k zero = refl
-zeros zero (suc m) = refl
-zeros (suc k) (suc m) = zeros k m
-
 pub shares-none : (counts : List ℕ) (t : ℕ) → SharesTo 0 counts t (replicate 7 0)
-shares-none counts t = record { size = refl; each = λ j h. absurd (omega arith); beyond = λ j h. zeros j 7 }
+shares-none counts t = record { size = refl; each = λ j h. absurd (omega arith); beyond = λ j h. zeros 7 j }
 
 pub shares-more : (k : ℕ) (counts : List ℕ) (t : ℕ) (xs : List ℕ) (y : ℕ) → k < 7 → y ≡ share (countAt counts k True) t → SharesTo k counts t xs → SharesTo (k + 1) counts t (set xs k y)
 shares-more k counts t xs y h e x = record {

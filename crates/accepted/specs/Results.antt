@@ -2,20 +2,18 @@
 -- storage that preparation never filled, rounds and closing follow the same steps on the sets found there.
 -- Manual: "Preparation".
 use mathlib.Core.Path.{_≡_}
-use mathlib.Core.Bool.{Bool, true, false, cond, _&&_}
+use mathlib.Core.Bool.{Bool, true, false, cond}
 use mathlib.Core.List.{List}
-use mathlib.Core.Option.{Option, none, some}
+use mathlib.Core.Option.{Option}
 use Prim.Native.Nat.{ℕ, zero, suc, _+_, _^_, _<_, _≤_}
-use lib.Dec.{ltb}
 use lib.ListN.{length, getD}
-use Rattle.refusal.specs.declared.Verdict.{Verdict}
 use Rattle.refusal.specs.declared.Verdict.the-variants.{True}
-use Rattle.refusal.specs.Numbers.{verdictNo}
+use Rattle.refusal.specs.Numbers.{Verdicts}
 use Rattle.sheet.specs.RuleSheet.{RuleSheet, outputs, streams}
 use Rattle.lola.specs.Equations.{output, letter}
 use Rattle.completions.specs.Live.{Pairs, Live, countPairs}
 use Rattle.completions.specs.Completion.{LetterSet, masked}
-use Rattle.completions.specs.Steps.{Within, Represents, startSet, stepSet, pairsVerdict, endsVerdict}
+use Rattle.completions.specs.Steps.{Within, Represents, startSet, stepSet, pairsVerdict, endsVerdict, pairsWithin}
 use Rattle.pairs.specs.Storage.{stored, used}
 use Rattle.record.specs.Record.{Fresh, Counted, countAt, share}
 use Rattle.record.specs.declared.JournalRecord.{JournalRecord}
@@ -36,15 +34,6 @@ abbrev pub nextSet : RuleSheet → Pairs → ℕ → Pairs → (ℕ → Bool) �
 nextSet x L zero S r = startSet x L r
 nextSet x L (suc t) S r = stepSet x (width x) L S r
 
--- c is the end mark or a valuation below w
-abbrev pub partBelow : ℕ → Option ℕ → Bool
-partBelow w none = true
-partBelow w (some c) = ltb c w
-
--- the pairs of valuations below w that are in the set
-abbrev pub pairsWithin : ℕ → Pairs → Pairs
-pairsWithin w S b c = ltb b w && (partBelow w c && S b c)
-
 -- the words that the sets don't take are untouched
 pub record Kept (s t : List ℕ) : Type 0 where
   pub same-length : length t ≡ length s
@@ -62,12 +51,6 @@ pub record Prepared (x : RuleSheet) (s t : List ℕ) (a : PrepareAnswer) : Type 
   pub count : a .live ≡ countPairs 256 (stored t 0)
   pub bound : a .live ≤ 65792
   pub fresh : Fresh (a .record)
-
--- the numbers of n verdicts, and 0 for outputs that the sheet doesn't have
-pub record Verdicts (n : ℕ) (f : ℕ → Verdict) (vs : List ℕ) : Type 0 where
-  pub size : length vs ≡ 7
-  pub each : (k : ℕ) → k < n → getD vs k 0 ≡ verdictNo (f k)
-  pub beyond : (k : ℕ) → n ≤ k → getD vs k 0 ≡ 0
 
 -- A round: the reached set makes one step, each output's verdict is read off it and counted. Of the scratch set the words in use are left
 -- empty. Words that the sheet's valuations don't use stay as found: 0, where preparation filled the storage.

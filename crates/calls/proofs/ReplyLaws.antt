@@ -12,11 +12,10 @@ use Rattle.refusal.specs.declared.Refusal.the-variants.{Short, Mark, Version, C
 use Rattle.refusal.specs.declared.Outcome.{Outcome}
 use Rattle.refusal.specs.declared.Outcome.the-variants.{Accepted, Refused}
 use Rattle.refusal.specs.declared.Verdict.{Verdict}
-use Rattle.refusal.specs.Numbers.{refusalNo, outcomeNo, verdictNo, verdictAt, verdictList}
+use Rattle.refusal.specs.Numbers.{refusalNo, outcomeNo, verdictNo, verdictAt, verdictList, Verdicts}
+use Rattle.refusal.proofs.NumberLaws.{verdict-back}
 use Rattle.record.specs.declared.JournalRecord.{JournalRecord}
-use Rattle.accepted.specs.Results.{Verdicts}
 use Rattle.claims.specs.Session.{numberList}
-use Rattle.claims.proofs.ThirdDemand.{verdict-back}
 use Rattle.slices.specs.Slices.{recordOf, numbersOf}
 
 -- ---- numbers of outcomes

@@ -1,7 +1,7 @@
 -- The tables of numbers that the code keeps stand for the tables of entries. Assumes nothing.
 use mathlib.Core.Path.{_≡_, refl, sym, subst, ap, ap₂, _∙_}
 use Prim.Native.Nat.{ℕ, zero, suc, _+_, _*_, _-_, _^_, _≤_, _<_}
-use mathlib.Core.Bool.{Bool, true, false, _&&_, false≢true}
+use mathlib.Core.Bool.{Bool, true, false, _&&_, false≢true, and-false}
 use mathlib.Core.List.{List}
 use native.Mathlib.Omega.{arith}
 use native.Mathlib.Numerals.{add-one}
@@ -189,10 +189,6 @@ module _ (n : ℕ) (few : n ≤ 7) (E : ℕ → ℕ → ℕ → Bool) where
       (rep-up (2 ^ n) (Best E n s s) (bestN g n s s) (omega (arith, pow-le n few)) (rep-best E g base n s s few))
 
 -- the scan
-and-none : (a b : Bool) → b ≡ false → a && b ≡ false
-and-none true b e = e
-and-none false b e = refl
-
 and-same : (a : Bool) → a && a ≡ false → a ≡ false
 and-same true e = e
 and-same false e = e
@@ -209,7 +205,7 @@ module _ (t u : List ℕ) (s : ℕ) where
   not-first p = rw (lt-leb 1024 (getD t (8 * s + s) 0) p) refl
 
   pub not-second : getD u (8 * s + s) 0 < 1024 → levelBoth t u s ≡ false
-  not-second q = and-none (leb 1024 (getD t (8 * s + s) 0)) (leb 1024 (getD u (8 * s + s) 0)) (lt-leb 1024 (getD u (8 * s + s) 0) q)
+  not-second q = rw (lt-leb 1024 (getD u (8 * s + s) 0) q) (and-false (leb 1024 (getD t (8 * s + s) 0)))
 
 -- what the scan comes to, by the definition
 not-circular : (n : ℕ) (E : ℕ → ℕ → ℕ → Bool) → anyBelow n (circularAt n E) ≡ false → Circular n E → ⊥

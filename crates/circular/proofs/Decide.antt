@@ -1,14 +1,14 @@
 -- Circular or not, computed: exact for `Circular`. Assumes nothing.
 use mathlib.Core.Path.{_≡_, refl}
-use Prim.Native.Nat.{ℕ, zero, suc, _+_, _-_, _≤_, _<_}
+use Prim.Native.Nat.{ℕ, _+_, _-_, _≤_, _<_}
 use mathlib.Core.Bool.{Bool, true, false, _&&_, false≢true}
 use native.Mathlib.Omega.{arith}
 use lib.Dec.{leb}
 use borrow.Author.Tests.{leb-true, le-leb}
 use Rattle.words.specs.Below.{anyBelow}
-use Rattle.words.proofs.AnyLaws.{some-any}
+use Rattle.words.proofs.AnyLaws.{some-any, any-some}
+use Rattle.words.proofs.Bools.{and-split, and-join}
 use Rattle.circular.specs.Circular.{Edge, Circular}
-use Rattle.circular.proofs.Bools.{or-split, and-l, and-r, and-both}
 use Rattle.circular.proofs.Walks.{Walk, one, more, from-of, Up, Down, circular→walks, walks→circular}
 use Rattle.circular.proofs.Closure.{Entry, none, fin, unb, Best, Le, bounded, Made, made}
 
@@ -27,16 +27,6 @@ circularAt n E s = atLeast0 (Best E n s s) && atLeast0 (Best (turned E) n s s)
 
 unfoldable pub circular? : ℕ → (ℕ → ℕ → ℕ → Bool) → Bool
 circular? n E = anyBelow n (circularAt n E)
-
--- some number below k passes the test
-pub any-found : (k : ℕ) (f : ℕ → Bool) → anyBelow k f ≡ true → (s : ℕ) × (s < k) × (f s ≡ true)
-unfolding anyBelow
-any-found zero f e = absurd (false≢true e)
-any-found (suc k) f e =
-    or-split (f k) (anyBelow k f)
-    (λ q. (k, omega arith, q))
-    (λ q. let (s, h, g) = any-found k f q in (s, omega arith, g))
-    e
 
 -- a walk turned round
 module _ {n : ℕ} {E : ℕ → ℕ → ℕ → Bool} where
@@ -86,11 +76,11 @@ down→up n E s u = let (p, w, h) = turn (u .walk) in record { p = p; l = u .l; 
 pub circular?-true : (n : ℕ) (E : ℕ → ℕ → ℕ → Bool) → circular? n E ≡ true → Circular n E
 unfolding circular? circularAt
 circular?-true n E e =
-    let (s, h, f) = any-found n (circularAt n E) e in
+    let (s, h, f) = any-some n (circularAt n E) e in
     walks→circular (record {
       s = s;
-      up = best-up n E s h (and-l (atLeast0 (Best E n s s)) (atLeast0 (Best (turned E) n s s)) f);
-      down = up→down n E s (best-up n (turned E) s h (and-r (atLeast0 (Best E n s s)) (atLeast0 (Best (turned E) n s s)) f));
+      up = best-up n E s h (and-split (atLeast0 (Best E n s s)) (atLeast0 (Best (turned E) n s s)) f .0);
+      down = up→down n E s (best-up n (turned E) s h (and-split (atLeast0 (Best E n s s)) (atLeast0 (Best (turned E) n s s)) f .1));
     })
 
 pub circular?-of : (n : ℕ) (E : ℕ → ℕ → ℕ → Bool) → Circular n E → circular? n E ≡ true
@@ -98,6 +88,6 @@ unfolding circular? circularAt
 circular?-of n E c =
     let x = circular→walks c in
     some-any n (circularAt n E) (x .s) (from-of (x .up .walk))
-    (and-both (atLeast0 (Best E n (x .s) (x .s))) (atLeast0 (Best (turned E) n (x .s) (x .s)))
+    (and-join (atLeast0 (Best E n (x .s) (x .s))) (atLeast0 (Best (turned E) n (x .s) (x .s)))
     (up-best n E (x .s) (x .up))
     (up-best n (turned E) (x .s) (down→up n E (x .s) (x .down))))

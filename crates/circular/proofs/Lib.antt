@@ -1,4 +1,3 @@
-pub mod Bools
 pub mod Walks
 pub mod Closure
 pub mod Decide

@@ -13,6 +13,8 @@ use lib.Dec.{leb, ltb, T}
 use borrow.Author.Tests.{ltb-true, ltb-false, leb-true, leb-false, le-leb}
 use Rattle.words.specs.Bits.{bit}
 use Rattle.words.proofs.JoinLaws.{bit-of-low, bit-above, join-mod, join-lt}
+use Rattle.words.proofs.Bools.{beq-eq, beq-refl}
+use Rattle.words.proofs.Tests.{and-left, and-right, and-both, true-of, of-true}
 use Rattle.sheet.specs.Expression.{Expr, constant}
 use Rattle.sheet.specs.RuleSheet.{RuleSheet, outputs, streams}
 use Rattle.sheet.specs.declared.Offset.{Offset}
@@ -28,25 +30,8 @@ use Rattle.circular.proofs.Sides.{expressionOf, rightOf, value-same, ri
 
 -- ---- the equations one by one
 
-T-split : (a b : Bool) → T (a && b) → T a × T b
-T-split true b h = (tt, h)
-T-split false b h = absurd h
-
-T-pair : (a b : Bool) → T a → T b → T (a && b)
-T-pair true b h k = k
-T-pair false b h k = absurd h
-
-beq-same : (a b : Bool) → T (Bool·beq a b) → a ≡ b
-beq-same true true h = refl
-beq-same true false h = absurd h
-beq-same false true h = absurd h
-beq-same false false h = refl
-
 same-beq : (a b : Bool) → a ≡ b → T (Bool·beq a b)
-same-beq true true h = tt
-same-beq true false h = absurd (let z : _≡_ {A = ℕ} 0 1 = cc in omega arith)
-same-beq false true h = absurd (let z : _≡_ {A = ℕ} 0 1 = cc in omega arith)
-same-beq false false h = tt
+same-beq a b e = of-true (Bool·beq a b) (rw (← e) (beq-refl a))
 
 module _ (p : Option ℕ) (v : ℕ) (n : Option ℕ) where
   equations-at : (es : List Expr) (q : ℕ) → T (equations es q p v n) → (k : ℕ) → k < length es → bit (q + k) v ≡ value (neighbours p v n) (getD es k (constant false))
@@ -54,17 +39,17 @@ module _ (p : Option ℕ) (v : ℕ) (n : Option ℕ) where
   equations-at [] q h k l = absurd (omega arith)
   equations-at (e ∷ es) q h zero l =
       let z : q + 0 ≡ q = omega arith in
-      ap (λ (j : ℕ). bit j v) z ∙ beq-same _ _ (T-split (Bool·beq (bit q v) (value (neighbours p v n) e)) (equations es (suc q) p v n) h .0)
+      ap (λ (j : ℕ). bit j v) z ∙ beq-eq _ _ (true-of _ (and-left (Bool·beq (bit q v) (value (neighbours p v n) e)) (equations es (suc q) p v n) h))
   equations-at (e ∷ es) q h (suc k) l =
       let z : q + suc k ≡ suc q + k = omega arith in
       ap (λ (j : ℕ). bit j v) z
-      ∙ equations-at es (suc q) (T-split (Bool·beq (bit q v) (value (neighbours p v n) e)) (equations es (suc q) p v n) h .1) k (omega arith)
+      ∙ equations-at es (suc q) (and-right (Bool·beq (bit q v) (value (neighbours p v n) e)) (equations es (suc q) p v n) h) k (omega arith)
 
   equations-from : (es : List Expr) (q : ℕ) → ((k : ℕ) → k < length es → bit (q + k) v ≡ value (neighbours p v n) (getD es k (constant false))) → T (equations es q p v n)
   unfolding equations
   equations-from [] q h = tt
   equations-from (e ∷ es) q h =
-      T-pair (Bool·beq (bit q v) (value (neighbours p v n) e)) (equations es (suc q) p v n)
+      and-both (Bool·beq (bit q v) (value (neighbours p v n) e)) (equations es (suc q) p v n)
       (same-beq _ _ (let z : q ≡ q + 0 = omega arith in ap (λ (j : ℕ). bit j v) z ∙ h 0 (omega arith)))
       (equations-from es (suc q) (λ k l. let z : suc q + k ≡ q + suc k = omega arith in ap (λ (j : ℕ). bit j v) z ∙ h (suc k) (omega arith)))
 

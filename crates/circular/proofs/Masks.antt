@@ -1,20 +1,20 @@
 -- The words and masks of reads. Assumes nothing.
 use mathlib.Core.Path.{_≡_, refl, sym, ap, _∙_}
-use Prim.Native.Nat.{ℕ, suc, _+_, _-_, _*_, _/_, _%_, _^_, _≤_, _<_}
+use Prim.Native.Nat.{ℕ, suc, _+_, _*_, _/_, _%_, _^_, _≤_, _<_}
 use native.Mathlib.Omega.{arith}
 use native.Mathlib.Numerals.{add-one}
 use native.Mathlib.Decide.{ℕ-discrete}
-use mathlib.Core.Bool.{Bool, true, false, cond, _&&_, _||_}
+use mathlib.Core.Bool.{Bool, false, _&&_, _||_, or-assoc, or-false}
 use mathlib.Core.List.{List, []}
 use lib.ListN.{length, getD, drop, drop-of-length-le}
 use lib.Seq.{drop-cons}
 use lib.Bits.{bitOr}
-use lib.Dec.{eqb, leb}
-use borrow.Author.Tests.{eq-eqb, ne-eqb, leb-true}
+use lib.Dec.{eqb}
+use borrow.Author.Tests.{eq-eqb, ne-eqb}
 use Rattle.words.specs.Bits.{bit}
 use Rattle.words.proofs.BitLaws.{bit-or, bit-none, bit-shl, bit-shr}
 use Rattle.words.proofs.JoinLaws.{bit-of-low}
-use Rattle.sheet.specs.Bytes.{opOf, readsOf, within}
+use Rattle.sheet.specs.Bytes.{opOf, readsOf}
 use Rattle.sheet.specs.Reading.{ruleSheet, Usable}
 use Rattle.sheet.specs.declared.StreamNo.{StreamNo}
 use Rattle.sheet.specs.declared.Sheet.{Sheet}
@@ -22,12 +22,12 @@ use Rattle.sheet.specs.declared.Offset.{Offset}
 use Rattle.sheet.specs.declared.Offset.the-variants.{Earlier, Now, Later}
 use Rattle.sheet.specs.declared.Op.{Op}
 use Rattle.sheet.specs.declared.Op.the-variants.{Const, Not, And, Or, Read, Rejected}
+use Rattle.sheet.proofs.Ops.{op-cases}
 use Rattle.lola.specs.Reads.{place}
 use Rattle.circular.specs.Circular.{Circular, CircularSheet, edges}
 use Rattle.circular.specs.Table as table
 use Rattle.lola.specs.ByteReads.{opReads, bytesRead}
 use Rattle.circular.specs.Masks.{Marks, Rows, Mask, Masks, Tells, readsOfCode}
-use Rattle.circular.proofs.Bools.{and-r, or-assoc, or-false}
 use Rattle.circular.proofs.Codes.{base-same}
 use Rattle.circular.proofs.Trees.{edges-are, outputs-are}
 use Rattle.circular.proofs.Sweep.{circular-map}
@@ -41,27 +41,8 @@ Low Or = Unit {0}
 Low (Read q o v) = q .0 < 8
 Low (Rejected r) = Unit {0}
 
-pick-low : (t : Bool) (x y : Op) → (t ≡ true → Low x) → Low y → Low (cond t x y)
-pick-low true x y f g = f refl
-pick-low false x y f g = g
-
-range-low : (lo b : ℕ) → within lo (lo + 7) b ≡ true → b - lo < 8
-range-low lo b e = omega (arith, leb-true b (lo + 7) (and-r (leb lo b) (leb b (lo + 7)) e))
-
 pub op-low : (b : ℕ) → Low (opOf b)
-unfolding opOf readsOf
-op-low b =
-    pick-low (eqb b 0) _ _ (λ e. tt)
-    (pick-low (eqb b 1) _ _ (λ e. tt)
-    (pick-low (eqb b 2) _ _ (λ e. tt)
-    (pick-low (eqb b 3) _ _ (λ e. tt)
-    (pick-low (eqb b 4) _ _ (λ e. tt)
-    (pick-low (within 0x40 0x47 b) _ _ (λ e. range-low 0x40 b e)
-    (pick-low (within 0x50 0x57 b) _ _ (λ e. range-low 0x50 b e)
-    (pick-low (within 0x58 0x5F b) _ _ (λ e. range-low 0x58 b e)
-    (pick-low (within 0x60 0x67 b) _ _ (λ e. range-low 0x60 b e)
-    (pick-low (within 0x68 0x6F b) _ _ (λ e. range-low 0x68 b e)
-    tt)))))))))
+op-low b = op-cases Low b (λ e. tt) (λ e. tt) (λ e. tt) (λ e. tt) (λ e. tt) (λ l h. omega arith) (λ l h. omega arith) (λ l h. omega arith) (λ l h. omega arith) (λ l h. omega arith) tt
 
 pub place-le : (o : Offset) → place o ≤ 2
 place-le Earlier = omega arith
@@ -103,7 +84,7 @@ kept-more e i w x h f k =
 pub kept-end : (e : List ℕ) (i w : ℕ) → length e ≤ i → MarksTo e i w → Marks e w
 unfolding bytesRead
 kept-end e i w h k =
-    record { bits = λ q o l. or-false (bit (3 * q + o) w) ∙ rw (drop-of-length-le e h) at (k .whole q o l) }
+    record { bits = λ q o l. sym (or-false (bit (3 * q + o) w)) ∙ rw (drop-of-length-le e h) at (k .whole q o l) }
 
 pub marks-none : Marks [] 0
 unfolding bytesRead

@@ -6,6 +6,7 @@ use native.Mathlib.Omega.{arith}
 use lib.ListN.{getD}
 use lib.Dec.{leb, ltb, eqb}
 use borrow.Author.Tests.{ltb-false, leb-true, eq-eqb}
+use Rattle.words.proofs.Bools.{and-split, and-join, or-first, or-second}
 use Rattle.sheet.specs.Expression.{Expr, constant, negation, conjunction, disjunction, read}
 use Rattle.sheet.specs.Postfix.{InSheet}
 use Rattle.sheet.specs.RuleSheet.{RuleSheet, outputs}
@@ -14,7 +15,6 @@ use Rattle.sheet.proofs.Formed.{Formed}
 use Rattle.lola.specs.Value.{Look, value}
 use Rattle.lola.specs.Reads.{place, hasRead}
 use Rattle.circular.specs.Circular.{CircularSheet, edges}
-use Rattle.circular.proofs.Bools.{or-l, or-r, and-both, and-l, and-r}
 use Rattle.circular.proofs.Masks.{place-le}
 use Rattle.circular.specs.Places.{Assignment, joint, lookAt, right, Place, Reads, Solves}
 use Rattle.circular.proofs.Unique.{run, unique, solution}
@@ -47,12 +47,12 @@ module _ (m n N t : ℕ) (xs v w : Assignment) where
   value-only (negation e) h a = ap not (value-only e h a)
   value-only (conjunction e f) h a =
       ap₂ _&&_
-      (value-only e (h .0) (λ q u o r. a q u o (or-l (hasRead e (m + q) o) (hasRead f (m + q) o) r)))
-      (value-only f (h .1) (λ q u o r. a q u o (or-r (hasRead e (m + q) o) (hasRead f (m + q) o) r)))
+      (value-only e (h .0) (λ q u o r. a q u o (or-first (hasRead e (m + q) o) (hasRead f (m + q) o) r)))
+      (value-only f (h .1) (λ q u o r. a q u o (or-second (hasRead e (m + q) o) (hasRead f (m + q) o) r)))
   value-only (disjunction e f) h a =
       ap₂ _||_
-      (value-only e (h .0) (λ q u o r. a q u o (or-l (hasRead e (m + q) o) (hasRead f (m + q) o) r)))
-      (value-only f (h .1) (λ q u o r. a q u o (or-r (hasRead e (m + q) o) (hasRead f (m + q) o) r)))
+      (value-only e (h .0) (λ q u o r. a q u o (or-first (hasRead e (m + q) o) (hasRead f (m + q) o) r)))
+      (value-only f (h .1) (λ q u o r. a q u o (or-second (hasRead e (m + q) o) (hasRead f (m + q) o) r)))
   value-only (read q f d) h a = inside (leb 2 (t + o) && leb (t + o) (suc N)) refl
     where
       o : ℕ
@@ -63,12 +63,12 @@ module _ (m n N t : ℕ) (xs v w : Assignment) where
       stream lo hi false e =
           let b = ltb-false q m e in
           a (q - m) (t + o - 1) o
-          (and-both (eqb q (m + (q - m))) (eqb (place f) o) (eq-eqb q (m + (q - m)) (omega arith)) (eq-eqb (place f) o refl))
+          (and-join (eqb q (m + (q - m))) (eqb (place f) o) (eq-eqb q (m + (q - m)) (omega arith)) (eq-eqb (place f) o refl))
           (omega (arith, h .0)) (place-le f) (omega arith) (omega arith) (omega arith)
 
       inside : (b : Bool) → leb 2 (t + o) && leb (t + o) (suc N) ≡ b → cond b (joint m xs v q (t + o - 1)) d ≡ cond b (joint m xs w q (t + o - 1)) d
       inside true e =
-          stream (leb-true 2 (t + o) (and-l (leb 2 (t + o)) (leb (t + o) (suc N)) e)) (leb-true (t + o) (suc N) (and-r (leb 2 (t + o)) (leb (t + o) (suc N)) e)) (ltb q m) refl
+          stream (leb-true 2 (t + o) (and-split (leb 2 (t + o)) (leb (t + o) (suc N)) e .0)) (leb-true (t + o) (suc N) (and-split (leb 2 (t + o)) (leb (t + o) (suc N)) e .1)) (ltb q m) refl
       inside false e = refl
 
 module _ (x : RuleSheet) (formed : Formed x) (N : ℕ) (xs : Assignment) where

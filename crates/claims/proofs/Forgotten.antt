@@ -4,11 +4,11 @@ use mathlib.Core.List.{List}
 use mathlib.Core.Option.{Option}
 use Prim.Native.Nat.{ℕ, _+_, _<_, _≤_}
 use native.Mathlib.Omega.{arith}
+use Rattle.words.proofs.Tests.{same-test}
 use Rattle.completions.specs.Live.{Pairs}
 use Rattle.completions.specs.Steps.{Within, Represents}
 use Rattle.completions.proofs.Count.{Subset, pairs-same}
 use Rattle.pairs.specs.Storage.{stored}
-use Rattle.preparation.proofs.Layers.{iff}
 use Rattle.record.specs.Record.{Fresh}
 use Rattle.record.specs.declared.JournalRecord.{JournalRecord}
 use Rattle.accepted.specs.Results.{Zero}
@@ -32,7 +32,7 @@ storage-forgotten x s s′ t t′ a a′ d d′ =
     let there : Subset 256 (stored t 0) (stored t′ 0) = holds-same 256 (stored t 0) (stored t′ 0) _ (d .live) (d′ .live) in
     let back : Subset 256 (stored t′ 0) (stored t 0) = holds-same 256 (stored t′ 0) (stored t 0) _ (d′ .live) (d .live) in (
       record {
-        live = λ b c hb hc. iff (stored t 0 b c) (stored t′ 0 b c) (there b c hb hc) (back b c hb hc);
+        live = λ b c hb hc. same-test (stored t 0 b c) (stored t′ 0 b c) (there b c hb hc) (back b c hb hc);
         reached = λ b c hb hc. empty-same t t′ (d .empty) (d′ .empty) 1028 b c hb hc (omega arith) (omega arith);
         scratch = λ b c hb hc. empty-same t t′ (d .empty) (d′ .empty) 2056 b c hb hc (omega arith) (omega arith);
       },

@@ -12,8 +12,8 @@ use Rattle.completions.specs.Steps.{Represents}
 use Rattle.completions.proofs.Verdicts.{one-verdict}
 use Rattle.completions.proofs.Letters.{onLetter, onLetters, completion-of, run-of}
 use Rattle.completions.proofs.Backward.{liveWithin, settled-exact, settles, prefix-short, small-256}
+use Rattle.completions.proofs.Range.{wider}
 use Rattle.accepted.specs.Results.{width}
-use Rattle.accepted.proofs.Rounding.{wider}
 use Rattle.record.proofs.Tallies.{RecordOk, record-is}
 use Rattle.claims.specs.Book.{Book, Call, Answer, emptyBook}
 use Rattle.claims.specs.Session.{Held, Session, finish, next}
@@ -39,7 +39,7 @@ pub some-verdict-fits : SomeVerdict
 some-verdict-fits x few r rs k =
     let small : width x ≤ 256 = small-256 x few in
     let L : Pairs = live-set x few .0 in
-    let own : Represents (width x) L (Live x) = λ b c hb hc. live-set x few .1 b c (omega arith) (wider (width x) small c hc) in
+    let own : Represents (width x) L (Live x) = λ b c hb hc. live-set x few .1 b c (omega arith) (wider (width x) 256 small c hc) in
     let z = reached-by x L own (r ∷ rs) in
     ((_, reaches-round x L own r rs (z .0) (z .1) k), (_, reaches-closing x L own r rs (z .0) (z .1) k))
 

@@ -1,12 +1,13 @@
 -- The longest sheet that is read has 463 bytes: a header of 8, and at most 7 outputs of a length byte and 64 expression bytes.
 use mathlib.Core.Path.{_≡_, refl, ap, subst}
-use mathlib.Core.Bool.{Bool, true, false, not, _&&_, false≢true}
+use mathlib.Core.Bool.{Bool, true, false, not}
 use mathlib.Core.List.{List, [], _∷_, List·Memᴰ, List·Memᴰ·head, List·Memᴰ·tail, Memᴰ·append-left, Memᴰ·append-right}
 use Prim.Native.Nat.{ℕ, zero, suc, _+_, _*_, _≤_, _<_}
 use native.Mathlib.Omega.{arith}
 use lib.Dec.{leb, ltb}
 use lib.ListN.{length}
 use borrow.Author.Tests.{leb-true, ltb-false}
+use Rattle.words.proofs.Bools.{and-split}
 use Rattle.refusal.specs.declared.Outcome.the-variants.{Accepted}
 use Rattle.refusal.specs.Decided.{Decided}
 use Rattle.sheet.specs.Header.{countsOk}
@@ -18,14 +19,6 @@ use Rattle.claims.specs.Further.{LongestSheet}
 not-broken : (b : Bool) → (not b ≡ true → ⊥) → b ≡ true
 not-broken true h = refl
 not-broken false h = absurd (h refl)
-
-and-snd : (a b : Bool) → (a && b) ≡ true → b ≡ true
-and-snd true b e = e
-and-snd false b e = absurd (false≢true e)
-
-and-fst : (a b : Bool) → (a && b) ≡ true → a ≡ true
-and-fst true b e = refl
-and-fst false b e = e
 
 not-less : (a b : ℕ) → (ltb a b ≡ true → ⊥) → b ≤ a
 not-less a b h = go (ltb a b) refl
@@ -54,9 +47,9 @@ module _ (bs : List ℕ) (holds : Decided (Broken bs) rule (checksOf bs) Accepte
       let m : List·Memᴰ (size k) (checksOf bs) =
       List·Memᴰ·tail (List·Memᴰ·tail (List·Memᴰ·tail (List·Memᴰ·tail (List·Memᴰ·tail (Memᴰ·append-left (leftover ∷ []) here))))) in
       let e = not-broken _ (holds (size k) m) in
-      let a = and-snd (ltb (placeOf bs k) (length bs)) _ e in
-      let b = and-snd (leb 1 (sizeOf bs k)) _ a in
-      leb-true (sizeOf bs k) 64 (and-fst (leb (sizeOf bs k) 64) _ b)
+      let a = and-split (ltb (placeOf bs k) (length bs)) _ e .1 in
+      let b = and-split (leb 1 (sizeOf bs k)) _ a .1 in
+      leb-true (sizeOf bs k) 64 (and-split (leb (sizeOf bs k) 64) _ b .0)
 
   place-bound : (k : ℕ) → k ≤ outputsOf bs → placeOf bs k ≤ 8 + 65 * k
   unfolding placeOf

@@ -11,14 +11,16 @@ use lib.Dec.{eqb}
 use lib.ListN.{length, getD, getElem?, length-map, replicate}
 use lib.Pow.{pow-mono}
 use Rattle.words.specs.Below.{one}
+use Rattle.words.proofs.ListLaws.{zeros}
 use Rattle.refusal.specs.declared.Refusal.{Refusal}
 use Rattle.refusal.specs.declared.Outcome.{Outcome}
 use Rattle.refusal.specs.declared.Outcome.the-variants.{Accepted, Refused}
 use Rattle.refusal.specs.declared.Verdict.{Verdict}
-use Rattle.refusal.specs.declared.Verdict.the-variants.{False, True, Open, Broken}
-use Rattle.refusal.specs.Numbers.{verdictNo, verdictAt, verdictList}
+use Rattle.refusal.specs.declared.Verdict.the-variants.{True, Broken}
+use Rattle.refusal.specs.Numbers.{verdictNo, verdictAt, verdictList, Verdicts}
 use Rattle.refusal.specs.Decided.{Decided}
 use Rattle.refusal.proofs.Decisions.{decided-once}
+use Rattle.refusal.proofs.NumberLaws.{verdict-back, verdict-small}
 use Rattle.sheet.specs.RuleSheet.{RuleSheet, outputs, streams, accepted, readSheet}
 use Rattle.sheet.specs.Checks.{outputsOf}
 use Rattle.sheet.proofs.Formed.{counts-of, read-formed}
@@ -31,15 +33,16 @@ use Rattle.completions.specs.Steps.{Within, Represents, pairsVerdict, endsVerdi
 use Rattle.completions.proofs.Runs.{Round}
 use Rattle.completions.proofs.Follow.{length-snoc}
 use Rattle.completions.proofs.Letters.{onLetter, onLetters}
+use Rattle.completions.proofs.Range.{wider}
 use Rattle.pairs.specs.Storage.{stored}
 use Rattle.pairs.proofs.Sets.{stored-same}
 use Rattle.record.specs.Record.{Fresh, countAt, sumAt, addUp, recordOk, share}
 use Rattle.record.specs.declared.JournalRecord.{JournalRecord}
 use Rattle.record.proofs.Tallies.{record-is, record-more}
 use Rattle.checks.specs.Checks as checks
-use Rattle.accepted.specs.Results.{width, nextSet, Prepared, RoundDone, ClosingDone, Verdicts}
+use Rattle.accepted.specs.Results.{width, nextSet, Prepared, RoundDone, ClosingDone}
 use Rattle.monitor.specs.Entries.{OfSheet, RoundResult, ClosingResult}
-use Rattle.accepted.proofs.Rounding.{reached-below, wider}
+use Rattle.accepted.proofs.Rounding.{reached-below}
 use Rattle.accepted.specs.declared.PrepareAnswer.{PrepareAnswer}
 use Rattle.accepted.specs.declared.RoundAnswer.{RoundAnswer}
 use Rattle.accepted.specs.declared.ClosingAnswer.{ClosingAnswer}
@@ -51,18 +54,6 @@ use Rattle.claims.proofs.BookLaws.{no-entry, same-entry, map-snoc, Reac
 use Rattle.claims.proofs.Refusals.{outcomeBy, SheetOk, round-decided, closing-decided, by-accepted, by-refused, room, front-holds, mem-map}
 
 -- ---- lists of verdicts and shares
-
-pub verdict-back : (v : Verdict) → verdictAt (verdictNo v) ≡ v
-verdict-back False = refl
-verdict-back True = refl
-verdict-back Open = refl
-verdict-back Broken = refl
-
-verdict-small : (v : Verdict) → verdictNo v ≤ 3
-verdict-small False = omega arith
-verdict-small True = omega arith
-verdict-small Open = omega arith
-verdict-small Broken = omega arith
 
 list-size : (vs : List ℕ) (k n : ℕ) → length (verdictList vs k n) ≡ n
 list-size vs k zero = refl
@@ -172,9 +163,9 @@ module _ (bs : List ℕ) (x : RuleSheet) (ok : SheetOk bs x) where
         (next-reaches x L (tr .live) (onLetters x (b .rounds)) (stored (h .storage) 1028) (r .rounds) (onLetter x m)
         (tr .matches .rounds ∙ sym (length-map (b .rounds) (onLetter x))) (tr .reached)) in
         let same : (a : ℕ) (c : Option ℕ) → a < w → Within w c → stored t 1028 a c ≡ S a c =
-        λ a c ha hc. d .reached a c (omega (arith, w-small)) (wider w w-small c hc) ∙ reached-below w S (stored (h .storage) 1028 a c) a c ha hc in
+        λ a c ha hc. d .reached a c (omega (arith, w-small)) (wider w 256 w-small c hc) ∙ reached-below w S (stored (h .storage) 1028 a c) a c ha hc in
         let lives : (a : ℕ) (c : Option ℕ) → a < w → Within w c → stored t 0 a c ≡ L a c =
-        λ a c ha hc. stored-same (h .storage) t 0 a c (omega (arith, w-small)) (wider w w-small c hc) (λ k l. d .live k l) in
+        λ a c ha hc. stored-same (h .storage) t 0 a c (omega (arith, w-small)) (wider w 256 w-small c hc) (λ k l. d .live k l) in
         let live′ : Represents w (stored t 0) (Live x) = represents-as w L (stored t 0) (Live x) lives (tr .live) in
         let few : r .rounds < 1000000 = omega (arith, room x (length (b .rounds)) (b .shut) known val q, tr .matches .rounds) in
         record {
@@ -287,16 +278,8 @@ module _ (bs : List ℕ) (x : RuleSheet) (ok : SheetOk bs x) where
       (z .0, book.next (y .step) (z .1), z .2)
 
   -- a fresh record is right
-  zeros-of : (k m : ℕ) → getD (replicate {A = ℕ} m 0) k 0 ≡ 0
-  zeros-of k zero = refl
-  zeros-of zero (suc m) = refl
-  zeros-of (suc k) (suc m) = zeros-of k m
-
-  zeros : (k : ℕ) → getD (replicate {A = ℕ} 28 0) k 0 ≡ 0
-  zeros k = zeros-of k 28
-
   fresh-sum : (counts : List ℕ) (k : ℕ) → counts ≡ replicate 28 0 → sumAt counts k ≡ 0
-  fresh-sum counts k e = rw e (omega (arith, zeros (4 * k + 0), zeros (4 * k + 1), zeros (4 * k + 2), zeros (4 * k + 3)))
+  fresh-sum counts k e = rw e (omega (arith, zeros 28 (4 * k + 0), zeros 28 (4 * k + 1), zeros 28 (4 * k + 2), zeros 28 (4 * k + 3)))
 
   fresh-add : (counts : List ℕ) (m : ℕ) → counts ≡ replicate 28 0 → addUp counts 0 m ≡ true
   unfolding addUp
@@ -313,11 +296,11 @@ module _ (bs : List ℕ) (x : RuleSheet) (ok : SheetOk bs x) where
     matches = record {
       rounds = d .fresh .rounds;
       shut = d .fresh .closed;
-      counts = λ k v h. ap (λ (z : List ℕ). countAt z k v) (d .fresh .counts) ∙ zeros (4 * k + _);
+      counts = λ k v h. ap (λ (z : List ℕ). countAt z k v) (d .fresh .counts) ∙ zeros 28 (4 * k + _);
     };
     lent = omega (arith, d .kept .same-length);
     right = fresh-ok (p .record) (d .fresh);
-    live = λ b c hb hc. d .live b c (omega (arith, w-small)) (wider w w-small c hc);
+    live = λ b c hb hc. d .live b c (omega (arith, w-small)) (wider w 256 w-small c hc);
     reached = tt;
   }
 

@@ -13,11 +13,11 @@ use Rattle.refusal.specs.declared.Outcome.the-variants.{Accepted, Refused}
 use Rattle.sheet.specs.RuleSheet.{RuleSheet, accepted, readSheet}
 use Rattle.completions.specs.Live.{Pairs}
 use Rattle.completions.specs.Completion.{masked}
-use Rattle.completions.specs.Steps.{Within}
+use Rattle.completions.specs.Steps.{Within, partBelow}
 use Rattle.pairs.specs.Storage.{place, slot, stored, used}
 use Rattle.pairs.proofs.Sets.{place-lt, unused}
 use Rattle.record.specs.declared.JournalRecord.{JournalRecord}
-use Rattle.accepted.specs.Results.{width, heard, nextSet, partBelow, Zero, Prepared, RoundDone}
+use Rattle.accepted.specs.Results.{width, heard, nextSet, Zero, Prepared, RoundDone}
 use Rattle.monitor.specs.Entries.{OfSheet, RoundResult}
 use Rattle.accepted.specs.declared.PrepareAnswer.{PrepareAnswer}
 use Rattle.accepted.specs.declared.RoundAnswer.{RoundAnswer}

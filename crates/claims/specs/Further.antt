@@ -14,12 +14,12 @@ use Rattle.sheet.specs.RuleSheet.{RuleSheet, outputs, streams, accepted, readSh
 use Rattle.completions.specs.Live.{Pairs, Live, countPairs}
 use Rattle.completions.specs.Completion.{LetterSet, Completion}
 use Rattle.completions.specs.Judged.{RoundVerdict, ClosingVerdict}
-use Rattle.completions.specs.Steps.{Represents, Within}
+use Rattle.completions.specs.Steps.{Represents, Within, pairsWithin}
 use Rattle.pairs.specs.Storage.{stored}
 use Rattle.record.specs.Record.{sumAt}
 use Rattle.record.specs.declared.JournalRecord.{JournalRecord}
 use Rattle.checks.specs.Checks as checks
-use Rattle.accepted.specs.Results.{width, pairsWithin, Prepared}
+use Rattle.accepted.specs.Results.{width, Prepared}
 use Rattle.monitor.specs.Entries.{OfSheet}
 use Rattle.accepted.specs.declared.PrepareAnswer.{PrepareAnswer}
 use Rattle.claims.specs.Book.{Call, Answer, Book, BookRun}

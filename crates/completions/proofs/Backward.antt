@@ -9,12 +9,12 @@ use native.Mathlib.Omega.{arith}
 use lib.Dec.{T}
 use lib.Pow.{pow-mono}
 use lib.ListN.{length, getElem?, take, length-append, length-take}
+use Rattle.words.proofs.Tests.{and-left, and-right, and-both, either, not-both}
 use Rattle.sheet.specs.RuleSheet.{RuleSheet, streams}
 use Rattle.lola.specs.Equations.{holds, first}
 use Rattle.completions.specs.Live.{allowed, Follows, Live, countPairs, Pairs}
 use Rattle.completions.proofs.Runs.{Round, Agrees, Run}
 use Rattle.completions.specs.Steps.{anyNext, anyPair, Within, Represents}
-use Rattle.completions.proofs.Tests.{and-left, and-right, and-both, either, not-both}
 use Rattle.completions.proofs.Follow.{live-at, graft, agrees-graft, agrees-some, last-there}
 use Rattle.completions.proofs.Search.{next-found, next-from, pair-found, pair-from}
 use Rattle.completions.proofs.Range.{allowed-within, first-within, live-within}

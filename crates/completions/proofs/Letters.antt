@@ -9,6 +9,7 @@ use native.Mathlib.Omega.{arith}
 use lib.Dec.{ltb, ltb→lt, lt→ltb}
 use lib.ListN.{length, length-map}
 use lib.Pow.{pow-pos}
+use Rattle.words.proofs.Tests.{and-left, and-right, and-both}
 use Rattle.refusal.specs.declared.Verdict.{Verdict}
 use Rattle.sheet.specs.RuleSheet.{RuleSheet, streams}
 use Rattle.lola.specs.Equations.{Satisfies, Letters, letter}
@@ -16,7 +17,6 @@ use Rattle.completions.specs.Live.{assumed, allowed, Follows}
 use Rattle.completions.specs.Completion.{LetterSet, Match, Keeps, Completion, Closing}
 use Rattle.completions.specs.Judged.{Judged, inRound}
 use Rattle.completions.proofs.Runs.{Round, Agrees, Run, EndedRun}
-use Rattle.completions.proofs.Tests.{and-left, and-right, and-both}
 use Rattle.completions.proofs.Verdicts.{judged-as}
 
 -- the round that asks a test of the valuation's letter

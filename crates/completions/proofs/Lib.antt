@@ -1,5 +1,4 @@
 pub mod Runs
-pub mod Tests
 pub mod Range
 pub mod Search
 pub mod Follow

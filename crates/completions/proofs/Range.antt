@@ -1,15 +1,19 @@
 -- The valuations of a sheet of at most w valuations are below w, and so are those of live pairs.
 use mathlib.Core.Path.{subst}
 use mathlib.Core.List.{List, [], _∷_}
-use mathlib.Core.Option.{Option, some}
+use mathlib.Core.Option.{Option, some, none}
 use Prim.Native.Nat.{ℕ, _^_, _≤_, _<_}
 use native.Mathlib.Omega.{arith}
 use lib.Dec.{T, ltb, ltb→lt}
+use Rattle.words.proofs.Tests.{and-left}
 use Rattle.sheet.specs.RuleSheet.{RuleSheet, streams}
 use Rattle.completions.specs.Live.{assumed, allowed, Follows, Live}
 use Rattle.lola.specs.Equations.{first}
 use Rattle.completions.specs.Steps.{Within}
-use Rattle.completions.proofs.Tests.{and-left}
+
+pub wider : (v w : ℕ) → v ≤ w → (y : Option ℕ) → Within v y → Within w y
+wider v w h none k = tt
+wider v w h (some y) k = omega arith
 
 module _ (s : RuleSheet) (w : ℕ) (small : 2 ^ streams s ≤ w) where
   pub allowed-within : (v : ℕ) → T (allowed s v) → v < w

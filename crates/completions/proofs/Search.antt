@@ -1,33 +1,19 @@
 -- A search finds a number exactly if there is one.
-use mathlib.Core.Bool.{Bool, _||_}
+use mathlib.Core.Bool.{Bool}
 use mathlib.Core.Logic.{_⊎_, inl, inr}
-use mathlib.Core.Path.{_≡_}
 use mathlib.Core.Option.{Option, none, some}
-use Prim.Native.Nat.{ℕ, zero, suc, _<_}
-use native.Mathlib.Nat.{not-suc-le-zero, eq-or-lt-of-le, le-of-suc-le-suc}
-use native.Mathlib.Omega.{arith}
+use Prim.Native.Nat.{ℕ, _<_}
 use lib.Dec.{T}
 use Rattle.words.specs.Below.{anyBelow}
+use Rattle.words.proofs.Tests.{or-cases, or-left, or-right, true-of, of-true}
+use Rattle.words.proofs.AnyLaws.{some-any, any-some}
 use Rattle.completions.specs.Steps.{anyNext, anyPair, Within}
-use Rattle.completions.proofs.Tests.{or-cases, or-left, or-right}
 
 pub any-found : (n : ℕ) (f : ℕ → Bool) → T (anyBelow n f) → (i : ℕ) × (i < n) × T (f i)
-unfolding anyBelow
-any-found zero f t = absurd t
-any-found (suc n) f t = go (any-found n f) (or-cases (f n) (anyBelow n f) t)
-  where
-    go : (T (anyBelow n f) → (i : ℕ) × (i < n) × T (f i)) → T (f n) ⊎ T (anyBelow n f) → (i : ℕ) × (i < suc n) × T (f i)
-    go rest (inl h) = (n, omega arith, h)
-    go rest (inr h) = let x : (i : ℕ) × (i < n) × T (f i) = rest h in (x .0, omega arith, x .2)
+any-found n f t = let (i, h, e) = any-some n f (true-of (anyBelow n f) t) in (i, h, of-true (f i) e)
 
 pub any-from : (n : ℕ) (f : ℕ → Bool) (i : ℕ) → i < n → T (f i) → T (anyBelow n f)
-unfolding anyBelow
-any-from zero f i h t = absurd (not-suc-le-zero h)
-any-from (suc n) f i h t = go (any-from n f i) (eq-or-lt-of-le (le-of-suc-le-suc h))
-  where
-    go : (i < n → T (f i) → T (anyBelow n f)) → (i ≡ n) ⊎ (i < n) → T (f n || anyBelow n f)
-    go rest (inl e) = or-left (f n) (anyBelow n f) (rw e at t)
-    go rest (inr l) = or-right (f n) (anyBelow n f) (rest l t)
+any-from n f i h t = of-true (anyBelow n f) (some-any n f i h (true-of (f i) t))
 
 pub next-found : (n : ℕ) (f : Option ℕ → Bool) → T (anyNext n f) → (c : Option ℕ) × Within n c × T (f c)
 unfolding anyNext

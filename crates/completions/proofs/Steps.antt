@@ -9,8 +9,8 @@ use Rattle.lola.specs.Equations.{holds}
 use Rattle.completions.proofs.Runs.{Round, Reached, StartsAt, StepsTo}
 use Rattle.completions.specs.Live.{Live, Pairs}
 use Rattle.words.specs.Below.{anyBelow}
+use Rattle.words.proofs.Tests.{and-left, and-right, and-both}
 use Rattle.completions.specs.Steps.{Represents, startSet, stepSet}
-use Rattle.completions.proofs.Tests.{and-left, and-right, and-both}
 use Rattle.completions.proofs.Range.{live-within}
 use Rattle.completions.proofs.Reach.{reached-live, first-rule, next-rule}
 use Rattle.completions.proofs.Search.{any-found, any-from}

@@ -5,7 +5,7 @@ use mathlib.Core.Bool.{Bool, true, false, not, _&&_, _||_}
 use mathlib.Core.Logic.{_↔_}
 use mathlib.Core.Option.{Option, none, some}
 use Prim.Native.Nat.{ℕ, _<_}
-use lib.Dec.{T}
+use lib.Dec.{T, ltb}
 use Rattle.words.specs.Below.{anyBelow}
 use Rattle.refusal.specs.declared.Verdict.{Verdict}
 use Rattle.refusal.specs.declared.Verdict.the-variants.{False, True, Open, Broken}
@@ -17,6 +17,15 @@ use Rattle.completions.specs.Live.{Pairs}
 abbrev pub Within : ℕ → Option ℕ → Type 0
 Within w none = Unit {0}
 Within w (some c) = c < w
+
+-- the same as a test
+abbrev pub partBelow : ℕ → Option ℕ → Bool
+partBelow w none = true
+partBelow w (some c) = ltb c w
+
+-- the pairs of valuations below w that are in the set
+abbrev pub pairsWithin : ℕ → Pairs → Pairs
+pairsWithin w S b c = ltb b w && (partBelow w c && S b c)
 
 -- the set S holds exactly the pairs of R, among the pairs below w
 abbrev pub Represents : ℕ → Pairs → (ℕ → Option ℕ → Type 0) → Type 0

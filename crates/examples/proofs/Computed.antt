@@ -11,8 +11,10 @@ use lib.ListN.{getElem?}
 use borrow.Author.Tests.{leb-true}
 use Rattle.words.specs.Bits.{bit, digit}
 use Rattle.words.specs.Below.{anyBelow, sumBelow, countBelow}
+use Rattle.words.proofs.Tests.{and-left, and-right, true-of}
 use Rattle.refusal.specs.declared.Verdict.{Verdict}
 use Rattle.refusal.specs.Numbers.{verdictNo, verdictAt}
+use Rattle.refusal.proofs.NumberLaws.{verdict-back}
 use Rattle.sheet.specs.Bytes.{opOf, readsOf}
 use Rattle.sheet.specs.Expression.{applyOp, final, parse}
 use Rattle.sheet.specs.Header.{markOk, versionOf, countsOk, assumedAt, headerOf}
@@ -28,13 +30,11 @@ use Rattle.completions.specs.Live.{allTrue, allowed, Pairs, Live, countPairs}
 use Rattle.completions.specs.Completion.{masked}
 use Rattle.completions.specs.Judged.{RoundVerdict, ClosingVerdict}
 use Rattle.completions.specs.Steps.{anyNext, anyPair, Represents, startSet, pairsVerdict, endsVerdict}
-use Rattle.completions.proofs.Tests.{and-left, and-right, true-of}
 use Rattle.completions.proofs.Backward.{endSet, backSet, liveWithin, layer, settled-exact, live-count}
 use Rattle.completions.proofs.Letters.{onLetter}
 use Rattle.completions.proofs.Steps.{start-exact}
 use Rattle.claims.proofs.Further.{live-set}
 use Rattle.claims.proofs.BookLaws.{round-right, reaches-closing}
-use Rattle.claims.proofs.ThirdDemand.{verdict-back}
 use Rattle.accepted.specs.Results.{width}
 use Rattle.examples.specs.Table.{Case, judged, circular, lives, values, unheard, Holds, one-input, session, table, Examples}
 

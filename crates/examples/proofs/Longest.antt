@@ -1,5 +1,5 @@
 -- The sheet of 463 bytes is accepted.
-use mathlib.Core.Bool.{Bool, true, false, not, false≢true}
+use mathlib.Core.Bool.{not}
 use mathlib.Core.Path.{_≡_, refl}
 use lib.Dec.{T}
 use Rattle.sheet.specs.Bytes.{opOf, readsOf}
@@ -11,13 +11,10 @@ use Rattle.circular.specs.Circular.{edges, CircularSheet}
 use Rattle.circular.proofs.Decide.{circular?, circular?-of, circularAt, atLeast0, turned}
 use Rattle.circular.proofs.Closure.{Best, top, larger, plus, loop, pick, blow}
 use Rattle.words.specs.Below.{anyBelow}
+use Rattle.words.proofs.Tests.{not-both, of-true}
 use Rattle.examples.specs.Table.{one-input}
 use Rattle.examples.specs.Longest.{longOutputs, longest, LongestMet}
 use Rattle.examples.proofs.Computed.{ofReading}
-
-not-so : (b : Bool) → T (not b) → b ≡ true → ⊥
-not-so false t e = false≢true e
-not-so true t e = t
 
 level : T (ofReading (readSheet longest) (λ x. not (circular? (outputs x) (edges x))))
 unfolding longest longOutputs one-input anyBelow readSheet headerOf markOk versionOf countsOk assumedAt readOutputs parse final applyOp opOf readsOf circular? circularAt atLeast0 Best top larger plus loop pick blow turned edges hasRead
@@ -29,4 +26,4 @@ longest-met = (refl, go (readSheet longest) refl level)
   where
     go : (r : Reading) → readSheet longest ≡ r → T (ofReading r (λ x. not (circular? (outputs x) (edges x)))) → (x : RuleSheet) × (readSheet longest ≡ accepted x) × (CircularSheet x → ⊥)
     go (refused r) e t = absurd t
-    go (accepted x) e t = (x, e, λ c. not-so (circular? (outputs x) (edges x)) t (circular?-of (outputs x) (edges x) c))
+    go (accepted x) e t = (x, e, λ c. not-both (circular? (outputs x) (edges x)) (of-true _ (circular?-of (outputs x) (edges x) c)) t)

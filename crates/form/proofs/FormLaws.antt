@@ -8,10 +8,12 @@ use native.Mathlib.Decide.{decLt}
 use lib.Dec.{leb}
 use lib.ListN.{length, getD, length-take, length-drop}
 use borrow.Author.Tests.{le-leb, lt-leb, leb-true, lt-ltb, ltb-true}
+use Rattle.words.proofs.Bools.{and-split}
 use Rattle.refusal.specs.declared.Refusal.{Refusal}
 use Rattle.refusal.specs.declared.Refusal.the-variants.{Length}
 use Rattle.refusal.specs.declared.Outcome.{Outcome}
 use Rattle.refusal.specs.declared.Outcome.the-variants.{Accepted, Refused}
+use Rattle.refusal.proofs.NumberLaws.{not-both}
 use Rattle.sheet.specs.Header.{countsOk}
 use Rattle.sheet.specs.Expression.{Parsed, tree, broken, parse, outcomeOf}
 use Rattle.sheet.specs.Reading.{treeOf, codeAt, Ranges, Below, Usable, whenAccepted}
@@ -19,11 +21,8 @@ use Rattle.sheet.specs.declared.Assumed.{Assumed}
 use Rattle.sheet.specs.declared.Assumed.the-variants.{Nothing, Output}
 use Rattle.sheet.specs.declared.Sheet.{Sheet}
 use Rattle.sheet.proofs.Headers.{counts}
-use Rattle.sheet.proofs.Sheets.{and-split}
+use Rattle.sheet.proofs.Sheets.{no-tree}
 use Rattle.form.specs.Form.{assumedOk, sizeOk, then, outputForm, outputsForm, formOf}
-
-not-both : {X : Type 0} {r : Refusal} → Refused r ≡ Accepted → X
-not-both e = absurd (let y : _≡_ {A = ℕ} 0 1 = cc in omega arith)
 
 then-left : (o p : Outcome) → then o p ≡ Accepted → o ≡ Accepted
 then-left Accepted p e = refl
@@ -31,7 +30,7 @@ then-left (Refused r) p e = e
 
 then-right : (o p : Outcome) → then o p ≡ Accepted → p ≡ Accepted
 then-right Accepted p e = e
-then-right (Refused r) p e = not-both e
+then-right (Refused r) p e = absurd (not-both e)
 
 -- ---- one output
 
@@ -46,19 +45,19 @@ size-within l h k = simp (le-leb 1 l h, le-leb l 64 k)
 
 parsed : (p : Parsed) → outcomeOf p ≡ Accepted → p ≡ tree (treeOf p)
 parsed (tree t) e = refl
-parsed (broken r) e = not-both e
+parsed (broken r) e = absurd (not-both e)
 
 parsed-back : (p : Parsed) → p ≡ tree (treeOf p) → outcomeOf p ≡ Accepted
 parsed-back (tree t) e = refl
-parsed-back (broken r) e = absurd (let y : _≡_ {A = ℕ} 0 1 = cc in omega arith)
+parsed-back (broken r) e = absurd (no-tree r _ e)
 
 size-of : (b : Bool) (o : Outcome) → cond b o (Refused Length) ≡ Accepted → b ≡ true
 size-of true o e = refl
-size-of false o e = not-both e
+size-of false o e = absurd (not-both e)
 
 rest-of : (b : Bool) (o : Outcome) → cond b o (Refused Length) ≡ Accepted → o ≡ Accepted
 rest-of true o e = e
-rest-of false o e = not-both e
+rest-of false o e = absurd (not-both e)
 
 -- ---- all outputs
 

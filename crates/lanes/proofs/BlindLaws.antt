@@ -1,6 +1,6 @@
 -- The equations see of the round before only the streams that some expression reads there. Assumes nothing.
 use mathlib.Core.Path.{_≡_, refl, sym, ap, ap₂, _∙_}
-use mathlib.Core.Bool.{Bool, true, false, cond, not, _&&_, _||_, and-false}
+use mathlib.Core.Bool.{Bool, true, false, not, _&&_, _||_, and-false, or-assoc, or-false, or-true}
 use mathlib.Core.List.{List, []}
 use mathlib.Core.Option.{Option, some}
 use Prim.Native.Nat.{ℕ, suc, _+_, _-_, _*_, _%_, _^_, _≤_, _<_}
@@ -15,12 +15,13 @@ use lib.Seq.{drop-cons}
 use borrow.Author.Tests.{eq-eqb, ne-eqb, leb-true, ltb-true, le-leb, lt-ltb}
 use Rattle.words.specs.Bits.{bit}
 use Rattle.words.proofs.BitLaws.{bit-and, bit-or, bit-none, bit-shl}
-use Rattle.sheet.specs.Bytes.{opOf, readsOf, readOf, within}
+use Rattle.words.proofs.Bools.{or-first, or-second}
+use Rattle.sheet.specs.Bytes.{opOf, readOf}
 use Rattle.sheet.specs.Expression.{Expr, constant, negation, conjunction, disjunction, read, parse, tree}
 use Rattle.sheet.specs.Reading.{treeOf, codeAt}
 use Rattle.sheet.specs.declared.Offset.the-variants.{Earlier, Now, Later}
 use Rattle.sheet.specs.declared.Op.{Op}
-use Rattle.sheet.proofs.Ops.{is-earlier-false, is-earlier-true}
+use Rattle.sheet.proofs.Ops.{is-earlier-false, is-earlier-true, op-cases}
 use Rattle.lola.specs.Value.{value, near, neighbours}
 use Rattle.lola.specs.Reads.{hasRead}
 use Rattle.lola.specs.Equations.{holds}
@@ -57,35 +58,16 @@ byte-earlier e q l h =
 abbrev Elsewhere : Op → Type 0
 Elsewhere op = (q : ℕ) → opReads op q 0 ≡ false
 
-pick : (t : Bool) (x y : Op) → (t ≡ true → Elsewhere x) → Elsewhere y → Elsewhere (cond t x y)
-pick true x y f g = f refl
-pick false x y f g = g
-
-and-split : (a b : Bool) → (a && b) ≡ true → (a ≡ true) × (b ≡ true)
-and-split true b e = (refl, e)
-and-split false b e = absurd (let y : _≡_ {A = ℕ} 0 1 = cc in omega arith)
-
-within-not : (lo hi e : ℕ) → 0x50 ≤ lo → hi < 0x60 → (0x50 ≤ e → e < 0x60 → ⊥) → within lo hi e ≡ true → ⊥
-within-not lo hi e l h n w =
-    let a = and-split (leb lo e) (leb e hi) w in
-    let f : lo ≤ e = leb-true lo e (a .0) in
-    let g : e ≤ hi = leb-true e hi (a .1) in
-    n (omega arith) (omega arith)
-
 op-elsewhere : (e : ℕ) → (0x50 ≤ e → e < 0x60 → ⊥) → Elsewhere (opOf e)
-unfolding opOf readsOf opReads
+unfolding opReads
 op-elsewhere e n =
-    pick (eqb e 0) _ _ (λ w q. refl)
-    (pick (eqb e 1) _ _ (λ w q. refl)
-    (pick (eqb e 2) _ _ (λ w q. refl)
-    (pick (eqb e 3) _ _ (λ w q. refl)
-    (pick (eqb e 4) _ _ (λ w q. refl)
-    (pick (within 0x40 0x47 e) _ _ (λ w q. and-false (eqb (e - 0x40) q))
-    (pick (within 0x50 0x57 e) _ _ (λ w q. absurd (within-not 0x50 0x57 e (omega arith) (omega arith) n w))
-    (pick (within 0x58 0x5F e) _ _ (λ w q. absurd (within-not 0x58 0x5F e (omega arith) (omega arith) n w))
-    (pick (within 0x60 0x67 e) _ _ (λ w q. and-false (eqb (e - 0x60) q))
-    (pick (within 0x68 0x6F e) _ _ (λ w q. and-false (eqb (e - 0x68) q))
-    (λ q. refl))))))))))
+    op-cases Elsewhere e (λ w q. refl) (λ w q. refl) (λ w q. refl) (λ w q. refl) (λ w q. refl)
+    (λ l h q. and-false (eqb (e - 0x40) q))
+    (λ l h q. absurd (n (omega arith) (omega arith)))
+    (λ l h q. absurd (n (omega arith) (omega arith)))
+    (λ l h q. and-false (eqb (e - 0x60) q))
+    (λ l h q. and-false (eqb (e - 0x68) q))
+    (λ q. refl)
 
 swap-eqb : (a b : ℕ) → (eqb a b && true) ≡ eqb b a
 swap-eqb a b = go (ℕ-discrete a b)
@@ -116,14 +98,6 @@ byte-reads e q = go (decLt e 0x50) (decLt e 0x58) (decLt e 0x60)
 abbrev pub Marked : List ℕ → ℕ → ℕ → Type 0
 Marked e w i = (q : ℕ) → (bit q w || bytesRead (drop i e) q 0) ≡ bytesRead e q 0
 
-or-assoc : (a b r : Bool) → ((a || b) || r) ≡ (a || (b || r))
-or-assoc true b r = refl
-or-assoc false b r = refl
-
-or-false : (a : Bool) → a ≡ (a || false)
-or-false true = refl
-or-false false = refl
-
 pub marked-none : (e : List ℕ) → Marked e 0 0
 marked-none e q = ap (λ (u : Bool). u || bytesRead e q 0) (bit-none q)
 
@@ -135,7 +109,7 @@ marked-more e w i x h k f q =
 
 pub marked-all : (e : List ℕ) (w i : ℕ) → length e ≤ i → Marked e w i → (s : ℕ) (x : Expr) → parse s [] e ≡ tree x → (q : ℕ) → bit q w ≡ hasRead x q 0
 unfolding bytesRead
-marked-all e w i h k s x p q = or-false (bit q w) ∙ rw (drop-of-length-le e h) at (k q) ∙ sym (tree-reads s e x p q 0)
+marked-all e w i h k s x p q = sym (or-false (bit q w)) ∙ rw (drop-of-length-le e h) at (k q) ∙ sym (tree-reads s e x p q 0)
 
 -- ---- the outputs
 
@@ -145,10 +119,6 @@ pub record Covers (s : ℕ) (code len : List ℕ) (w k : ℕ) : Type 0 where
 
 pub covers-none : (s : ℕ) (code len : List ℕ) (w : ℕ) → Covers s code len w 0
 covers-none s code len w = record { has = λ j h. absurd (omega arith) }
-
-or-true : (u : Bool) → (u || true) ≡ true
-or-true true = refl
-or-true false = refl
 
 pub covers-more : (s : ℕ) (code len : List ℕ) (w k x : ℕ) → Covers s code len w k → ((q : ℕ) → bit q x ≡ hasRead (treeOf (parse s [] (codeAt code len k))) q 0)
     → Covers s code len (bitOr w x) (k + 1)
@@ -163,20 +133,14 @@ covers-all s code len w k n h f = record { has = λ j l. f .has j (omega arith) 
 
 -- ---- a value does not depend on other streams of the round before
 
-or-left : (u v : Bool) → u ≡ true → (u || v) ≡ true
-or-left u v e = ap (λ (w : Bool). w || v) e
-
-or-right : (u v : Bool) → v ≡ true → (u || v) ≡ true
-or-right u v e = ap (λ (w : Bool). u || w) e ∙ or-true u
-
 value-blind : (a a′ b : ℕ) (c : Option ℕ) (x : Expr) → ((q : ℕ) → hasRead x q 0 ≡ true → bit q a ≡ bit q a′) → value (neighbours (some a) b c) x ≡ value (neighbours (some a′) b c) x
 unfolding value hasRead near
 value-blind a a′ b c (constant v) f = refl
 value-blind a a′ b c (negation x) f = ap not (value-blind a a′ b c x f)
 value-blind a a′ b c (conjunction x y) f =
-    ap₂ _&&_ (value-blind a a′ b c x (λ q e. f q (or-left (hasRead x q 0) (hasRead y q 0) e))) (value-blind a a′ b c y (λ q e. f q (or-right (hasRead x q 0) (hasRead y q 0) e)))
+    ap₂ _&&_ (value-blind a a′ b c x (λ q e. f q (or-first (hasRead x q 0) (hasRead y q 0) e))) (value-blind a a′ b c y (λ q e. f q (or-second (hasRead x q 0) (hasRead y q 0) e)))
 value-blind a a′ b c (disjunction x y) f =
-    ap₂ _||_ (value-blind a a′ b c x (λ q e. f q (or-left (hasRead x q 0) (hasRead y q 0) e))) (value-blind a a′ b c y (λ q e. f q (or-right (hasRead x q 0) (hasRead y q 0) e)))
+    ap₂ _||_ (value-blind a a′ b c x (λ q e. f q (or-first (hasRead x q 0) (hasRead y q 0) e))) (value-blind a a′ b c y (λ q e. f q (or-second (hasRead x q 0) (hasRead y q 0) e)))
 value-blind a a′ b c (read q Earlier d) f = f q (ap (λ (u : Bool). u && true) (eq-eqb q q refl))
 value-blind a a′ b c (read q Now d) f = refl
 value-blind a a′ b c (read q Later d) f = refl

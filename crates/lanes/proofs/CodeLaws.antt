@@ -1,6 +1,6 @@
 -- Laws of the expressions of a coded sheet and of its equations. Assumes nothing.
 use mathlib.Core.Path.{_≡_, refl, sym, ap, ap₂, _∙_}
-use mathlib.Core.Bool.{Bool, true, false, _&&_, Bool·beq}
+use mathlib.Core.Bool.{Bool, true, false, _&&_, Bool·beq, and-assoc, and-true}
 use mathlib.Core.List.{List, [], _∷_, _++_}
 use mathlib.Core.Option.{Option}
 use Prim.Native.Nat.{ℕ, zero, suc, _+_, _-_, _*_, _≤_, _<_}
@@ -19,14 +19,6 @@ use Rattle.lola.proofs.ValueLaws.{value-of-bytes}
 use Rattle.lanes.specs.Coded.{Coded, sheetOf, agreed}
 
 -- ---- one equation more
-
-and-assoc : (u v w : Bool) → ((u && v) && w) ≡ (u && (v && w))
-and-assoc true v w = refl
-and-assoc false v w = refl
-
-and-true : (u : Bool) → (u && true) ≡ u
-and-true true = refl
-and-true false = refl
 
 beq-comm : (u v : Bool) → Bool·beq u v ≡ Bool·beq v u
 beq-comm true true = refl

@@ -1,27 +1,27 @@
 -- In each lane the stack of truth values follows the stack of trees. Assumes nothing.
 use mathlib.Core.Path.{_≡_, refl, sym, ap, _∙_}
-use mathlib.Core.Bool.{Bool, true, false, cond, _&&_}
+use mathlib.Core.Bool.{Bool, true, false, cond}
 use mathlib.Core.List.{List, [], _∷_}
 use Prim.Native.Nat.{ℕ, suc, _+_, _-_, _*_, _%_, _≤_, _<_}
 use native.Mathlib.Numerals.{add-one}
 use native.Mathlib.Omega.{arith}
-use lib.Dec.{leb, ltb, eqb}
+use lib.Dec.{ltb, eqb}
 use lib.ListN.{length, drop, getD, drop-of-length-le}
 use lib.Seq.{drop-cons}
-use borrow.Author.Tests.{leb-true, eqb-true}
 use Rattle.words.specs.Bits.{bit}
-use Rattle.sheet.specs.Bytes.{opOf, readsOf, readOf, within}
-use Rattle.sheet.specs.Expression.{Expr, constant, negation, conjunction, disjunction, read, stack, breaks, tree, broken, applyOp, final, go-on, parse}
+use Rattle.sheet.specs.Bytes.{opOf, readOf}
+use Rattle.sheet.specs.Expression.{Expr, constant, negation, conjunction, disjunction, read, stack, breaks, tree, applyOp, final, go-on, parse}
 use Rattle.sheet.specs.declared.Offset.{Offset}
 use Rattle.sheet.specs.declared.Offset.the-variants.{Earlier, Now, Later}
 use Rattle.sheet.specs.declared.Op.{Op}
 use Rattle.sheet.specs.declared.Op.the-variants.{Const, Not, And, Or, Read, Rejected}
-use Rattle.refusal.specs.declared.Refusal.{Refusal}
+use Rattle.sheet.proofs.Ops.{op-cases}
+use Rattle.sheet.proofs.Sheets.{no-tree}
 use Rattle.refusal.specs.declared.Refusal.the-variants.{Byte, Values}
 use Rattle.lola.specs.Value.{Look, value}
 use Rattle.lanes.specs.Machine.{negTop, andTop, orTop, stepped}
 use Rattle.lola.specs.Slots.{readNo}
-use Rattle.lanes.specs.Around.{readAt, laneLook, below, laneStack, Stepped}
+use Rattle.lanes.specs.Around.{readAt, laneLook, downFrom, laneStack, Stepped}
 use Rattle.lanes.proofs.StackLaws.{byte-read, byte-const, byte-not, byte-and, byte-or}
 
 -- the values of a stack of trees, which lie on r
@@ -43,21 +43,10 @@ Means env b Or = (s : List Bool) → orTop s ≡ stepped env b s
 Means env b (Read q o d) = (s : List Bool) → env (readNo (q .0) o d) ∷ s ≡ stepped env b s
 Means env b (Rejected r) = Unit {0}
 
-pick : (env : ℕ → Bool) (b : ℕ) (t : Bool) (x y : Op) → (t ≡ true → Means env b x) → Means env b y → Means env b (cond t x y)
-pick env b true x y f g = f refl
-pick env b false x y f g = g
-
-and-split : (a b : Bool) → (a && b) ≡ true → (a ≡ true) × (b ≡ true)
-and-split true b e = (refl, e)
-and-split false b e = absurd (let y : _≡_ {A = ℕ} 0 1 = cc in omega arith)
-
 -- a read of one of the five families, whose byte is lo + q, has the word k + q, where k = lo - 0x40
-family : (env : ℕ → Bool) (lo hi k b : ℕ) (o : Offset) (d : Bool) → ((q : ℕ) → readNo q o d ≡ k + q) → lo ≡ 0x40 + k → hi ≤ 0x6F → within lo hi b ≡ true
+family : (env : ℕ → Bool) (lo hi k b : ℕ) (o : Offset) (d : Bool) → ((q : ℕ) → readNo q o d ≡ k + q) → lo ≡ 0x40 + k → hi ≤ 0x6F → lo ≤ b → b ≤ hi
     → Means env b (readOf lo b o d)
-family env lo hi k b o d f e h w s =
-    let r = and-split (leb lo b) (leb b hi) w in
-    let l : lo ≤ b = leb-true lo b (r .0) in
-    let u : b ≤ hi = leb-true b hi (r .1) in
+family env lo hi k b o d f e h l u s =
     let z : k + (b - lo) ≡ b % 64 = omega arith in
     ap (λ (j : ℕ). env j ∷ s) (f (b - lo) ∙ z) ∙ byte-read env b s (omega arith)
 
@@ -68,19 +57,20 @@ or-is : (env : ℕ → Bool) (b : ℕ) (s : List Bool) → b ≡ 4 → orTop s �
 or-is env b s e = byte-or env b s (omega arith) (λ q. omega arith) (λ q. omega arith) (omega arith)
 
 pub op-means : (env : ℕ → Bool) (b : ℕ) → Means env b (opOf b)
-unfolding opOf readsOf readNo
+unfolding readNo
 op-means env b =
-    pick env b (eqb b 0) _ _ (λ e s. const-is env b s 0 false (eqb-true b 0 e) (omega arith) refl)
-    (pick env b (eqb b 1) _ _ (λ e s. const-is env b s 1 true (eqb-true b 1 e) (omega arith) refl)
-    (pick env b (eqb b 2) _ _ (λ e s. byte-not env b s (eqb-true b 2 e))
-    (pick env b (eqb b 3) _ _ (λ e s. byte-and env b s (eqb-true b 3 e))
-    (pick env b (eqb b 4) _ _ (λ e s. or-is env b s (eqb-true b 4 e))
-    (pick env b (within 0x40 0x47 b) _ _ (family env 0x40 0x47 0 b Now false (λ q. omega arith) refl (omega arith))
-    (pick env b (within 0x50 0x57 b) _ _ (family env 0x50 0x57 16 b Earlier false (λ q. refl) refl (omega arith))
-    (pick env b (within 0x58 0x5F b) _ _ (family env 0x58 0x5F 24 b Earlier true (λ q. refl) refl (omega arith))
-    (pick env b (within 0x60 0x67 b) _ _ (family env 0x60 0x67 32 b Later false (λ q. refl) refl (omega arith))
-    (pick env b (within 0x68 0x6F b) _ _ (family env 0x68 0x6F 40 b Later true (λ q. refl) refl (omega arith))
-    tt)))))))))
+    op-cases (Means env b) b
+    (λ e s. const-is env b s 0 false e (omega arith) refl)
+    (λ e s. const-is env b s 1 true e (omega arith) refl)
+    (λ e s. byte-not env b s e)
+    (λ e s. byte-and env b s e)
+    (λ e s. or-is env b s e)
+    (family env 0x40 0x47 0 b Now false (λ q. omega arith) refl (omega arith))
+    (family env 0x50 0x57 16 b Earlier false (λ q. refl) refl (omega arith))
+    (family env 0x58 0x5F 24 b Earlier true (λ q. refl) refl (omega arith))
+    (family env 0x60 0x67 32 b Later false (λ q. refl) refl (omega arith))
+    (family env 0x68 0x6F 40 b Later true (λ q. refl) refl (omega arith))
+    tt
 
 -- ---- one byte
 
@@ -90,29 +80,26 @@ pub record Stacked (look : Look) (r : List Bool) (s : ℕ) (x : Expr) (rest : Li
   pub left : parse s trees rest ≡ tree x
   pub same : vs ≡ values look r trees
 
-wrong : (r : Refusal) (x : Expr) → broken r ≡ tree x → ⊥
-wrong r x h = let y : _≡_ {A = ℕ} 0 1 = cc in omega arith
-
 module _ (env : ℕ → Bool) (r : List Bool) (s : ℕ) (x : Expr) (b : ℕ) (bs : List ℕ) (vs : List Bool) where
   by-op : (op : Op) → Means env b op → (st : List Expr) → vs ≡ values (reads env) r st → go-on (applyOp s op st) (λ st′. parse s st′ bs) ≡ tree x
       → Stacked (reads env) r s x bs (stepped env b vs)
   unfolding applyOp values value negTop andTop orTop
   by-op (Const v) m st e h = record { trees = constant v ∷ st; left = h; same = sym (m vs) ∙ ap (λ (z : List Bool). v ∷ z) e }
-  by-op Not m [] e h = absurd (wrong Values x h)
+  by-op Not m [] e h = absurd (no-tree Values x h)
   by-op Not m (y ∷ st) e h = record { trees = negation y ∷ st; left = h; same = sym (m vs) ∙ ap negTop e }
-  by-op And m [] e h = absurd (wrong Values x h)
-  by-op And m (y ∷ []) e h = absurd (wrong Values x h)
+  by-op And m [] e h = absurd (no-tree Values x h)
+  by-op And m (y ∷ []) e h = absurd (no-tree Values x h)
   by-op And m (y ∷ (z ∷ st)) e h = record { trees = conjunction z y ∷ st; left = h; same = sym (m vs) ∙ ap andTop e }
-  by-op Or m [] e h = absurd (wrong Values x h)
-  by-op Or m (y ∷ []) e h = absurd (wrong Values x h)
+  by-op Or m [] e h = absurd (no-tree Values x h)
+  by-op Or m (y ∷ []) e h = absurd (no-tree Values x h)
   by-op Or m (y ∷ (z ∷ st)) e h = record { trees = disjunction z y ∷ st; left = h; same = sym (m vs) ∙ ap orTop e }
   by-op (Read q o d) m st e h = go (ltb (q .0) s) h
     where
       go : (u : Bool) → go-on (cond u (stack (read (q .0) o d ∷ st)) (breaks Byte)) (λ st′. parse s st′ bs) ≡ tree x
           → Stacked (reads env) r s x bs (stepped env b vs)
       go true k = record { trees = read (q .0) o d ∷ st; left = k; same = sym (m vs) ∙ ap (λ (z : List Bool). env (readNo (q .0) o d) ∷ z) e }
-      go false k = absurd (wrong Byte x k)
-  by-op (Rejected f) m st e h = absurd (wrong f x h)
+      go false k = absurd (no-tree Byte x k)
+  by-op (Rejected f) m st e h = absurd (no-tree f x h)
 
   next : Stacked (reads env) r s x (b ∷ bs) vs → Stacked (reads env) r s x bs (stepped env b vs)
   unfolding parse
@@ -123,9 +110,9 @@ unfolding parse final values
 last look r s x vs k = go (k .trees) (k .left) (k .same)
   where
     go : (st : List Expr) → final st ≡ tree x → vs ≡ values look r st → vs ≡ value look x ∷ r
-    go [] h e = absurd (wrong Values x h)
+    go [] h e = absurd (no-tree Values x h)
     go (y ∷ []) h e = let z : y ≡ x = cc in e ∙ ap (λ (w : Expr). value look w ∷ r) z
-    go (y ∷ (z ∷ st)) h e = absurd (wrong Values x h)
+    go (y ∷ (z ∷ st)) h e = absurd (no-tree Values x h)
 
 -- ---- the whole expression, in one lane
 
@@ -157,7 +144,7 @@ pub record Done (w env f : ℕ) (e r st top : List ℕ) (used k : ℕ) : Type 0 
 
 module _ (w env f : ℕ) (e r : List ℕ) where
   pub none-done : (st : List ℕ) → Done w env f e r st r 0 0
-  unfolding values below
+  unfolding values downFrom
   none-done st = record { inside = omega arith; room = omega arith; follows = λ j i g l s x h. record { trees = []; left = h; same = refl } }
 
   pub one-done : (st top : List ℕ) (used k : ℕ) (st′ top′ : List ℕ) (used′ : ℕ) → k < length e → Done w env f e r st top used k
@@ -171,5 +158,5 @@ module _ (w env f : ℕ) (e r : List ℕ) where
   pub all-done : (st top : List ℕ) (used k : ℕ) → Done w env f e r st top used k → length e ≤ k → (s : ℕ) (x : Expr) → parse s [] e ≡ tree x
       → (j i : ℕ) → j < w → i < 64 → bit i (getD top j 0) ≡ value (laneLook env f (64 * j + i)) x
   all-done st top used k d l s x p j i g h =
-      lane-all (readAt env f (64 * j + i)) (bit i (getD r j 0) ∷ []) e k (bit i (getD top j 0)) (below (λ n. bit i (getD st (w * n + j) 0)) used) l
+      lane-all (readAt env f (64 * j + i)) (bit i (getD r j 0) ∷ []) e k (bit i (getD top j 0)) (downFrom (λ n. bit i (getD st (w * n + j) 0)) used) l
       (d .follows j i g h) s x p

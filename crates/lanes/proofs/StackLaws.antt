@@ -9,7 +9,7 @@ use native.Mathlib.Decide.{ℕ-discrete}
 use lib.Dec.{eqb}
 use borrow.Author.Tests.{eq-eqb, ne-eqb, lt-ltb, le-ltb}
 use Rattle.lanes.specs.Machine.{negTop, andTop, orTop, basic, stepped}
-use Rattle.lanes.specs.Around.{below, laneStack}
+use Rattle.lanes.specs.Around.{downFrom, laneStack}
 
 -- ---- what a byte does, by the tests that the code makes
 
@@ -44,16 +44,16 @@ module _ (env : ℕ → Bool) (e : ℕ) (s : List Bool) where
 pub cons : {u v : Bool} {s t : List Bool} → u ≡ v → s ≡ t → u ∷ s ≡ v ∷ t
 cons p q = ap₂ (λ (x : Bool) (xs : List Bool). x ∷ xs) p q
 
-pub below-same : (E F : ℕ → Bool) (n : ℕ) → ((k : ℕ) → k < n → F k ≡ E k) → below F n ≡ below E n
-unfolding below
-below-same E F zero h = refl
-below-same E F (suc n) h = cons (h n (omega arith)) (below-same E F n (λ k l. h k (omega arith)))
+pub down-same : (E F : ℕ → Bool) (n : ℕ) → ((k : ℕ) → k < n → F k ≡ E k) → downFrom F n ≡ downFrom E n
+unfolding downFrom
+down-same E F zero h = refl
+down-same E F (suc n) h = cons (h n (omega arith)) (down-same E F n (λ k l. h k (omega arith)))
 
 -- E below the top x and F below the top y, for a byte that the code has put into effect
 module _ (env : ℕ → Bool) (e : ℕ) (x : Bool) (E : ℕ → Bool) (n : ℕ) (y : Bool) (F : ℕ → Bool) where
   pushed : (v : Bool) → y ≡ v → F n ≡ x → ((k : ℕ) → k < n → F k ≡ E k) → laneStack y F (n + 1) ≡ v ∷ laneStack x E n
-  unfolding below
-  pushed v p q h = ap (laneStack y F) (add-one n) ∙ cons p (cons q (below-same E F n h))
+  unfolding downFrom
+  pushed v p q h = ap (laneStack y F) (add-one n) ∙ cons p (cons q (down-same E F n h))
 
   pub lane-read : 64 ≤ e → y ≡ env (e % 64) → F n ≡ x → ((k : ℕ) → k < n → F k ≡ E k) → laneStack y F (n + 1) ≡ stepped env e (laneStack x E n)
   lane-read l p q h = pushed (env (e % 64)) p q h ∙ byte-read env e (laneStack x E n) l
@@ -63,30 +63,30 @@ module _ (env : ℕ → Bool) (e : ℕ) (x : Bool) (E : ℕ → Bool) (n : ℕ) 
 
   pub lane-not : e ≡ 2 → y ≡ not x → ((k : ℕ) → k < n → F k ≡ E k) → laneStack y F n ≡ stepped env e (laneStack x E n)
   unfolding negTop
-  lane-not q p h = cons p (below-same E F n h) ∙ byte-not env e (laneStack x E n) q
+  lane-not q p h = cons p (down-same E F n h) ∙ byte-not env e (laneStack x E n) q
 
 -- an operation on two values; one that lacks a value changes nothing
 module _ (env : ℕ → Bool) (e : ℕ) (x : Bool) (E : ℕ → Bool) (y : Bool) (F : ℕ → Bool) where
   pub lane-and : (n : ℕ) → 1 ≤ n → e ≡ 3 → y ≡ (E (n - 1) && x) → ((k : ℕ) → k < n - 1 → F k ≡ E k)
       → laneStack y F (n - 1) ≡ stepped env e (laneStack x E n)
-  unfolding andTop below
+  unfolding andTop downFrom
   lane-and zero l q p h = absurd (omega arith)
   lane-and (suc n) l q p h =
       let z : suc n - 1 ≡ n = omega arith in
-      ap (laneStack y F) z ∙ cons (p ∙ ap (λ (k : ℕ). E k && x) z) (below-same E F n (λ k g. h k (omega arith))) ∙ byte-and env e (laneStack x E (suc n)) q
+      ap (laneStack y F) z ∙ cons (p ∙ ap (λ (k : ℕ). E k && x) z) (down-same E F n (λ k g. h k (omega arith))) ∙ byte-and env e (laneStack x E (suc n)) q
 
   pub lane-or : (n : ℕ) → 1 ≤ n → 2 ≤ e → (e ≡ 2 → ⊥) → (e ≡ 3 → ⊥) → e < 64 → y ≡ (E (n - 1) || x) → ((k : ℕ) → k < n - 1 → F k ≡ E k)
       → laneStack y F (n - 1) ≡ stepped env e (laneStack x E n)
-  unfolding orTop below
+  unfolding orTop downFrom
   lane-or zero l l2 n2 n3 u p h = absurd (omega arith)
   lane-or (suc n) l l2 n2 n3 u p h =
       let z : suc n - 1 ≡ n = omega arith in
-      ap (laneStack y F) z ∙ cons (p ∙ ap (λ (k : ℕ). E k || x) z) (below-same E F n (λ k g. h k (omega arith)))
+      ap (laneStack y F) z ∙ cons (p ∙ ap (λ (k : ℕ). E k || x) z) (down-same E F n (λ k g. h k (omega arith)))
       ∙ byte-or env e (laneStack x E (suc n)) l2 n2 n3 u
 
 pub lane-lacks : (env : ℕ → Bool) (e : ℕ) (x : Bool) (E : ℕ → Bool) (n : ℕ) → n ≡ 0 → 2 ≤ e → (e ≡ 2 → ⊥) → e < 64
     → laneStack x E n ≡ stepped env e (laneStack x E n)
-unfolding andTop orTop below
+unfolding andTop orTop downFrom
 lane-lacks env e x E (suc n) z l n2 u = absurd (omega arith)
 lane-lacks env e x E zero z l n2 u = go (ℕ-discrete e 3)
   where

@@ -26,12 +26,12 @@ abbrev pub here : ℕ → ℕ → ℕ → ℕ
 here f b v = cond (eqb f 0) v b
 
 -- a lane's stack of n + 1 truth values: its top, and below it those of E, the last of them uppermost
-unfoldable pub below : (ℕ → Bool) → ℕ → List Bool
-below E zero = []
-below E (suc n) = E n ∷ below E n
+unfoldable pub downFrom : (ℕ → Bool) → ℕ → List Bool
+downFrom E zero = []
+downFrom E (suc n) = E n ∷ downFrom E n
 
 abbrev pub laneStack : Bool → (ℕ → Bool) → ℕ → List Bool
-laneStack x E n = x ∷ below E n
+laneStack x E n = x ∷ downFrom E n
 
 -- a step of a stack of rows of w words, 64 * w lanes: `used` of them lie below the top, row k of these from w * k on
 pub record Stepped (w env f e : ℕ) (st top : List ℕ) (used : ℕ) (st′ top′ : List ℕ) (used′ : ℕ) : Type 0 where

@@ -1,6 +1,6 @@
 -- A letter matches the masks input by input exactly if its known bits are the value.
 use mathlib.Core.Path.{_≡_, refl, sym, ap, ap₂, _∙_}
-use mathlib.Core.Bool.{Bool, true, false, cond, not, _&&_, _||_, Bool·beq, false≢true, and-true, and-false}
+use mathlib.Core.Bool.{Bool, true, false, cond, not, _&&_, Bool·beq, and-true, and-false}
 use Prim.Native.Nat.{ℕ, zero, suc, _+_, _-_, _%_, _<_, _≤_, _^_}
 use native.Mathlib.Nat.{mod-lt, mod-eq-of-lt}
 use native.Mathlib.Omega.{arith}
@@ -9,9 +9,10 @@ use native.Mathlib.Decide.{ℕ-discrete}
 use lib.Bits.{bitAnd, and-le-r, and-mod}
 use lib.Dec.{eqb, leb}
 use lib.Pow.{pow-pos, pow-mono, mod-mod-pow}
-use borrow.Author.Tests.{eq-eqb, ne-eqb, eqb-true, leb-false}
+use borrow.Author.Tests.{eq-eqb, ne-eqb, eqb-true, leb-false, not-false}
 use Rattle.words.specs.Bits.{bit}
 use Rattle.words.proofs.BitLaws.{bit-and, bits-ext}
+use Rattle.words.proofs.Bools.{and-split, or-none, beq-eq, beq-refl}
 use Rattle.completions.specs.Completion.{masked}
 use Rattle.letters.specs.Masks.{badMasks}
 use Rattle.letters.specs.Matching.{agrees, matches}
@@ -19,24 +20,6 @@ use Rattle.letters.specs.Matching.{agrees, matches}
 pub matches-more : (known val i l : ℕ) → matches known val (i + 1) l ≡ (matches known val i l && agrees known val i l)
 unfolding matches
 matches-more known val i l = rw (add-one i)
-
-and-fst : (a b : Bool) → (a && b) ≡ true → a ≡ true
-and-fst true b e = refl
-and-fst false b e = e
-
-and-snd : (a b : Bool) → (a && b) ≡ true → b ≡ true
-and-snd true b e = e
-and-snd false b e = absurd (false≢true e)
-
-beq-eq : (u v : Bool) → Bool·beq u v ≡ true → u ≡ v
-beq-eq true true e = refl
-beq-eq true false e = sym e
-beq-eq false true e = e
-beq-eq false false e = refl
-
-beq-refl : (u : Bool) → Bool·beq u u ≡ true
-beq-refl true = refl
-beq-refl false = refl
 
 -- what is masked out is no value bit
 pub record Valid (known val : ℕ) : Type 0 where
@@ -46,10 +29,10 @@ pub record Valid (known val : ℕ) : Type 0 where
 matches-at : (known val n l : ℕ) → matches known val n l ≡ true → (i : ℕ) → i < n → agrees known val i l ≡ true
 unfolding matches
 matches-at known val zero l e i h = absurd (omega arith)
-matches-at known val (suc n) l e i h = go (ℕ-discrete i n) (matches-at known val n l (and-fst (matches known val n l) (agrees known val n l) e) i)
+matches-at known val (suc n) l e i h = go (ℕ-discrete i n) (matches-at known val n l (and-split (matches known val n l) (agrees known val n l) e .0) i)
   where
     go : Dec (i ≡ n) → (i < n → agrees known val i l ≡ true) → agrees known val i l ≡ true
-    go (yes q) rec = ap (λ (z : ℕ). agrees known val z l) q ∙ and-snd (matches known val n l) (agrees known val n l) e
+    go (yes q) rec = ap (λ (z : ℕ). agrees known val z l) q ∙ and-split (matches known val n l) (agrees known val n l) e .1
     go (no q) rec = rec (omega arith)
 
 matches-of : (known val n l : ℕ) → ((i : ℕ) → i < n → agrees known val i l ≡ true) → matches known val n l ≡ true
@@ -98,22 +81,10 @@ module _ (known val l : ℕ) (ok : Valid known val) where
       go (yes e) = matches-of known val 6 l (λ i h. bit-agrees i (ap (bit i) (sym e) ∙ bit-and i l known)) ∙ sym (eq-eqb (bitAnd l known) val e)
       go (no n) = differs (matches known val 6 l) refl n ∙ sym (ne-eqb (bitAnd l known) val n)
 
-or-fst : (u v : Bool) → (u || v) ≡ false → u ≡ false
-or-fst true v e = e
-or-fst false v e = refl
-
-or-snd : (u v : Bool) → (u || v) ≡ false → v ≡ false
-or-snd true v e = absurd (false≢true (sym e))
-or-snd false v e = e
-
-not-false : (u : Bool) → not u ≡ false → u ≡ true
-not-false true e = refl
-not-false false e = absurd (false≢true (sym e))
-
 -- masks that rule 11 lets pass
 known-small : (m known val : ℕ) → badMasks m known val ≡ false → known < 2 ^ m
 unfolding badMasks
-known-small m known val e = leb-false (2 ^ m) known (or-fst (leb (2 ^ m) known) (not (eqb (bitAnd val known) val)) e)
+known-small m known val e = leb-false (2 ^ m) known (or-none (leb (2 ^ m) known) (not (eqb (bitAnd val known) val)) e .0)
 
 pub valid : (m known val : ℕ) → m ≤ 6 → badMasks m known val ≡ false → Valid known val
 unfolding badMasks
@@ -122,7 +93,7 @@ valid m known val h e =
     let g : 2 ^ m ≤ 2 ^ 6 = pow-mono h in
     record {
       small = omega arith;
-      inside = eqb-true (bitAnd val known) val (not-false (eqb (bitAnd val known) val) (or-snd (leb (2 ^ m) known) (not (eqb (bitAnd val known) val)) e));
+      inside = eqb-true (bitAnd val known) val (not-false (eqb (bitAnd val known) val) (or-none (leb (2 ^ m) known) (not (eqb (bitAnd val known) val)) e .1));
     }
 
 -- the bits of a number at places below m are those of its rest

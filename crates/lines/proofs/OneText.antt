@@ -7,6 +7,7 @@ use Rattle.refusal.specs.declared.Refusal.{Refusal}
 use Rattle.refusal.specs.declared.Outcome.the-variants.{Accepted, Refused}
 use Rattle.refusal.specs.declared.Verdict.{Verdict}
 use Rattle.refusal.proofs.Decisions.{decided-once}
+use Rattle.refusal.proofs.NumberLaws.{not-both}
 use Rattle.sheet.specs.RuleSheet.{RuleSheet, outputs, accepted}
 use Rattle.circular.specs.Checks as sheets
 use Rattle.claims.specs.Book.{Call, Answer, refused, verdicts, closed, Book, emptyBook, counted, BookStep}
@@ -99,9 +100,6 @@ written-once x (unread e) (turnedDown f r) = absurd (one-reading f e)
 written-once x (unread e) (unread f) = refl
 
 -- ---- the program
-
-not-both : {r : Refusal} → Refused r ≡ Accepted → ⊥
-not-both e = let w : _≡_ {A = ℕ} 0 1 = cc in omega arith
 
 pub one-text : OneText
 one-text sheet input t u (refusedSheet {r = r} d) (refusedSheet {r = q} e) =

@@ -7,21 +7,21 @@ use native.Mathlib.Numerals.{add-one}
 use native.Mathlib.Omega.{arith}
 use native.Mathlib.Decide.{ℕ-discrete}
 use lib.Bits.{bitXor, differ, xor-step, xor-zero-r}
-use lib.Dec.{leb, ltb, eqb}
+use lib.Dec.{ltb, eqb}
 use lib.ListN.{length, drop, getD, drop-of-length-le}
 use lib.Seq.{drop-cons}
 use lib.Pow.{pow-mono}
-use borrow.Author.Tests.{leb-true, eqb-true}
 use Rattle.words.specs.Bits.{bit}
 use Rattle.words.specs.Below.{one}
 use Rattle.words.proofs.BitLaws.{digit-of}
-use Rattle.sheet.specs.Bytes.{opOf, readsOf, readOf, within}
-use Rattle.sheet.specs.Expression.{Expr, constant, negation, conjunction, disjunction, read, stack, breaks, tree, broken, applyOp, final, go-on, parse}
+use Rattle.sheet.specs.Bytes.{opOf, readOf}
+use Rattle.sheet.specs.Expression.{Expr, constant, negation, conjunction, disjunction, read, stack, breaks, tree, applyOp, final, go-on, parse}
 use Rattle.sheet.specs.declared.Offset.{Offset}
 use Rattle.sheet.specs.declared.Offset.the-variants.{Earlier, Now, Later}
 use Rattle.sheet.specs.declared.Op.{Op}
 use Rattle.sheet.specs.declared.Op.the-variants.{Const, Not, And, Or, Read, Rejected}
-use Rattle.refusal.specs.declared.Refusal.{Refusal}
+use Rattle.sheet.proofs.Ops.{op-cases}
+use Rattle.sheet.proofs.Sheets.{no-tree}
 use Rattle.refusal.specs.declared.Refusal.the-variants.{Byte, Values}
 use Rattle.lola.specs.Value.{Look, value}
 use Rattle.lola.specs.Slots.{readNo, slots, Works}
@@ -41,38 +41,21 @@ Means env b Or = b ≡ 4
 Means env b (Read q o d) = (0x40 ≤ b) × (b < 0x70) × (slots env (q .0) o d ≡ bit (b - 0x40) env)
 Means env b (Rejected r) = Unit {0}
 
-pick : (env b : ℕ) (t : Bool) (x y : Op) → (t ≡ true → Means env b x) → Means env b y → Means env b (cond t x y)
-pick env b true x y f g = f refl
-pick env b false x y f g = g
-
-and-split : (a b : Bool) → (a && b) ≡ true → (a ≡ true) × (b ≡ true)
-and-split true b e = (refl, e)
-and-split false b e = absurd (let y : _≡_ {A = ℕ} 0 1 = cc in omega arith)
-
-bounds : (lo hi b : ℕ) → within lo hi b ≡ true → (lo ≤ b) × (b ≤ hi)
-bounds lo hi b e = let a = and-split (leb lo b) (leb b hi) e in (leb-true lo b (a .0), leb-true b hi (a .1))
-
 -- a read of one of the five families, whose byte is lo + q, is at the place k + q of the word, where k = lo - 0x40
-family : (env lo hi k b : ℕ) (o : Offset) (d : Bool) → ((q : ℕ) → slots env q o d ≡ bit (k + q) env) → lo ≡ 0x40 + k → hi ≤ 0x6F → within lo hi b ≡ true
+family : (env lo hi k b : ℕ) (o : Offset) (d : Bool) → ((q : ℕ) → slots env q o d ≡ bit (k + q) env) → lo ≡ 0x40 + k → hi ≤ 0x6F → lo ≤ b → b ≤ hi
     → Means env b (readOf lo b o d)
-family env lo hi k b o d f e h w =
-    let r = bounds lo hi b w in
-    (omega (arith, r .0), omega (arith, r .1), f (b - lo) ∙ ap (λ (z : ℕ). bit z env) (omega (arith, r .0)))
+family env lo hi k b o d f e h l u = (omega arith, omega arith, f (b - lo) ∙ ap (λ (z : ℕ). bit z env) (omega arith))
 
 op-means : (env b : ℕ) → Means env b (opOf b)
-unfolding opOf readsOf slots readNo
+unfolding slots readNo
 op-means env b =
-    pick env b (eqb b 0) _ _ (λ e. let h : b ≡ 0 = eqb-true b 0 e in (omega arith, h))
-    (pick env b (eqb b 1) _ _ (λ e. let h : b ≡ 1 = eqb-true b 1 e in (omega arith, h))
-    (pick env b (eqb b 2) _ _ (eqb-true b 2)
-    (pick env b (eqb b 3) _ _ (eqb-true b 3)
-    (pick env b (eqb b 4) _ _ (eqb-true b 4)
-    (pick env b (within 0x40 0x47 b) _ _ (family env 0x40 0x47 0 b Now false (λ q. ap (λ (z : ℕ). bit z env) (omega arith)) refl (omega arith))
-    (pick env b (within 0x50 0x57 b) _ _ (family env 0x50 0x57 16 b Earlier false (λ q. refl) refl (omega arith))
-    (pick env b (within 0x58 0x5F b) _ _ (family env 0x58 0x5F 24 b Earlier true (λ q. refl) refl (omega arith))
-    (pick env b (within 0x60 0x67 b) _ _ (family env 0x60 0x67 32 b Later false (λ q. refl) refl (omega arith))
-    (pick env b (within 0x68 0x6F b) _ _ (family env 0x68 0x6F 40 b Later true (λ q. refl) refl (omega arith))
-    tt)))))))))
+    op-cases (Means env b) b (λ e. (omega arith, e)) (λ e. (omega arith, e)) (λ e. e) (λ e. e) (λ e. e)
+    (family env 0x40 0x47 0 b Now false (λ q. ap (λ (z : ℕ). bit z env) (omega arith)) refl (omega arith))
+    (family env 0x50 0x57 16 b Earlier false (λ q. refl) refl (omega arith))
+    (family env 0x58 0x5F 24 b Earlier true (λ q. refl) refl (omega arith))
+    (family env 0x60 0x67 32 b Later false (λ q. refl) refl (omega arith))
+    (family env 0x68 0x6F 40 b Later true (λ q. refl) refl (omega arith))
+    tt
 
 -- ---- the operators on the lowest digits
 
@@ -113,28 +96,25 @@ pub record Stacked (look : Look) (s : ℕ) (t : Expr) (rest : List ℕ) (w : ℕ
   pub left : parse s trees rest ≡ tree t
   pub same : w ≡ number look trees
 
-wrong : (r : Refusal) (t : Expr) → broken r ≡ tree t → ⊥
-wrong r t h = let y : _≡_ {A = ℕ} 0 1 = cc in omega arith
-
 module _ (env s : ℕ) (t : Expr) (b : ℕ) (bs : List ℕ) (w r : ℕ) (does : Works env w b r) where
   by-op : (op : Op) → Means env b op → (st : List Expr) → w ≡ number (slots env) st → go-on (applyOp s op st) (λ st′. parse s st′ bs) ≡ tree t
       → Stacked (slots env) s t bs r
   unfolding applyOp number value
   by-op (Const v) m st e h =
       record { trees = constant v ∷ st; left = h; same = omega (arith, does .const (m .0), m .1) }
-  by-op Not m [] e h = absurd (wrong Values t h)
+  by-op Not m [] e h = absurd (no-tree Values t h)
   by-op Not m (x ∷ st) e h =
       record { trees = negation x ∷ st; left = h; same = not-low (value (slots env) x) (number (slots env) st) w r e (does .not m) }
-  by-op And m [] e h = absurd (wrong Values t h)
-  by-op And m (y ∷ []) e h = absurd (wrong Values t h)
+  by-op And m [] e h = absurd (no-tree Values t h)
+  by-op And m (y ∷ []) e h = absurd (no-tree Values t h)
   by-op And m (y ∷ (x ∷ st)) e h =
       record {
         trees = conjunction x y ∷ st;
         left = h;
         same = and-low (value (slots env) y) (value (slots env) x) (number (slots env) st) w r e (does .and m);
       }
-  by-op Or m [] e h = absurd (wrong Values t h)
-  by-op Or m (y ∷ []) e h = absurd (wrong Values t h)
+  by-op Or m [] e h = absurd (no-tree Values t h)
+  by-op Or m (y ∷ []) e h = absurd (no-tree Values t h)
   by-op Or m (y ∷ (x ∷ st)) e h =
       record {
         trees = disjunction x y ∷ st;
@@ -150,8 +130,8 @@ module _ (env s : ℕ) (t : Expr) (b : ℕ) (bs : List ℕ) (w r : ℕ) (does : 
             left = k;
             same = omega (arith, does .read (m .0) (m .1), digit-of (b - 0x40) env, ap one (m .2));
           }
-      go false k = absurd (wrong Byte t k)
-  by-op (Rejected f) m st e h = absurd (wrong f t h)
+      go false k = absurd (no-tree Byte t k)
+  by-op (Rejected f) m st e h = absurd (no-tree f t h)
 
   pub next : Stacked (slots env) s t (b ∷ bs) w → Stacked (slots env) s t bs r
   unfolding parse
@@ -190,9 +170,9 @@ last look s t w x = go (x .trees) (x .left) (x .same)
     low false e = ap (λ (z : ℕ). eqb (z % 2) 1) e
 
     go : (st : List Expr) → final st ≡ tree t → w ≡ number look st → eqb (w % 2) 1 ≡ value look t
-    go [] h e = absurd (wrong Values t h)
+    go [] h e = absurd (no-tree Values t h)
     go (y ∷ []) h e = let z : y ≡ t = cc in low (value look y) e ∙ ap (value look) z
-    go (y ∷ (z ∷ st)) h e = absurd (wrong Values t h)
+    go (y ∷ (z ∷ st)) h e = absurd (no-tree Values t h)
 
 pub all-done : (env : ℕ) (e : List ℕ) (w i : ℕ) → length e ≤ i → Done env e w i → (s : ℕ) (t : Expr) → parse s [] e ≡ tree t → eqb (w % 2) 1 ≡ value (slots env) t
 all-done env e w i h d s t p = last (slots env) s t w (rw (drop-of-length-le e h) at (d .follows s t p))

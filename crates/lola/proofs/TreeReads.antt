@@ -1,7 +1,7 @@
 -- The reads of a tree are those of the bytes that it was read from.
-use mathlib.Core.Path.{_≡_, refl, ap, _∙_}
+use mathlib.Core.Path.{_≡_, refl, ap, _∙_, sym}
 use Prim.Native.Nat.{ℕ}
-use mathlib.Core.Bool.{Bool, true, false, cond, _&&_, _||_}
+use mathlib.Core.Bool.{Bool, true, false, cond, _&&_, _||_, or-assoc, or-comm, or-false}
 use mathlib.Core.List.{List, [], _∷_}
 use lib.Dec.{eqb, ltb}
 use Rattle.sheet.specs.Bytes.{opOf}
@@ -27,14 +27,7 @@ Says q o r (tree t) = hasRead t q o ≡ r
 Says q o r (broken x) = Unit {0}
 
 or-turn : (a b c : Bool) → ((a || b) || c) ≡ (b || (a || c))
-or-turn true true c = refl
-or-turn true false c = refl
-or-turn false true c = refl
-or-turn false false c = refl
-
-or-false : (a : Bool) → a ≡ (a || false)
-or-false true = refl
-or-false false = refl
+or-turn a b c = ap (λ (u : Bool). u || c) (or-comm a b) ∙ or-assoc b a c
 
 step-reads : (s q o : ℕ) (op : Op) (st : List Expr) → SaysNext q o (opReads op q o || stackReads st q o) (applyOp s op st)
 unfolding applyOp stackReads opReads hasRead
@@ -61,7 +54,7 @@ says-same q o a b e (broken r) h = tt
 parse-reads : (s q o : ℕ) (bs : List ℕ) (st : List Expr) → Says q o (stackReads st q o || bytesRead bs q o) (parse s st bs)
 unfolding parse final bytesRead stackReads
 parse-reads s q o [] [] = tt
-parse-reads s q o [] (t ∷ []) = or-false (hasRead t q o) ∙ or-false (hasRead t q o || false)
+parse-reads s q o [] (t ∷ []) = sym (or-false (hasRead t q o || false) ∙ or-false (hasRead t q o))
 parse-reads s q o [] (t ∷ (u ∷ st)) = tt
 parse-reads s q o (b ∷ bs) st = go (applyOp s (opOf b) st) (step-reads s q o (opOf b) st) (λ st′. parse-reads s q o bs st′)
   where

@@ -1,4 +1,3 @@
-pub mod Bools
 pub mod Sets
 pub mod Fill
 pub mod BitSearch

@@ -1,32 +1,16 @@
 -- The pairs of a stored set are the ones of its words.
-use mathlib.Core.Path.{_≡_, refl, sym, ap, ap₂, _∙_}
+use mathlib.Core.Path.{_≡_, sym, ap, ap₂, _∙_}
 use mathlib.Core.List.{List}
 use mathlib.Core.Option.{none, some}
-use Prim.Native.Nat.{ℕ, zero, suc, _+_, _-_, _*_, _/_, _%_, _^_, _≤_, _<_}
+use Prim.Native.Nat.{ℕ, _+_, _*_, _/_, _%_, _^_, _≤_, _<_}
 use native.Mathlib.Omega.{arith}
 use lib.Count.{ones}
 use lib.ListN.{getD}
 use Rattle.words.specs.Bits.{bit}
-use Rattle.words.proofs.CountLaws.{sum-cong, sum-add, sum-groups, ones-bits}
+use Rattle.words.proofs.CountLaws.{sum-cong, sum-add, sum-groups, ones-bits, sum-swap}
 use Rattle.words.specs.Below.{one, sumBelow, countBelow}
 use Rattle.completions.specs.Live.{countPairs}
 use Rattle.pairs.specs.Storage.{place, slot, stored}
-
-sum-zero : (m : ℕ) → sumBelow m (λ a. 0) ≡ 0
-unfolding sumBelow
-sum-zero zero = refl
-sum-zero (suc m) = omega (arith, sum-zero m)
-
-sum-plus : (m : ℕ) (f g : ℕ → ℕ) → sumBelow m (λ a. f a + g a) ≡ sumBelow m f + sumBelow m g
-unfolding sumBelow
-sum-plus zero f g = refl
-sum-plus (suc m) f g = omega (arith, sum-plus m f g)
-
--- the order of two sums
-sum-swap : (n m : ℕ) (g : ℕ → ℕ → ℕ) → sumBelow n (λ b. sumBelow m (λ a. g a b)) ≡ sumBelow m (λ a. sumBelow n (λ b. g a b))
-unfolding sumBelow
-sum-swap zero m g = sym (sum-zero m)
-sum-swap (suc n) m g = ap (λ (k : ℕ). sumBelow m (λ a. g a n) + k) (sum-swap n m g) ∙ sym (sum-plus m (λ a. g a n) (λ a. sumBelow n (λ b. g a b)))
 
 module _ (s : List ℕ) (words : (i : ℕ) → i < 1028 → getD s i 0 < 2 ^ 64) where
   word : (X j : ℕ) → X + j < 1028 → sumBelow 64 (λ i. one (bit ((j * 64 + i) % 64) (getD s (X + (j * 64 + i) / 64) 0))) ≡ ones (getD s (X + j) 0)

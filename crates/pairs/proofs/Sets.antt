@@ -1,6 +1,6 @@
 -- Laws of the sets in the storage.
 use mathlib.Core.Path.{_≡_, refl, sym, ap, ap₂, _∙_}
-use mathlib.Core.Bool.{Bool, true, false, not, _&&_, _||_}
+use mathlib.Core.Bool.{Bool, true, false, not, _&&_, _||_, and-true, and-false, or-false, or-assoc}
 use mathlib.Core.List.{List}
 use mathlib.Core.Option.{Option, none, some}
 use Prim.Native.Nat.{ℕ, _+_, _-_, _*_, _/_, _%_, _^_, _≤_, _<_}
@@ -17,7 +17,6 @@ use Rattle.completions.specs.Live.{Pairs}
 use Rattle.completions.specs.Steps.{Within}
 use Rattle.pairs.specs.Storage.{place, slot, stored, used}
 use Rattle.pairs.specs.Changes.{eqNext, inWord, Adds, rowBit, Zeroed, RowsCleared, Cleared, RowTaken, Noted}
-use Rattle.pairs.proofs.Bools.{and-true, and-false, or-false, or-assoc}
 
 pub place-lt : (x : ℕ) (y : Option ℕ) → x < 256 → Within 256 y → place x y < 1028
 unfolding place

@@ -1,6 +1,6 @@
 -- Reading a line byte by byte.
 use mathlib.Core.Path.{_≡_, refl, sym, ap, _∙_}
-use mathlib.Core.Bool.{Bool, true, false, cond, not, _&&_}
+use mathlib.Core.Bool.{Bool, true, false, cond, not, _&&_, and-false}
 use mathlib.Core.List.{List, [], _∷_, _++_}
 use Prim.Native.Nat.{ℕ, zero, suc, _+_, _*_, _^_, _%_, _≤_, _<_}
 use native.Mathlib.Omega.{arith}
@@ -12,6 +12,7 @@ use lib.Pow.{shl-exact}
 use lib.Seq.{append-snoc}
 use borrow.Author.Tests.{ne-eqb}
 use Rattle.words.specs.Below.{one}
+use Rattle.words.proofs.CountLaws.{one-le-one}
 use Rattle.pending.specs.Lines.{isMark, allMarks, knownMask, valueMask, isDot, malformed, readLine}
 use Rattle.pending.specs.Scan.{Spoiled, Scanned}
 use Rattle.pending.specs.declared.Pending.{Pending}
@@ -23,10 +24,6 @@ not-dot [] b [] h = ne-eqb b 46 (h refl)
 not-dot [] b (d ∷ rest) h = refl
 not-dot (a ∷ []) b rest h = refl
 not-dot (a ∷ c ∷ p) b rest h = refl
-
-and-false : (t : Bool) → (t && false) ≡ false
-and-false true = refl
-and-false false = refl
 
 no-marks : (p : List ℕ) (b : ℕ) (rest : List ℕ) → isMark b ≡ false → allMarks (p ++ b ∷ rest) ≡ false
 unfolding allMarks
@@ -85,19 +82,15 @@ unfolding valueMask
 value-more [] b = alone (eqb b 49)
 value-more (a ∷ p) b = omega (arith, value-more p b, double (eqb b 49) (length p))
 
-one-le : (t : Bool) → one t ≤ 1
-one-le true = omega arith
-one-le false = omega arith
-
 known-lt : (p : List ℕ) → knownMask p < 2 ^ length p
 unfolding knownMask
 known-lt [] = omega arith
-known-lt (a ∷ p) = omega (arith, known-lt p, one-le (not (eqb a 63)), pow-suc 2 (length p))
+known-lt (a ∷ p) = omega (arith, known-lt p, one-le-one (not (eqb a 63)), pow-suc 2 (length p))
 
 value-lt : (p : List ℕ) → valueMask p < 2 ^ length p
 unfolding valueMask
 value-lt [] = omega arith
-value-lt (a ∷ p) = omega (arith, value-lt p, one-le (eqb a 49), pow-suc 2 (length p))
+value-lt (a ∷ p) = omega (arith, value-lt p, one-le-one (eqb a 49), pow-suc 2 (length p))
 
 or-place : (w k : ℕ) → k < 6 → w < 2 ^ k → bitOr w (1 * 2 ^ k % 2 ^ 8) ≡ 2 ^ k + w
 or-place w k h l = rw (shl-exact {a = 1} 1 k 8 (omega arith) (omega arith)) (or-shifted-r 1 k w l ∙ omega arith)

@@ -1,6 +1,6 @@
 -- What a line stands for, by what was kept of it.
 use mathlib.Core.Path.{_≡_, refl, sym, ap, _∙_}
-use mathlib.Core.Bool.{Bool, true, false, _&&_, true≢false}
+use mathlib.Core.Bool.{Bool, true, false, true≢false, and-true}
 use mathlib.Core.List.{List, [], _∷_, append-nil}
 use Prim.Native.Nat.{ℕ, zero, suc, _≤_, _<_}
 use native.Mathlib.Omega.{arith}
@@ -20,14 +20,10 @@ no-dot b h = go (eqb b 46) refl
     go true e = absurd (true≢false (sym h ∙ ap isMark (eqb-true b 46 e)))
     go false e = e
 
-and-true : (t : Bool) → (t && true) ≡ true → t ≡ true
-and-true true e = refl
-and-true false e = e
-
 marks-no-dot : (l : List ℕ) → allMarks l ≡ true → isDot l ≡ false
 unfolding allMarks
 marks-no-dot [] h = refl
-marks-no-dot (b ∷ []) h = no-dot b (and-true (isMark b) h)
+marks-no-dot (b ∷ []) h = no-dot b (sym (and-true (isMark b)) ∙ h)
 marks-no-dot (b ∷ c ∷ l) h = refl
 
 marks-line : (m : ℕ) (l : List ℕ) → allMarks l ≡ true → length l ≡ m → (length l ≡ 0 → ⊥) → readLine m l ≡ calls (round (knownMask l) (valueMask l))

@@ -1,10 +1,10 @@
 -- What the live set and the next layer gain together.
 use mathlib.Core.Path.{_≡_, refl, sym, ap, ap₂, _∙_}
 use mathlib.Core.Logic.{inl, inr}
-use mathlib.Core.Bool.{Bool, true, false, not, _&&_, _||_}
+use mathlib.Core.Bool.{Bool, true, false, not, _&&_, _||_, and-true, and-false, or-false, or-assoc, or-true, and-comm}
 use mathlib.Core.List.{List}
 use mathlib.Core.Option.{Option, none, some}
-use Prim.Native.Nat.{ℕ, _+_, _-_, _*_, _/_, _%_, _^_, _≤_, _<_}
+use Prim.Native.Nat.{ℕ, _+_, _*_, _/_, _%_, _^_, _≤_, _<_}
 use native.Mathlib.Omega.{arith}
 use native.Mathlib.Decide.{ℕ-discrete, decLt}
 use borrow.Author.Tests.{eq-eqb, ne-eqb, lt-ltb, le-ltb}
@@ -15,46 +15,17 @@ use Rattle.sheet.specs.RuleSheet.{RuleSheet, streams}
 use Rattle.completions.specs.Live.{Pairs, allowed, assumed}
 use Rattle.lola.specs.Equations.{holds}
 use Rattle.completions.specs.Steps.{Within, anyNext}
+use Rattle.completions.proofs.Range.{wider}
 use Rattle.words.specs.Bits.{bit}
 use Rattle.words.proofs.BitLaws.{bit-none, Lowest, lowest, without, lane-off, lane-gone, lane-less}
 use Rattle.words.proofs.AnyLaws.{none-any}
+use Rattle.words.proofs.BelowLaws.{below-more, below-wider, below-none}
 use Rattle.pairs.specs.Storage.{stored}
 use Rattle.pairs.specs.Changes.{eqNext, Adds, rowBit, NextBit, RowTaken, Noted}
-use Rattle.pairs.proofs.Bools.{and-true, and-false, or-false, or-assoc}
 use Rattle.pairs.proofs.Sets.{stored-eq, adds-before, adds-beyond}
 use Rattle.unions.specs.Rows.{meets, Row}
 use Rattle.preparation.specs.Search.{joining, joinersAt, joiners, newcomers, newcomersIn, enders, Joins, Occupied, Apart, Swept}
-use Rattle.preparation.proofs.Layers.{joining-same, wider}
-
--- ---- numbers below a bound
-
-pub below-more : (x b : ℕ) (f g : Bool) → (x ≡ b → g ≡ f) → ((ltb x b && f) || (eqb x b && g)) ≡ (ltb x (b + 1) && f)
-below-more x b f g h = go (decLt x b) (ℕ-discrete x b)
-  where
-    go : Dec (x < b) → Dec (x ≡ b) → ((ltb x b && f) || (eqb x b && g)) ≡ (ltb x (b + 1) && f)
-    go (yes l) d =
-        ap₂ (λ (u w : Bool). (u && f) || (w && g)) (lt-ltb x b l) (ne-eqb x b (omega arith)) ∙ or-false f
-        ∙ sym (ap (λ (u : Bool). u && f) (lt-ltb x (b + 1) (omega arith)))
-    go (no n) (yes e) =
-        ap₂ (λ (u w : Bool). (u && f) || (w && g)) (le-ltb x b (omega arith)) (eq-eqb x b e) ∙ h e
-        ∙ sym (ap (λ (u : Bool). u && f) (lt-ltb x (b + 1) (omega arith)))
-    go (no n) (no d) =
-        ap₂ (λ (u w : Bool). (u && f) || (w && g)) (le-ltb x b (omega arith)) (ne-eqb x b d)
-        ∙ sym (ap (λ (u : Bool). u && f) (le-ltb x (b + 1) (omega arith)))
-
-pub below-wider : (x b b′ : ℕ) (f : Bool) → b ≤ b′ → (b ≤ x → x < b′ → f ≡ false) → (ltb x b && f) ≡ (ltb x b′ && f)
-below-wider x b b′ f l h = go (decLt x b) (decLt x b′)
-  where
-    go : Dec (x < b) → Dec (x < b′) → (ltb x b && f) ≡ (ltb x b′ && f)
-    go (yes d) e = ap (λ (u : Bool). u && f) (lt-ltb x b d ∙ sym (lt-ltb x b′ (omega arith)))
-    go (no d) (yes e) = ap (λ (u : Bool). u && f) (le-ltb x b (omega arith)) ∙ sym (ap (λ (u : Bool). u && f) (lt-ltb x b′ e) ∙ h (omega arith) e)
-    go (no d) (no e) = ap (λ (u : Bool). u && f) (le-ltb x b (omega arith) ∙ sym (le-ltb x b′ (omega arith)))
-
-pub below-none : (x : ℕ) (f : Bool) → (ltb x 0 && f) ≡ false
-below-none x f = ap (λ (u : Bool). u && f) (le-ltb x 0 (omega arith))
-
-not-below : (x : ℕ) (f : Bool) → (ltb x x && f) ≡ false
-not-below x f = ap (λ (u : Bool). u && f) (le-ltb x x (omega arith))
+use Rattle.preparation.proofs.Layers.{joining-same}
 
 -- ---- joining nothing, one after the other, the same
 
@@ -131,10 +102,6 @@ occupied-more w base rows rows′ s t u a b ha hw hb l p q n o = record {
 
     other : (x : ℕ) → x < 256 → (x ≡ a → ⊥) → rowBit rows′ 0 x ≡ rowBit rows 0 x
     other x hx d = n .gains x hx ∙ ap (λ (v : Bool). rowBit rows 0 x || v) (ne-eqb x a d) ∙ or-false (rowBit rows 0 x)
-
-    or-true : (v : Bool) → (v || true) ≡ true
-    or-true true = refl
-    or-true false = refl
 
     absent : (x : ℕ) (y : Option ℕ) → x < 256 → Within 256 y → (x < 64 * w → rowBit rows′ 0 x ≡ false) → Dec (x ≡ a) → stored u base x y ≡ false
     absent x y hx hy f (yes d) =
@@ -321,11 +288,7 @@ module _ (x : RuleSheet) (w : ℕ) (low : 2 ^ streams x ≤ 64 * w) where
   beyond-none a h = ap (λ (u : Bool). u && assumed x a) (le-ltb a (2 ^ streams x) (omega arith))
 
   turned : (o r n m : Bool) → r ≡ (o && m) → (r && n) ≡ (o && (n && m))
-  turned true r n m e = ap (λ (u : Bool). u && n) e ∙ comm m n
-    where
-      comm : (u v : Bool) → (u && v) ≡ (v && u)
-      comm true v = sym (and-true v)
-      comm false v = sym (and-false v)
+  turned true r n m e = ap (λ (u : Bool). u && n) e ∙ and-comm m n
   turned false r n m e = ap (λ (u : Bool). u && n) e
 
   pub column-joins : (base layer : ℕ) (s t row : List ℕ) (b : ℕ) → Row w row (λ a. allowed x a && meets x (64 * w) (stored s layer) a b)
@@ -384,7 +347,7 @@ module _ (x : RuleSheet) (w layer next : ℕ) (hw : w ≤ 4) (occ s : List ℕ) 
   joiners-skip from b n a none = refl
   joiners-skip from b n a (some c) =
       below-wider c from b (K a c) (n .onward)
-      (λ l h. idle x (64 * w) (stored s 0) (stored s layer) a c (λ y g. passed from b n c y l h (wider (64 * w) 256 y (omega arith) g)))
+      (λ l h. idle x (64 * w) (stored s 0) (stored s layer) a c (λ y g. passed from b n c y l h (wider (64 * w) 256 (omega arith) y g)))
 
   left-skip : (from b : ℕ) → NextBit occ 0 w from b → (a : ℕ) (y : Option ℕ) → Within 256 y → (stored s layer a y && not (ltb a from)) ≡ (stored s layer a y && not (ltb a b))
   left-skip from b n a y hy = go (decLt a from) (decLt a b)
@@ -422,8 +385,8 @@ module _ (x : RuleSheet) (w layer next : ℕ) (hw : w ≤ 4) (occ s : List ℕ) 
     unfolding joiners
     same a ha =
         joining-same x (64 * w) (stored t 0) (stored s 0) (stored t layer) (stored s layer) a b
-        (p .live a (some b) ha (omega arith) ∙ ap (λ (u : Bool). stored s 0 a (some b) || u) (not-below b (K a b)) ∙ or-false (stored s 0 a (some b)))
-        (λ c h. p .left b c (omega arith) (wider (64 * w) 256 c (omega arith) h) ∙ ap (λ (u : Bool). stored s layer b c && not u) (le-ltb b b (omega arith)) ∙ and-true (stored s layer b c))
+        (p .live a (some b) ha (omega arith) ∙ ap (λ (u : Bool). stored s 0 a (some b) || u) (ap (λ (u : Bool). u && K a b) (le-ltb b b (omega arith))) ∙ or-false (stored s 0 a (some b)))
+        (λ c h. p .left b c (omega arith) (wider (64 * w) 256 (omega arith) c h) ∙ ap (λ (u : Bool). stored s layer b c && not u) (le-ltb b b (omega arith)) ∙ and-true (stored s layer b c))
 
     more : (a : ℕ) (y : Option ℕ) → a < 256 → (J b a y || joinersAt x (64 * w) b (stored t 0) (stored t layer) a y) ≡ J b′ a y
     unfolding joiners joinersAt

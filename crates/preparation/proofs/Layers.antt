@@ -1,7 +1,7 @@
 -- The layers of the backward search: what joins the pairs live within d valuations makes those live within d + 1.
 use mathlib.Core.Path.{_≡_, refl, sym, ap, ap₂, _∙_}
 use mathlib.Core.Logic.{_⊎_, inl, inr}
-use mathlib.Core.Bool.{Bool, true, false, not, _&&_, _||_}
+use mathlib.Core.Bool.{Bool, true, false, not, _&&_, _||_, and-true, and-false, or-false, and-not-self}
 use mathlib.Core.Option.{Option, none, some}
 use Prim.Native.Nat.{ℕ, zero, suc, _^_, _≤_, _<_}
 use native.Mathlib.Omega.{arith}
@@ -13,32 +13,14 @@ use Rattle.sheet.specs.RuleSheet.{RuleSheet, streams}
 use Rattle.lola.specs.Equations.{holds}
 use Rattle.completions.specs.Live.{Pairs, Live, allowed}
 use Rattle.completions.specs.Steps.{Within, Represents, anyNext, anyPair}
-use Rattle.completions.proofs.Tests.{and-left, and-right, and-both, either, not-both, not-fails, true-of}
 use Rattle.completions.proofs.Search.{next-found, next-from, pair-found}
-use Rattle.completions.proofs.Range.{live-within}
+use Rattle.completions.proofs.Range.{live-within, wider}
 use Rattle.completions.proofs.Backward.{endSet, backSet, liveWithin, layer, LiveBy, Settled, within-found, within-from, within-more, all-short}
 use Rattle.words.proofs.AnyLaws.{any-cong}
-use Rattle.pairs.proofs.Bools.{and-true, and-false, or-false}
+use Rattle.words.proofs.Tests.{and-left, and-right, and-both, either, not-both, not-fails, true-of, of-true, same-test}
 use Rattle.preparation.specs.Prepared.{Reach}
 use Rattle.unions.specs.Rows.{meets}
 use Rattle.preparation.specs.Search.{joining, joiners}
-
-pub of-true : (u : Bool) → u ≡ true → T u
-of-true true e = tt
-of-true false e = let z : _≡_ {A = ℕ} 0 1 = cc in absurd (omega arith)
-
-pub iff : (u v : Bool) → (T u → T v) → (T v → T u) → u ≡ v
-iff true v f g = sym (true-of v (f tt))
-iff false true f g = absurd (g tt)
-iff false false f g = refl
-
-never : (u : Bool) → (u && not u) ≡ false
-never true = refl
-never false = refl
-
-pub wider : (v w : ℕ) (y : Option ℕ) → v ≤ w → Within v y → Within w y
-wider v w none h k = tt
-wider v w (some y) h k = omega arith
 
 -- the pairs that d valuations reach and fewer do not
 unfoldable pub fresh : RuleSheet → ℕ → Pairs
@@ -116,7 +98,7 @@ module _ (x : RuleSheet) where
         and-both (ltb b n) (joining x n (W d) (fresh x d) a b) (of-true (ltb b n) (lt-ltb b n (omega (arith, r .0))))
         (and-both (allowed x a) (not (W d a (some b)) && anyNext n g) ok
         (and-both (not (W d a (some b))) (anyNext n g) m
-        (next-from n g (y .0) (wider (2 ^ streams x) n (y .0) low (r .1)) (and-both (fresh x d b (y .0)) (holds x (some a) b (y .0)) (newer d a b (y .0) ok (y .1) e w m) e))))
+        (next-from n g (y .0) (wider (2 ^ streams x) n low (y .0) (r .1)) (and-both (fresh x d b (y .0)) (holds x (some a) b (y .0)) (newer d a b (y .0) ok (y .1) e w m) e))))
 
     joined : (d a b : ℕ) → T (J d a b) → T (W (suc d) a (some b))
     unfolding joining meets
@@ -125,7 +107,7 @@ module _ (x : RuleSheet) where
         let j : T (joining x n (W d) (fresh x d) a b) = and-right (ltb b n) (joining x n (W d) (fresh x d) a b) t in
         let r : T (not (W d a (some b)) && anyNext n g) = and-right (allowed x a) (not (W d a (some b)) && anyNext n g) j in
         let y : (c : Option ℕ) × Within n c × T (g c) = next-found n g (and-right (not (W d a (some b))) (anyNext n g) r) in
-        back d a b (y .0) (and-left (allowed x a) (not (W d a (some b)) && anyNext n g) j) (wider n 256 (y .0) high (y .1))
+        back d a b (y .0) (and-left (allowed x a) (not (W d a (some b)) && anyNext n g) j) (wider n 256 high (y .0) (y .1))
         (and-right (fresh x d b (y .0)) (holds x (some a) b (y .0)) (y .2))
         (fresh-within d b (y .0) (and-left (fresh x d b (y .0)) (holds x (some a) b (y .0)) (y .2)))
 
@@ -138,12 +120,12 @@ module _ (x : RuleSheet) where
         go : (u : Bool) → W d a (some b) ≡ u → W (suc d) a (some b) ≡ (W d a (some b) || J d a b)
         go true e = true-of (W (suc d) a (some b)) (within-more x 256 small d a (some b) ha hy (of-true (W d a (some b)) e)) ∙ sym (ap (λ (u : Bool). u || J d a b) e)
         go false e =
-            iff (W (suc d) a (some b)) (J d a b) (λ t. found d a b t (of-true (not (W d a (some b))) (ap not e))) (joined d a b)
+            same-test (W (suc d) a (some b)) (J d a b) (λ t. found d a b t (of-true (not (W d a (some b))) (ap not e))) (joined d a b)
             ∙ sym (ap (λ (u : Bool). u || J d a b) e)
 
     pub fresh-next : (d a : ℕ) (y : Option ℕ) → a < 256 → Within 256 y → fresh x (suc d) a y ≡ joiners x n n (W d) (fresh x d) a y
     unfolding joiners fresh layer joining
-    fresh-next d a none ha hy = ap₂ (λ (u v : Bool). u && not v) (ends-are (suc d) a) (ends-are d a) ∙ never (allowed x a)
+    fresh-next d a none ha hy = ap₂ (λ (u v : Bool). u && not v) (ends-are (suc d) a) (ends-are d a) ∙ and-not-self (allowed x a)
     fresh-next d a (some b) ha hy = go (W d a (some b)) refl
       where
         gone : W d a (some b) ≡ true → J d a b ≡ false
@@ -155,7 +137,7 @@ module _ (x : RuleSheet) where
         go true e = ap (λ (u : Bool). W (suc d) a (some b) && not u) e ∙ and-false (W (suc d) a (some b)) ∙ sym (gone e)
         go false e =
             ap (λ (u : Bool). W (suc d) a (some b) && not u) e ∙ and-true (W (suc d) a (some b))
-            ∙ iff (W (suc d) a (some b)) (J d a b) (λ t. found d a b t (of-true (not (W d a (some b))) (ap not e))) (joined d a b)
+            ∙ same-test (W (suc d) a (some b)) (J d a b) (λ t. found d a b t (of-true (not (W d a (some b))) (ap not e))) (joined d a b)
 
   -- ---- a layer with no pair: all live pairs are found, and the layer before it is the reach
   module _ (small : 2 ^ streams x ≤ 256) (e : ℕ) (empty : (a : ℕ) (b : Option ℕ) → a < 256 → Within 256 b → fresh x (suc e) a b ≡ false) where

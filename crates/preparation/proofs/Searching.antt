@@ -1,7 +1,7 @@
 -- The search for live pairs, layer by layer, on the storage.
 use mathlib.Core.Path.{_≡_, refl, sym, ap, ap₂, _∙_}
 use mathlib.Core.Logic.{inl, inr}
-use mathlib.Core.Bool.{Bool, true, false, not, _&&_, _||_}
+use mathlib.Core.Bool.{Bool, true, false, not, _&&_, _||_, and-false}
 use mathlib.Core.List.{List, []}
 use mathlib.Core.Option.{Option, none, some}
 use Prim.Native.Nat.{ℕ, zero, suc, _+_, _-_, _*_, _^_, _≤_, _<_}
@@ -13,18 +13,18 @@ use lib.ListN.{length, getD, replicate}
 use Rattle.sheet.specs.RuleSheet.{RuleSheet, streams}
 use Rattle.completions.specs.Live.{Pairs, Live, allowed, countPairs}
 use Rattle.completions.specs.Steps.{Within, Represents}
-use Rattle.completions.proofs.Tests.{and-left, and-right}
 use Rattle.completions.proofs.Count.{pairs-lt, pairs-le}
 use Rattle.completions.proofs.Backward.{endSet, liveWithin, layer}
+use Rattle.completions.proofs.Range.{wider}
 use Rattle.pairs.specs.Storage.{slot, stored}
 use Rattle.pairs.specs.Changes.{rowBit, NextBit, Cleared}
 use Rattle.words.proofs.BitLaws.{bit-none}
-use Rattle.pairs.proofs.Bools.{and-false}
+use Rattle.words.proofs.Tests.{and-left, and-right, of-true, or-left}
 use Rattle.pairs.proofs.Sets.{stored-eq, cleared-none, cleared-before, set-ext}
 use Rattle.preparation.specs.Prepared.{Prepared, Reach}
 use Rattle.unions.specs.Rows.{Row}
 use Rattle.preparation.specs.Search.{joiners, enders, Joins, Occupied, Apart, Started, Swept}
-use Rattle.preparation.proofs.Layers.{of-true, fresh, joining-same, within-next, fresh-next, all-found, reach-is}
+use Rattle.preparation.proofs.Layers.{fresh, joining-same, within-next, fresh-next, all-found, reach-is}
 use Rattle.preparation.proofs.Joining.{beyond-none}
 use Rattle.unions.proofs.Uniting.{empty-row}
 
@@ -66,10 +66,6 @@ rows-started w row s t hw p = record {
 pub rows-none : (w base : ℕ) (s : List ℕ) → ((x : ℕ) (y : Option ℕ) → x < 256 → Within 256 y → stored s base x y ≡ false) → Occupied w (replicate 4 0) s base
 rows-none w base s f = record { none-there = λ x y hx hy h. f x y hx hy; some-there = λ x h e. contrary e (empty-row 4 x) }
 
-inside : (n : ℕ) → n ≤ 256 → (c : Option ℕ) → Within n c → Within 256 c
-inside n l none h = tt
-inside n l (some c) h = omega arith
-
 module _ (x : RuleSheet) (n v : ℕ) (hn : n ≤ 256) where
   abbrev Same : Pairs → Pairs → Type 0
   Same P Q = (a : ℕ) (y : Option ℕ) → a < 256 → Within 256 y → P a y ≡ Q a y
@@ -78,7 +74,7 @@ module _ (x : RuleSheet) (n v : ℕ) (hn : n ≤ 256) where
   unfolding joiners
   joiners-same L L′ F F′ e f a none ha hy = refl
   joiners-same L L′ F F′ e f a (some b) ha hy =
-      ap (λ (u : Bool). ltb b v && u) (joining-same x n L L′ F F′ a b (e a (some b) ha hy) (λ c h. f b c hy (inside n hn c h)))
+      ap (λ (u : Bool). ltb b v && u) (joining-same x n L L′ F F′ a b (e a (some b) ha hy) (λ c h. f b c hy (wider n 256 hn c h)))
 
 -- ---- the search after d layers
 
@@ -145,12 +141,8 @@ module _ (x : RuleSheet) (w : ℕ) (low : 2 ^ streams x ≤ 64 * w) where
         go (yes h) = ap (λ (u : Bool). stored s layer a y && not u) (lt-ltb a (64 * w) h) ∙ and-false (stored s layer a y)
         go (no h) = ap (λ (u : Bool). u && not (ltb a (64 * w))) (o .none-there a y ha hy (λ g. absurd (h g)))
 
-    or-kept : (u v : Bool) → T u → T (u || v)
-    or-kept true v h = tt
-    or-kept false v h = absurd h
-
     kept : (a : ℕ) (y : Option ℕ) → a < 256 → Within 256 y → T (stored s 0 a y) → T (stored t 0 a y)
-    kept a y ha hy h = rw (q .live a y ha hy) (or-kept (stored s 0 a y) (joiners x (64 * w) (64 * w) (stored s 0) (stored s layer) a y) h)
+    kept a y ha hy h = rw (q .live a y ha hy) (or-left (stored s 0 a y) (joiners x (64 * w) (64 * w) (stored s 0) (stored s layer) a y) h)
 
     new-pair : (a : ℕ) (y : Option ℕ) → a < 256 → Within 256 y → stored t next a y ≡ true → countPairs 256 (stored s 0) < countPairs 256 (stored t 0)
     unfolding fresh layer

@@ -10,11 +10,11 @@ use lib.Seq.{drop-cons, drop-drop, getD-set-same, getD-set-other, length-take-le
 use lib.Dec.{leb}
 use borrow.Author.Tests.{leb-true}
 use borrow.Author.Count.{below-more}
+use Rattle.words.proofs.Bools.{and-split}
 use Rattle.sheet.specs.Expression.{Expr, Parsed, tree, broken, parse}
 use Rattle.sheet.specs.RuleSheet.{Outputs, trees, breaks, lengthOk, after, andThen, readOutputs, requiredOf, withOutputs}
 use Rattle.reader.specs.Answer.{outputAt, outputOf, outputsBy, Put, Held}
 use Rattle.sheet.specs.Reading.{treeOf, codeAt, treesOf, Parses, readingBy}
-use Rattle.sheet.proofs.Sheets.{and-split}
 use Rattle.reader.proofs.Packing.{copied, not-touched}
 use Rattle.refusal.specs.declared.Refusal.{Refusal}
 use Rattle.refusal.specs.declared.Refusal.the-variants.{Length, Leftover}

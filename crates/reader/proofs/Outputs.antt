@@ -12,7 +12,6 @@ use Rattle.sheet.specs.Expression.{Parsed, tree, broken, parse, outcomeOf}
 use Rattle.reader.specs.Answer.{outputAt, outputOf}
 use Rattle.refusal.specs.declared.Refusal.{Refusal}
 use Rattle.refusal.specs.declared.Refusal.the-variants.{Length}
-use Rattle.refusal.specs.declared.Outcome.{Outcome}
 use Rattle.refusal.specs.declared.Outcome.the-variants.{Accepted}
 use Rattle.refusal.specs.declared.Outcome.the-variants as outcome
 use Rattle.reader.specs.declared.OutputRead.the-variants.{Bytes, Refused}

@@ -1,6 +1,6 @@
 -- Laws of the tallies.
 use mathlib.Core.Path.{_≡_, refl, sym, ap, _∙_, subst}
-use mathlib.Core.Bool.{Bool, true, false, _&&_, and-false, false≢true}
+use mathlib.Core.Bool.{Bool, true, false, _&&_, and-false}
 use mathlib.Core.List.{List}
 use Prim.Native.Nat.{ℕ, zero, suc, _+_, _*_, _/_, _-_, _<_, _≤_}
 use native.Mathlib.Omega.{arith}
@@ -12,20 +12,13 @@ use lib.ListN.{length, getD, set, length-set}
 use lib.Seq.{getD-set-same, getD-set-other}
 use borrow.Author.Tests.{eq-eqb, ne-eqb, le-leb, lt-leb, leb-true, eqb-true}
 use Rattle.words.specs.Below.{one}
+use Rattle.words.proofs.Bools.{and-split}
 use Rattle.refusal.specs.declared.Verdict.{Verdict}
 use Rattle.refusal.specs.declared.Verdict.the-variants.{False, True, Open, Broken}
 use Rattle.refusal.specs.Numbers.{verdictNo}
 use Rattle.record.specs.Record.{column, countAt, sumAt, addUp, recordOk, Counted}
 use Rattle.record.specs.Columns.{columnNo, AreVerdicts, Countable}
 use Rattle.record.specs.declared.JournalRecord.{JournalRecord}
-
-and-fst : (a b : Bool) → (a && b) ≡ true → a ≡ true
-and-fst true b e = refl
-and-fst false b e = e
-
-and-snd : (a b : Bool) → (a && b) ≡ true → b ≡ true
-and-snd true b e = e
-and-snd false b e = absurd (false≢true e)
 
 -- ---- rule 18
 
@@ -45,10 +38,10 @@ add-up-not counts t k (suc n) h e = go (ℕ-discrete k n) (add-up-not counts t k
 pub add-up-at : (counts : List ℕ) (t n : ℕ) → addUp counts t n ≡ true → (k : ℕ) → k < n → sumAt counts k ≡ t
 unfolding addUp
 add-up-at counts t zero e k h = absurd (omega arith)
-add-up-at counts t (suc n) e k h = go (ℕ-discrete k n) (add-up-at counts t n (and-snd (eqb (sumAt counts n) t) (addUp counts t n) e) k)
+add-up-at counts t (suc n) e k h = go (ℕ-discrete k n) (add-up-at counts t n (and-split (eqb (sumAt counts n) t) (addUp counts t n) e .1) k)
   where
     go : Dec (k ≡ n) → (k < n → sumAt counts k ≡ t) → sumAt counts k ≡ t
-    go (yes q) rec = ap (sumAt counts) q ∙ eqb-true (sumAt counts n) t (and-fst (eqb (sumAt counts n) t) (addUp counts t n) e)
+    go (yes q) rec = ap (sumAt counts) q ∙ eqb-true (sumAt counts n) t (and-split (eqb (sumAt counts n) t) (addUp counts t n) e .0)
     go (no q) rec = rec (omega arith)
 
 pub too-many : (n : ℕ) (r : JournalRecord) → 1000000 < r .rounds → recordOk n r ≡ false
@@ -66,8 +59,8 @@ pub record RecordOk (n : ℕ) (r : JournalRecord) : Type 0 where
 pub record-is : (n : ℕ) (r : JournalRecord) → recordOk n r ≡ true → RecordOk n r
 unfolding recordOk
 record-is n r e = record {
-  few = leb-true (r .rounds) 1000000 (and-fst (leb (r .rounds) 1000000) (addUp (r .counts) (r .rounds) n) e);
-  sums = add-up-at (r .counts) (r .rounds) n (and-snd (leb (r .rounds) 1000000) (addUp (r .counts) (r .rounds) n) e);
+  few = leb-true (r .rounds) 1000000 (and-split (leb (r .rounds) 1000000) (addUp (r .counts) (r .rounds) n) e .0);
+  sums = add-up-at (r .counts) (r .rounds) n (and-split (leb (r .rounds) 1000000) (addUp (r .counts) (r .rounds) n) e .1);
 }
 
 -- a count is one of its output's four

@@ -1,6 +1,6 @@
 -- Laws of `Decided`: checks may be renamed, checks behind a broken one don't matter, and exactly one outcome fits. Assumes nothing.
 use mathlib.Core.Path.{_≡_, refl, sym, ap, _∙_, subst}
-use mathlib.Core.Logic.{_⊎_, ⊎-elim}
+use mathlib.Core.Logic.{⊎-elim}
 use mathlib.Core.List.{List, [], _∷_, _++_, map, append-assoc, List·Memᴰ, List·Memᴰ·head, List·Memᴰ·tail, List·Memᴰ·cases-cons, List·Memᴰ·append-cases, Memᴰ·append-right, List·Memᴰ·not-nil, List·Memᴰ·eq-of-singleton}
 use Rattle.refusal.specs.declared.Refusal.{Refusal}
 use Rattle.refusal.specs.declared.Outcome.{Outcome}
@@ -81,15 +81,15 @@ module _ {C : Type 0} (B : C → Type 0) (rule : C → Refusal) where
   first-same (d ∷ b) (d′ ∷ b′) os os′ c c′ e h h′ x x′ =
       first-same b b′ os os′ c c′ (cc) (λ a m. h a (List·Memᴰ·tail m)) (λ a m. h′ a (List·Memᴰ·tail m)) x x′
 
-  not-both : (cs : List C) (r : Refusal) → Decided B rule cs Accepted → Decided B rule cs (Refused r) → ⊥
-  not-both cs r h (c, x, e) =
+  one-fits : (cs : List C) (r : Refusal) → Decided B rule cs Accepted → Decided B rule cs (Refused r) → ⊥
+  one-fits cs r h (c, x, e) =
       h c (subst (List·Memᴰ c) (sym (x .split)) (Memᴰ·append-right (x .before) (List·Memᴰ·head refl))) (x .breaks)
 
   -- exactly one outcome fits
   pub decided-once : (cs : List C) (o o′ : Outcome) → Decided B rule cs o → Decided B rule cs o′ → o ≡ o′
   decided-once cs Accepted Accepted h h′ = refl
-  decided-once cs Accepted (Refused r) h h′ = absurd (not-both cs r h h′)
-  decided-once cs (Refused r) Accepted h h′ = absurd (not-both cs r h′ h)
+  decided-once cs Accepted (Refused r) h h′ = absurd (one-fits cs r h h′)
+  decided-once cs (Refused r) Accepted h h′ = absurd (one-fits cs r h′ h)
   decided-once cs (Refused r) (Refused r′) (c, x, e) (c′, x′, e′) =
       let s : c ≡ c′ = first-same (x .before) (x′ .before) (x .others) (x′ .others) c c′ (sym (x .split) ∙ x′ .split) (x .hold) (x′ .hold) (x .breaks) (x′ .breaks) in
       ap Refused (sym e ∙ ap rule s ∙ e′)

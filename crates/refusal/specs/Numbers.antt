@@ -1,8 +1,9 @@
 -- The numbers of the refusals and the verdicts (01, "What is turned down", the table; "Completions and verdicts").
 -- Manual: "Refusals".
+use mathlib.Core.Path.{_≡_}
 use mathlib.Core.List.{List, [], _∷_}
-use Prim.Native.Nat.{ℕ, zero, suc}
-use lib.ListN.{getD}
+use Prim.Native.Nat.{ℕ, zero, suc, _<_, _≤_}
+use lib.ListN.{length, getD}
 use Rattle.refusal.specs.declared.Refusal.{Refusal}
 use Rattle.refusal.specs.declared.Refusal.the-variants.{Short, Mark, Version, Counts, Assumption, Length, Byte, Values, Leftover, Circular, Letter, Closed, Full, NoRound, Storage, Extent, Line, Record}
 use Rattle.refusal.specs.declared.Outcome.{Outcome}
@@ -71,3 +72,9 @@ verdictAt (suc (suc (suc n))) = Broken
 abbrev pub verdictList : List ℕ → ℕ → ℕ → List Verdict
 verdictList vs k zero = []
 verdictList vs k (suc n) = verdictAt (getD vs k 0) ∷ verdictList vs (suc k) n
+
+-- the numbers of the verdicts on n outputs in an answer of seven, and 0 for outputs that the sheet doesn't have
+pub record Verdicts (n : ℕ) (f : ℕ → Verdict) (vs : List ℕ) : Type 0 where
+  pub size : length vs ≡ 7
+  pub each : (k : ℕ) → k < n → getD vs k 0 ≡ verdictNo (f k)
+  pub beyond : (k : ℕ) → n ≤ k → getD vs k 0 ≡ 0

@@ -1,6 +1,6 @@
 -- The ends of the valuations that a row of the scratch set names. Assumes nothing.
 use mathlib.Core.Path.{_≡_, refl, sym, ap, ap₂, _∙_}
-use mathlib.Core.Bool.{Bool, true, false, not, _&&_, _||_}
+use mathlib.Core.Bool.{Bool, true, false, not, _&&_, _||_, and-true, and-false, or-false, and-assoc}
 use mathlib.Core.List.{List}
 use mathlib.Core.Option.{Option, none, some}
 use Prim.Native.Nat.{ℕ, _+_, _-_, _*_, _/_, _%_, _^_, _≤_, _<_}
@@ -12,15 +12,15 @@ use lib.Dec.{eqb, ltb}
 use lib.ListN.{getD}
 use Rattle.words.specs.Bits.{bit}
 use Rattle.words.proofs.BitLaws.{bit-and, bit-not, bit-none}
+use Rattle.words.proofs.BelowLaws.{words-one, below-none, below-within}
 use Rattle.sheet.specs.RuleSheet.{RuleSheet}
 use Rattle.lola.specs.Equations.{holds}
 use Rattle.completions.specs.Live.{Pairs}
 use Rattle.pairs.specs.Storage.{stored}
 use Rattle.pairs.specs.Changes.{eqNext, inWord, Adds}
-use Rattle.pairs.proofs.Bools.{and-true, and-false, or-false}
 use Rattle.pairs.proofs.Sets.{adds-none, adds-as, adds-beyond, lane, lane-end}
 use Rattle.rounds.specs.Rows.{Wide, gains, NoEndNew, inRow}
-use Rattle.rounds.proofs.Bools.{merge-both, words-one, below-none, below-within}
+use Rattle.rounds.proofs.Bools.{merge-both}
 use Rattle.rounds.proofs.WordLaws.{low-lane}
 use Rattle.rounds.proofs.RowLaws.{gains-none, gains-as, gains-join}
 
@@ -147,9 +147,5 @@ module _ (x : RuleSheet) where
         gains-as x s t (λ b. ltb b (64 * j) && In b) In (λ y. eqNext y none) (λ y. eqNext y none) (stored s 0) p f
         (λ b c hb hc. ap (λ (k : Bool). k && eqNext c none) (drop b))
       where
-        and-assoc : (m n o : Bool) → (m && (n && o)) ≡ ((m && n) && o)
-        and-assoc true n o = refl
-        and-assoc false n o = refl
-
         drop : (b : ℕ) → (ltb b (64 * j) && In b) ≡ In b
-        drop b = and-assoc (ltb b (64 * j)) (ltb b v) (stored s 2056 g (some b)) ∙ ap (λ (k : Bool). k && stored s 2056 g (some b)) (below-within b v (64 * j) h)
+        drop b = sym (and-assoc (ltb b (64 * j)) (ltb b v) (stored s 2056 g (some b))) ∙ ap (λ (k : Bool). k && stored s 2056 g (some b)) (below-within b v (64 * j) h)

@@ -1,6 +1,6 @@
 -- The rows of the groups, emptied one after the other. Assumes nothing.
 use mathlib.Core.Path.{_≡_, refl, sym, ap, ap₂, _∙_}
-use mathlib.Core.Bool.{Bool, true, false, cond, not, _&&_, _||_}
+use mathlib.Core.Bool.{Bool, true, false, cond, not, _&&_, _||_, and-true, and-false}
 use mathlib.Core.List.{List}
 use mathlib.Core.Option.{Option, none, some}
 use Prim.Native.Nat.{ℕ, _+_, _≤_, _<_, min}
@@ -14,7 +14,6 @@ use Rattle.completions.specs.Live.{Pairs}
 use Rattle.completions.specs.Steps.{Within}
 use Rattle.pairs.specs.Storage.{stored, used}
 use Rattle.pairs.specs.Changes.{rowBit, Adds, NextBit, RowsCleared, RowTaken}
-use Rattle.pairs.proofs.Bools.{and-true, and-false}
 use Rattle.pairs.proofs.Sets.{rows-beyond, adds-beyond}
 use Rattle.words.proofs.AnyLaws.{none-any}
 use Rattle.rounds.specs.Rows.{Sparse, NoEnds, grouped}

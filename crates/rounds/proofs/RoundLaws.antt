@@ -1,9 +1,9 @@
 -- A round. Assumes nothing.
 use mathlib.Core.Path.{_≡_, refl, sym, ap, ap₂, _∙_, subst}
-use mathlib.Core.Bool.{Bool, true, false, cond, _&&_, _||_}
+use mathlib.Core.Bool.{Bool, true, false, cond, _&&_, _||_, and-true, and-false, or-false}
 use mathlib.Core.List.{List}
 use mathlib.Core.Option.{Option, none, some}
-use Prim.Native.Nat.{ℕ, _+_, _-_, _*_, _/_, _%_, _^_, _≤_, _<_}
+use Prim.Native.Nat.{ℕ, _+_, _*_, _/_, _%_, _^_, _≤_, _<_}
 use native.Mathlib.Omega.{arith}
 use native.Mathlib.Decide.{ℕ-discrete, decLt}
 use borrow.Author.Tests.{eq-eqb, ne-eqb, eqb-true, lt-ltb, le-ltb, ltb-false}
@@ -13,18 +13,19 @@ use lib.Pow.{pow-pos, pow-mono}
 use Rattle.words.specs.Bits.{bit}
 use Rattle.words.specs.Below.{anyBelow}
 use Rattle.words.proofs.BitLaws.{bit-and, one-shl}
-use Rattle.words.proofs.AnyLaws.{any-cong, none-any, some-any}
+use Rattle.words.proofs.AnyLaws.{any-cong, none-any, some-any, any-some}
+use Rattle.words.proofs.Bools.{iff, and-split}
+use Rattle.words.proofs.BelowLaws.{words-one, below-none}
 use Rattle.sheet.specs.RuleSheet.{RuleSheet}
 use Rattle.lola.specs.Equations.{holds}
 use Rattle.completions.specs.Live.{Pairs}
-use Rattle.completions.specs.Steps.{Within, startSet, stepSet}
+use Rattle.completions.specs.Steps.{Within, startSet, stepSet, partBelow}
 use Rattle.pairs.specs.Storage.{stored, used}
 use Rattle.pairs.specs.Changes.{inWord, Adds, RowsCleared}
-use Rattle.pairs.proofs.Bools.{and-true, and-false, or-false, iff}
 use Rattle.pairs.proofs.Sets.{rows-before, rows-beyond, used-below, unused, adds-none, adds-then, adds-before, adds-beyond}
-use Rattle.rounds.specs.Rows.{among, Wide, below, cut, gains, inRow, heardFirst, brought, heardIn, grouped, Sparse}
+use Rattle.rounds.specs.Rows.{among, Wide, cut, gains, inRow, heardFirst, brought, heardIn, grouped, Sparse}
 use Rattle.rounds.specs.Round.{Rounded}
-use Rattle.rounds.proofs.Bools.{merge-under, words-one, below-none, and-split, found}
+use Rattle.rounds.proofs.Bools.{merge-under}
 use Rattle.rounds.proofs.WordLaws.{heard-lane}
 
 pub two-to : (k : ℕ) → k ≤ 8 → (1 * 2 ^ k % 2 ^ 64 ≡ 2 ^ k) × (1 * 2 ^ k % 2 ^ 64 ≤ 256)
@@ -75,7 +76,7 @@ module _ (w v : ℕ) (is : v ≡ w) (s s₁ s₂ s₃ s₄ s₅ : List ℕ) (G P
       ∙ ap (λ (u : Bool). u || G g (some k))
       (a .emptied g (some k) hg hk ∙ ap (λ (u : Bool). cond u false (stored s 2056 g (some k))) (used-below v g (some k) (omega arith)))
 
-  pub steps-rounded : ((k : ℕ) (y : Option ℕ) → v ≤ k → G k y ≡ false) → ((k : ℕ) (y : Option ℕ) → k < 256 → Within 256 y → P k y ≡ (ltb k w && (below w y && R k y)))
+  pub steps-rounded : ((k : ℕ) (y : Option ℕ) → v ≤ k → G k y ≡ false) → ((k : ℕ) (y : Option ℕ) → k < 256 → Within 256 y → P k y ≡ (ltb k w && (partBelow w y && R k y)))
       → Rounded w s s₅ R
   steps-rounded low brings = record {
     same-length = e .same-length ∙ d .same-length ∙ c .same-length ∙ b .same-length ∙ a .same-length;
@@ -88,7 +89,7 @@ module _ (w v : ℕ) (is : v ≡ w) (s s₁ s₂ s₃ s₄ s₅ : List ℕ) (G P
         (c .emptied k y hk hy
         ∙ ap₂ (λ (z : ℕ) (l : Bool). cond (used z k y) false l) is (adds-before 2056 s₁ s₂ G b 1028 k y hk hy (omega arith) ∙ rows-before 2056 v s s₁ a 1028 k y hk hy (omega arith)))
         (brings k y hk hy)
-        ∙ gained (used w k y) (ltb k w && (below w y && R k y)) (stored s 1028 k y) (λ q. ap (λ (u : Bool). u && (below w y && R k y)) (unused w k y q));
+        ∙ gained (used w k y) (ltb k w && (partBelow w y && R k y)) (stored s 1028 k y) (λ q. ap (λ (u : Bool). u && (partBelow w y && R k y)) (unused w k y q));
     scratch = λ k y hk hy.
         e .emptied k y hk hy
         ∙ ap (cond (used v k y) false)
@@ -137,14 +138,14 @@ heard-all s t v letters j w h l f = let e : j ≡ w = omega arith in subst (λ (
 
 module _ (x : RuleSheet) (w n : ℕ) (r : ℕ → Bool) (some-valuation : 1 ≤ w) (hn : w ≤ 64 * n) (v : ℕ) (is : v ≡ w) (s s₁ s₂ s₃ s₄ s₅ : List ℕ)
     (a : RowsCleared 2056 v s s₁) (b : Adds 2056 s₁ s₂ (heardFirst v r (64 * n))) (c : RowsCleared 1028 v s₂ s₃)
-    (d : Adds 1028 s₃ s₄ (gains x (inRow (stored s₃ 2056) w 0) (below w) (stored s₃ 0) none)) (e : RowsCleared 2056 v s₄ s₅) where
+    (d : Adds 1028 s₃ s₄ (gains x (inRow (stored s₃ 2056) w 0) (partBelow w) (stored s₃ 0) none)) (e : RowsCleared 2056 v s₄ s₅) where
   abbrev First : Pairs
-  First = gains x (inRow (stored s₃ 2056) w 0) (below w) (stored s₃ 0) none
+  First = gains x (inRow (stored s₃ 2056) w 0) (partBelow w) (stored s₃ 0) none
 
   first-low : (k : ℕ) (y : Option ℕ) → v ≤ k → heardFirst v r (64 * n) k y ≡ false
   first-low k y h = ap (λ (u : Bool). u && cut (λ b. ltb b (64 * n) && (ltb b v && r b)) y) (ne-eqb k 0 (λ q. omega arith))
 
-  first-brings : (k : ℕ) (y : Option ℕ) → k < 256 → Within 256 y → First k y ≡ (ltb k w && (below w y && startSet x (stored s 0) r k y))
+  first-brings : (k : ℕ) (y : Option ℕ) → k < 256 → Within 256 y → First k y ≡ (ltb k w && (partBelow w y && startSet x (stored s 0) r k y))
   unfolding gains startSet
   first-brings k y hk hy = at (decLt k w)
     where
@@ -160,13 +161,13 @@ module _ (x : RuleSheet) (w n : ℕ) (r : ℕ → Bool) (some-valuation : 1 ≤ 
           ∙ ap₂ (λ (u t : Bool). u && (t && r k)) (lt-ltb k (64 * n) (omega arith)) (lt-ltb k v (omega arith))
 
       at : Dec (k < w)
-          → ((ltb k w && stored s₃ 2056 0 (some k)) && (below w y && (stored s₃ 0 k y && holds x none k y)))
-          ≡ (ltb k w && (below w y && (stored s 0 k y && (r k && holds x none k y))))
+          → ((ltb k w && stored s₃ 2056 0 (some k)) && (partBelow w y && (stored s₃ 0 k y && holds x none k y)))
+          ≡ (ltb k w && (partBelow w y && (stored s 0 k y && (r k && holds x none k y))))
       at (yes h) =
           rw (lt-ltb k w h)
-          (ap₂ (λ (q l : Bool). q && (below w y && (l && holds x none k y))) (row h)
+          (ap₂ (λ (q l : Bool). q && (partBelow w y && (l && holds x none k y))) (row h)
           (live-same w v is s s₁ s₂ s₃ s₄ s₅ (heardFirst v r (64 * n)) First (startSet x (stored s 0) r) a b c d e k y hk hy)
-          ∙ order (r k) (below w y) (stored s 0 k y) (holds x none k y))
+          ∙ order (r k) (partBelow w y) (stored s 0 k y) (holds x none k y))
       at (no h) = let z : w ≤ k = omega arith in rw (le-ltb k w z)
 
   pub rounded-first : Rounded w s s₅ (startSet x (stored s 0) r)
@@ -187,10 +188,10 @@ module _ (x : RuleSheet) (mask : ℕ) (blind : Blind x mask) (S : Pairs) (w b : 
     where
       there : anyBelow w (λ g. members g && holds x (some g) b c) ≡ true → anyBelow w (λ a. S a (some b) && holds x (some a) b c) ≡ true
       there e =
-          let y = found w (λ g. members g && holds x (some g) b c) e in
+          let y = any-some w (λ g. members g && holds x (some g) b c) e in
           let g : ℕ = y .0 in
           let k = and-split (members g) (holds x (some g) b c) (y .2) in
-          let z = found w (λ a. eqb g (bitAnd a mask) && S a (some b)) (k .0) in
+          let z = any-some w (λ a. eqb g (bitAnd a mask) && S a (some b)) (k .0) in
           let a : ℕ = z .0 in
           let l = and-split (eqb g (bitAnd a mask)) (S a (some b)) (z .2) in
           let q : g ≡ bitAnd a mask = eqb-true g (bitAnd a mask) (l .0) in
@@ -199,7 +200,7 @@ module _ (x : RuleSheet) (mask : ℕ) (blind : Blind x mask) (S : Pairs) (w b : 
 
       back : anyBelow w (λ a. S a (some b) && holds x (some a) b c) ≡ true → anyBelow w (λ g. members g && holds x (some g) b c) ≡ true
       back e =
-          let y = found w (λ a. S a (some b) && holds x (some a) b c) e in
+          let y = any-some w (λ a. S a (some b) && holds x (some a) b c) e in
           let a : ℕ = y .0 in
           let h : a < w = y .1 in
           let k = and-split (S a (some b)) (holds x (some a) b c) (y .2) in
@@ -257,18 +258,18 @@ module _ (x : RuleSheet) (mask : ℕ) (blind : Blind x mask) (w n : ℕ) (r : �
         (λ i hi. ap₂ (λ (p q : Bool). eqb g (bitAnd i mask) && (p && (q && r k))) (lt-ltb k (64 * n) hm) (rows-before 2056 v s s₁ a 1028 i (some k) (omega arith) hk′ (omega arith)))
         ∙ ap (λ (z : ℕ). anyBelow z (λ i. eqb g (bitAnd i mask) && (stored s 1028 i (some k) && r k))) is
 
-    brought-is : (k : ℕ) (y : Option ℕ) → k < 256 → Within 256 y → Brought k y ≡ (ltb k w && (below w y && Stepped k y))
+    brought-is : (k : ℕ) (y : Option ℕ) → k < 256 → Within 256 y → Brought k y ≡ (ltb k w && (partBelow w y && Stepped k y))
     unfolding brought gains stepSet
     brought-is k y hk hy =
-        out w (ltb k w) (below w y) (stored s₃ 0 k y) (λ g. stored s₃ 2056 g (some k)) (λ g. holds x (some g) k y)
-        ∙ ap (λ (l : Bool). ltb k w && (below w y && (l && anyBelow w (λ g. stored s₃ 2056 g (some k) && holds x (some g) k y)))) (live-same w v is s s₁ s₂ s₃ s₄ s₅ G₁ Brought Stepped a b c d e k y hk hy)
+        out w (ltb k w) (partBelow w y) (stored s₃ 0 k y) (λ g. stored s₃ 2056 g (some k)) (λ g. holds x (some g) k y)
+        ∙ ap (λ (l : Bool). ltb k w && (partBelow w y && (l && anyBelow w (λ g. stored s₃ 2056 g (some k) && holds x (some g) k y)))) (live-same w v is s s₁ s₂ s₃ s₄ s₅ G₁ Brought Stepped a b c d e k y hk hy)
         ∙ at (decLt k w)
       where
         at : Dec (k < w)
-            → (ltb k w && (below w y && (stored s 0 k y && anyBelow w (λ g. stored s₃ 2056 g (some k) && holds x (some g) k y))))
-            ≡ (ltb k w && (below w y && (stored s 0 k y && (r k && anyBelow w (λ i. stored s 1028 i (some k) && holds x (some i) k y)))))
+            → (ltb k w && (partBelow w y && (stored s 0 k y && anyBelow w (λ g. stored s₃ 2056 g (some k) && holds x (some g) k y))))
+            ≡ (ltb k w && (partBelow w y && (stored s 0 k y && (r k && anyBelow w (λ i. stored s 1028 i (some k) && holds x (some i) k y)))))
         at (yes h) =
-            ap (λ (u : Bool). ltb k w && (below w y && (stored s 0 k y && u)))
+            ap (λ (u : Bool). ltb k w && (partBelow w y && (stored s 0 k y && u)))
             (any-cong w _ _ (λ g hg. ap (λ (u : Bool). u && holds x (some g) k y) (group-same g k hg h))
             ∙ groups-same x mask blind (λ i c. stored s 1028 i c && r k) w k y
             ∙ out-heard w (r k) (λ i. stored s 1028 i (some k)) (λ i. holds x (some i) k y))

@@ -1,6 +1,6 @@
 -- What the reached set gains, row by row. Assumes nothing.
 use mathlib.Core.Path.{_≡_, refl, sym, ap, ap₂, _∙_, subst}
-use mathlib.Core.Bool.{Bool, true, false, _&&_, _||_}
+use mathlib.Core.Bool.{Bool, true, false, _&&_, _||_, and-true, and-false, or-false, or-comm, and-assoc}
 use mathlib.Core.List.{List}
 use mathlib.Core.Option.{Option, none, some}
 use Prim.Native.Nat.{ℕ, _+_, _*_, _/_, _≤_, _<_, min}
@@ -10,17 +10,17 @@ use borrow.Author.Tests.{ne-eqb, lt-ltb}
 use lib.Dec.{eqb, ltb}
 use Rattle.words.specs.Below.{anyBelow}
 use Rattle.words.proofs.AnyLaws.{any-one}
+use Rattle.words.proofs.BelowLaws.{below-one, words-one, below-none, below-within, below-wider}
 use Rattle.sheet.specs.RuleSheet.{RuleSheet}
 use Rattle.lola.specs.Equations.{holds}
 use Rattle.completions.specs.Live.{Pairs}
-use Rattle.completions.specs.Steps.{Within}
+use Rattle.completions.specs.Steps.{Within, partBelow}
 use Rattle.pairs.specs.Storage.{stored}
 use Rattle.pairs.specs.Changes.{eqNext, Adds, rowBit, NextBit, Noted}
-use Rattle.pairs.proofs.Bools.{and-true, and-false, or-false, or-comm, and-assoc}
 use Rattle.pairs.proofs.BitSearch.{any-skip}
 use Rattle.pairs.proofs.Sets.{adds-none, adds-as, adds-then, adds-before, adds-beyond, row-bit}
-use Rattle.rounds.specs.Rows.{below, cut, gains, inRow, brought, Sparse}
-use Rattle.rounds.proofs.Bools.{merge, merge-under, merge-both, below-one, words-one, below-none, below-within, below-wider}
+use Rattle.rounds.specs.Rows.{cut, gains, inRow, brought, Sparse}
+use Rattle.rounds.proofs.Bools.{merge, merge-under, merge-both}
 
 -- a row that is noted may have gained something
 pub sparse-noted : (s t : List ℕ) (P : Option ℕ → Bool) (g : ℕ) (groups groups′ : List ℕ) → Adds 2056 s t (λ x y. eqb x g && P y) → Noted g groups groups′
@@ -166,15 +166,15 @@ module _ (x : RuleSheet) where
 
     -- the rows, and then their ends
     pub rows-end : (t u : List ℕ) → Adds 1028 s t (gains x In Cells (stored s 0) p)
-        → Adds 1028 t u (gains x (inRow (stored t 2056) w g) (λ y. eqNext y none) (stored t 0) p) → Adds 1028 s u (gains x In (below w) (stored s 0) p)
+        → Adds 1028 t u (gains x (inRow (stored t 2056) w g) (λ y. eqNext y none) (stored t 0) p) → Adds 1028 s u (gains x In (partBelow w) (stored s 0) p)
     unfolding eqNext
     rows-end t u f e =
-        gains-join s t u In (inRow (stored t 2056) w g) In Cells (λ y. eqNext y none) (below w) p f e (λ b c hb hc. go b hb c)
+        gains-join s t u In (inRow (stored t 2056) w g) In Cells (λ y. eqNext y none) (partBelow w) p f e (λ b c hb hc. go b hb c)
       where
         same : (b : ℕ) → b < 256 → inRow (stored t 2056) w g b ≡ In b
         same b hb = ap (λ (u : Bool). ltb b w && u) (adds-beyond 1028 s t (gains x In Cells (stored s 0) p) f 2056 g (some b) hg hb (omega arith))
 
-        go : (b : ℕ) → b < 256 → (c : Option ℕ) → ((In b && Cells c) || (inRow (stored t 2056) w g b && eqNext c none)) ≡ (In b && below w c)
+        go : (b : ℕ) → b < 256 → (c : Option ℕ) → ((In b && Cells c) || (inRow (stored t 2056) w g b && eqNext c none)) ≡ (In b && partBelow w c)
         go b hb none = ap₂ (λ (u v : Bool). u || (v && true)) (and-false (In b)) (same b hb)
         go b hb (some c) = ap (λ (u : Bool). (In b && ltb c w) || u) (and-false (inRow (stored t 2056) w g b)) ∙ or-false (In b && ltb c w)
 
@@ -185,17 +185,17 @@ module _ (x : RuleSheet) where
   brought-none s G L w = adds-none 1028 s (brought x G w L 0) (λ b c. refl)
 
   pub brought-more : (s t u : List ℕ) (w g : ℕ) → g < 256 → Adds 1028 s t (brought x (stored s 2056) w (stored s 0) g)
-      → Adds 1028 t u (gains x (inRow (stored t 2056) w g) (below w) (stored t 0) (some g)) → Adds 1028 s u (brought x (stored s 2056) w (stored s 0) (g + 1))
+      → Adds 1028 t u (gains x (inRow (stored t 2056) w g) (partBelow w) (stored t 0) (some g)) → Adds 1028 s u (brought x (stored s 2056) w (stored s 0) (g + 1))
   unfolding brought gains
   brought-more s t u w g hg f q =
-      adds-then 1028 s t u (brought x (stored s 2056) w (stored s 0) g) (gains x (inRow (stored t 2056) w g) (below w) (stored t 0) (some g)) (brought x (stored s 2056) w (stored s 0) (g + 1)) f q
+      adds-then 1028 s t u (brought x (stored s 2056) w (stored s 0) g) (gains x (inRow (stored t 2056) w g) (partBelow w) (stored t 0) (some g)) (brought x (stored s 2056) w (stored s 0) (g + 1)) f q
       (λ b c hb hc.
       or-comm (brought x (stored s 2056) w (stored s 0) g b c) _
       ∙ ap (λ (v : Bool). v || brought x (stored s 2056) w (stored s 0) g b c)
-      (ap₂ (λ (k l : Bool). (ltb b w && k) && (below w c && (l && holds x (some g) b c)))
+      (ap₂ (λ (k l : Bool). (ltb b w && k) && (partBelow w c && (l && holds x (some g) b c)))
       (adds-beyond 1028 s t (brought x (stored s 2056) w (stored s 0) g) f 2056 g (some b) hg hb (omega arith))
       (adds-before 1028 s t (brought x (stored s 2056) w (stored s 0) g) f 0 b c hb hc (omega arith)))
-      ∙ sym (any-one g (λ a. gains x (inRow (stored s 2056) w a) (below w) (stored s 0) (some a) b c)))
+      ∙ sym (any-one g (λ a. gains x (inRow (stored s 2056) w a) (partBelow w) (stored s 0) (some a) b c)))
 
   -- rows that are not among the groups bring nothing
   module _ (s : List ℕ) (w : ℕ) (hw : w ≤ 256) (groups : List ℕ) (f : Sparse w groups (stored s 2056)) where
@@ -207,15 +207,15 @@ module _ (x : RuleSheet) where
     skip t k k′ l h absent q =
         adds-as 1028 s t (Upto k) (Upto k′) q
         (λ b c hb hc. ap (λ (u : Bool). stored s 1028 b c || u)
-        (any-skip k k′ (λ a. gains x (inRow (stored s 2056) w a) (below w) (stored s 0) (some a) b c) l
-        (λ a d e. ap (λ (u : Bool). (ltb b w && u) && (below w c && (stored s 0 b c && holds x (some a) b c))) (f a (omega arith) (absent a d e) b hb)
-        ∙ ap (λ (u : Bool). u && (below w c && (stored s 0 b c && holds x (some a) b c))) (and-false (ltb b w)))))
+        (any-skip k k′ (λ a. gains x (inRow (stored s 2056) w a) (partBelow w) (stored s 0) (some a) b c) l
+        (λ a d e. ap (λ (u : Bool). (ltb b w && u) && (partBelow w c && (stored s 0 b c && holds x (some a) b c))) (f a (omega arith) (absent a d e) b hb)
+        ∙ ap (λ (u : Bool). u && (partBelow w c && (stored s 0 b c && holds x (some a) b c))) (and-false (ltb b w)))))
 
     pub groups-first : (n g : ℕ) → NextBit groups 0 n 0 g → Adds 1028 s s (Upto (min g w))
     groups-first n g z = skip s 0 (min g w) (omega arith) (omega arith) (λ a d e. z .skipped a d (omega arith)) (brought-none s (stored s 2056) (stored s 0) w)
 
     pub groups-more : (t u : List ℕ) (n g g′ : ℕ) → g < w → Adds 1028 s t (Upto (min g w))
-        → Adds 1028 t u (gains x (inRow (stored t 2056) w g) (below w) (stored t 0) (some g)) → NextBit groups 0 n (g + 1) g′ → Adds 1028 s u (Upto (min g′ w))
+        → Adds 1028 t u (gains x (inRow (stored t 2056) w g) (partBelow w) (stored t 0) (some g)) → NextBit groups 0 n (g + 1) g′ → Adds 1028 s u (Upto (min g′ w))
     groups-more t u n g g′ h q r z =
         let e : min g w ≡ g = omega arith in
         skip u (g + 1) (min g′ w) (omega (arith, z .onward)) (omega arith) (λ a d e. z .skipped a d (omega arith))

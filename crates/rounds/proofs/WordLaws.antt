@@ -1,6 +1,6 @@
 -- One word of a row. Assumes nothing.
 use mathlib.Core.Path.{_≡_, refl, sym, ap, ap₂, _∙_, subst}
-use mathlib.Core.Bool.{Bool, true, false, not, _&&_, _||_}
+use mathlib.Core.Bool.{Bool, true, false, not, _&&_, _||_, and-true, and-false, or-false, or-comm}
 use mathlib.Core.List.{List}
 use mathlib.Core.Option.{Option, none, some}
 use Prim.Native.Nat.{ℕ, _+_, _-_, _*_, _/_, _%_, _^_, _≤_, _<_, min}
@@ -14,16 +14,16 @@ use Rattle.words.specs.Bits.{bit}
 use Rattle.words.specs.Below.{anyBelow}
 use Rattle.words.proofs.BitLaws.{bit-and, bit-or, bit-not, bit-none}
 use Rattle.words.proofs.AnyLaws.{any-one, any-add, any-none, none-any}
+use Rattle.words.proofs.BelowLaws.{words-one}
 use Rattle.sheet.specs.RuleSheet.{RuleSheet}
 use Rattle.lola.specs.Equations.{holds}
 use Rattle.completions.specs.Live.{Pairs}
 use Rattle.completions.specs.Steps.{Within}
 use Rattle.pairs.specs.Storage.{stored}
 use Rattle.pairs.specs.Changes.{inWord, Adds}
-use Rattle.pairs.proofs.Bools.{and-true, and-false, or-false, or-comm, nothing-new}
 use Rattle.pairs.proofs.Sets.{adds-none, adds-as, adds-then, adds-before, lane}
 use Rattle.rounds.specs.Rows.{among, Wide, cut, gains, NoneNew, heardIn, grouped, Quiet}
-use Rattle.rounds.proofs.Bools.{turn, merge-under, words-one}
+use Rattle.rounds.proofs.Bools.{turn, merge-under, nothing-new}
 
 -- ---- the lanes of a row, its words joined
 

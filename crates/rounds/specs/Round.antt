@@ -1,15 +1,13 @@
 -- For the contracts of private functions: what a round leaves in the storage.
 use mathlib.Core.Path.{_≡_}
-use mathlib.Core.Bool.{false, cond, _&&_}
+use mathlib.Core.Bool.{false, cond}
 use mathlib.Core.List.{List}
 use mathlib.Core.Option.{Option}
 use Prim.Native.Nat.{ℕ, _<_, _≤_}
-use lib.Dec.{ltb}
 use lib.ListN.{length, getD}
 use Rattle.completions.specs.Live.{Pairs}
-use Rattle.completions.specs.Steps.{Within}
+use Rattle.completions.specs.Steps.{Within, pairsWithin}
 use Rattle.pairs.specs.Storage.{stored, used}
-use Rattle.rounds.specs.Rows.{below}
 
 -- in the words that w valuations use, the reached set is R among the valuations below w and the scratch set is empty; no other word is
 -- changed
@@ -18,5 +16,5 @@ pub record Rounded (w : ℕ) (s t : List ℕ) (R : Pairs) : Type 0 where
   pub live : (k : ℕ) → k < 1028 → getD t k 0 ≡ getD s k 0
   pub beyond : (k : ℕ) → 3084 ≤ k → getD t k 0 ≡ getD s k 0
   pub reached : (b : ℕ) (c : Option ℕ) → b < 256 → Within 256 c
-      → stored t 1028 b c ≡ cond (used w b c) (ltb b w && (below w c && R b c)) (stored s 1028 b c)
+      → stored t 1028 b c ≡ cond (used w b c) (pairsWithin w R b c) (stored s 1028 b c)
   pub scratch : (b : ℕ) (c : Option ℕ) → b < 256 → Within 256 c → stored t 2056 b c ≡ cond (used w b c) false (stored s 2056 b c)

@@ -1,6 +1,6 @@
 -- For the contracts of private functions: the pairs that a set gains, row by row.
 use mathlib.Core.Path.{_≡_}
-use mathlib.Core.Bool.{Bool, true, false, not, _&&_}
+use mathlib.Core.Bool.{Bool, false, not, _&&_}
 use mathlib.Core.List.{List}
 use mathlib.Core.Option.{Option, none, some}
 use Prim.Native.Nat.{ℕ, _+_, _*_, _/_, _%_, _<_, _≤_}
@@ -11,6 +11,7 @@ use Rattle.words.specs.Below.{anyBelow}
 use Rattle.sheet.specs.RuleSheet.{RuleSheet}
 use Rattle.lola.specs.Equations.{holds}
 use Rattle.completions.specs.Live.{Pairs}
+use Rattle.completions.specs.Steps.{partBelow}
 use Rattle.pairs.specs.Changes.{rowBit}
 use Rattle.lanes.specs.Around.{Before}
 
@@ -31,11 +32,6 @@ pub record Wide (v w : ℕ) : Type 0 where
 pub record Earlier (w : ℕ) : Type 0 where
   pub round : Option ℕ
   pub reads : Before w round
-
--- c is the end mark or a valuation below w
-abbrev pub below : ℕ → Option ℕ → Bool
-below w none = true
-below w (some c) = ltb c w
 
 -- c is a valuation that passes the test
 abbrev pub cut : (ℕ → Bool) → Option ℕ → Bool
@@ -64,7 +60,7 @@ heardFirst v r w a c = eqb a 0 && cut (λ b. ltb b w && (ltb b v && r b)) c
 
 -- the pairs that the rows below k of G bring
 unfoldable pub brought : RuleSheet → Pairs → ℕ → Pairs → ℕ → Pairs
-brought x G w L k b c = anyBelow k (λ a. gains x (inRow G w a) (below w) L (some a) b c)
+brought x G w L k b c = anyBelow k (λ a. gains x (inRow G w a) (partBelow w) L (some a) b c)
 
 -- row a of S: the valuations below w that pass the test
 abbrev pub heardIn : Pairs → (ℕ → Bool) → ℕ → ℕ → Option ℕ → Bool

@@ -8,12 +8,12 @@ ghost use lib.Dec.{eqb, ltb};
 ghost use lib.ListN.{length};
 ghost use Rattle.words.specs.Bits.{bit};
 ghost use Rattle.words.specs.Below.{anyBelow};
-ghost use Rattle.completions.specs.Steps.{startSet, stepSet};
+ghost use Rattle.completions.specs.Steps.{startSet, stepSet, partBelow};
 ghost use Rattle.pairs.specs.Storage.{stored};
 ghost use Rattle.pairs.specs.Changes.{Adds, eqNext, RowsCleared};
 ghost use Rattle.lanes.specs.Around.{room, Before, Seen};
 ghost use Rattle.lanes.specs.Coded.{Coded, sheetOf};
-ghost use Rattle.rounds.specs.Rows.{among, Wide, Earlier, below, cut, gains, NoneNew, NoEndNew, inRow, heardFirst, brought, heardIn, grouped, Sparse, NoEnds, Quiet};
+ghost use Rattle.rounds.specs.Rows.{among, Wide, Earlier, cut, gains, NoneNew, NoEndNew, inRow, heardFirst, brought, heardIn, grouped, Sparse, NoEnds, Quiet};
 ghost use Rattle.rounds.specs.Round.{Rounded};
 
 // ---- Valuations
@@ -156,7 +156,7 @@ fn bring_row(
 )
     requires { ⌜ Coded m n (now code) (now len) ⌝ }
     requires { ⌜ (room ((2 ^ (m + n) + 63) / 64) ≤ length (now st)) × (3084 ≤ length (now s)) × (g < 256) × Earlier before ⌝ }
-    ensures { λ r. ⌜ ((p : Option ℕ) → Before before p → (ks : List ℕ) → Adds 1028 (now (s .entry)) (now (s .exit)) (gains (sheetOf m n (now (code .entry)) (now (len .entry)) ks) (inRow (stored (now (s .entry)) 2056) (2 ^ (m + n)) g) (below (2 ^ (m + n))) (stored (now (s .entry)) 0) p)) ⌝ }
+    ensures { λ r. ⌜ ((p : Option ℕ) → Before before p → (ks : List ℕ) → Adds 1028 (now (s .entry)) (now (s .exit)) (gains (sheetOf m n (now (code .entry)) (now (len .entry)) ks) (inRow (stored (now (s .entry)) 2056) (2 ^ (m + n)) g) (partBelow (2 ^ (m + n))) (stored (now (s .entry)) 0) p)) ⌝ }
 {
     let v = valuations(m, n);
     let w = row_words(m, n);
@@ -188,7 +188,7 @@ fn hear(s: &mut [u64], v: usize, w: usize, letters: u64)
 fn bring_first(s: &mut [u64], code: &[u8], len: &[usize], m: usize, n: usize)
     requires { ⌜ Coded m n (now code) (now len) ⌝ }
     requires { ⌜ 3084 ≤ length (now s) ⌝ }
-    ensures { λ r. ⌜ ((ks : List ℕ) → Adds 1028 (now (s .entry)) (now (s .exit)) (gains (sheetOf m n (now (code .entry)) (now (len .entry)) ks) (inRow (stored (now (s .entry)) 2056) (2 ^ (m + n)) 0) (below (2 ^ (m + n))) (stored (now (s .entry)) 0) none)) ⌝ }
+    ensures { λ r. ⌜ ((ks : List ℕ) → Adds 1028 (now (s .entry)) (now (s .exit)) (gains (sheetOf m n (now (code .entry)) (now (len .entry)) ks) (inRow (stored (now (s .entry)) 2056) (2 ^ (m + n)) 0) (partBelow (2 ^ (m + n))) (stored (now (s .entry)) 0) none)) ⌝ }
 {
     let mut st = [0u64; 256];
     bring_row(s, &mut st, code, len, m, n, lanes::before(true, 0), 0);

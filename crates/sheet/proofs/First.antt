@@ -10,6 +10,7 @@ use lib.ListN.{length, take, drop, getD, length-drop, drop-of-length-le}
 use lib.Seq.{drop-cons, drop-drop, take-suc, length-take-le, drop-length, take-length}
 use lib.Dec.{leb, ltb, eqb}
 use borrow.Author.Tests.{le-ltb, lt-ltb, le-leb, lt-leb, ne-eqb, ltb-true, ltb-false, leb-true, leb-false}
+use Rattle.words.proofs.Bools.{and-split}
 use Rattle.sheet.specs.Bytes.{opOf}
 use Rattle.sheet.specs.Expression.{Expr, stack, Parsed, tree, broken, applyOp, final, parse}
 use Rattle.sheet.specs.Expression
@@ -23,12 +24,10 @@ use Rattle.refusal.specs.declared.Refusal.the-variants.{Short, Mark, Version, C
 use Rattle.sheet.specs.declared.Assumed.{Assumed}
 use Rattle.sheet.specs.declared.Assumed.the-variants.{Nothing, Output}
 use Rattle.sheet.specs.declared.AssumedRead.the-variants as assumed
-use Rattle.sheet.specs.declared.Header.{Header}
 use Rattle.sheet.specs.declared.Header.the-variants.{Fields}
 use Rattle.sheet.specs.declared.Header.the-variants as header
 use Rattle.refusal.specs.declared.Outcome.{Outcome}
 use Rattle.refusal.specs.declared.Outcome.the-variants.{Accepted, Refused}
-use Rattle.sheet.proofs.Sheets.{and-split}
 use Rattle.sheet.proofs.Ops.{OnlyByte, only-byte}
 use Rattle.refusal.specs.declared.Refusal.the-variants.{Byte, Values, Length, Leftover}
 

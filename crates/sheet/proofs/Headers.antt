@@ -7,9 +7,9 @@ use mathlib.Core.List.{List}
 use lib.ListN.{length, getD}
 use lib.Dec.{leb, ltb, eqb}
 use borrow.Author.Tests.{leb-true, ltb-true, ltb-false}
+use Rattle.words.proofs.Bools.{and-split}
 use Rattle.sheet.specs.Header.{markOk, versionOf, countsOk, assumedAt, fieldsOf, headerOf}
 use Rattle.sheet.specs.Reading.{Ranges, Below}
-use Rattle.sheet.proofs.Sheets.{and-split}
 use Rattle.refusal.specs.declared.Refusal.the-variants.{Short, Mark, Version, Counts, Assumption}
 use Rattle.sheet.specs.declared.Assumed.{Assumed}
 use Rattle.sheet.specs.declared.Assumed.the-variants.{Nothing, Output}

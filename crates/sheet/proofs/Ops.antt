@@ -1,10 +1,11 @@
--- The meaning of an expression byte, range by range. Assumes nothing.
+-- The meaning of an expression byte, range by range, and by cases. Assumes nothing.
 use Prim.Native.Nat.{ℕ, _+_, _%_, _≤_, _<_}
 use native.Mathlib.Omega.{arith}
 use mathlib.Core.Path.{_≡_, refl, sym, ap, _∙_}
 use mathlib.Core.Bool.{Bool, true, false, cond, and-false}
-use lib.Dec.{eqb}
-use borrow.Author.Tests.{le-leb, lt-leb, ne-eqb}
+use lib.Dec.{eqb, leb}
+use borrow.Author.Tests.{le-leb, lt-leb, ne-eqb, leb-true, eqb-true}
+use Rattle.words.proofs.Bools.{and-split}
 use Rattle.sheet.specs.Bytes.{opOf, readOf, readsOf, within}
 use Rattle.sheet.specs.declared.Op.{Op}
 use Rattle.sheet.specs.declared.Op.the-variants.{Const, Not, And, Or, Read, Rejected}
@@ -105,6 +106,39 @@ unknown-high b h =
       over-range 0x68 0x6F b h,
     )
 
+-- ---- by cases
+
+within-bounds : (lo hi b : ℕ) → within lo hi b ≡ true → (lo ≤ b) × (b ≤ hi)
+within-bounds lo hi b e = let a = and-split (leb lo b) (leb b hi) e in (leb-true lo b (a .0), leb-true b hi (a .1))
+
+module _ (P : Op → Type 0) (b : ℕ) where
+  key-case : (k : ℕ) (x y : Op) → (b ≡ k → P x) → P y → P (cond (eqb b k) x y)
+  key-case k x y f g = go (eqb b k) refl
+    where
+      go : (t : Bool) → eqb b k ≡ t → P (cond t x y)
+      go true e = f (eqb-true b k e)
+      go false e = g
+
+  range-case : (lo hi : ℕ) (x y : Op) → (lo ≤ b → b ≤ hi → P x) → P y → P (cond (within lo hi b) x y)
+  range-case lo hi x y f g = go (within lo hi b) refl
+    where
+      go : (t : Bool) → within lo hi b ≡ t → P (cond t x y)
+      go true e = let h = within-bounds lo hi b e in f (h .0) (h .1)
+      go false e = g
+
+  -- what holds of each operation that a byte can have, by what that says of the byte, holds of the byte's operation
+  pub op-cases : (b ≡ 0 → P (Const false)) → (b ≡ 1 → P (Const true)) → (b ≡ 2 → P Not) → (b ≡ 3 → P And) → (b ≡ 4 → P Or)
+      → (0x40 ≤ b → b ≤ 0x47 → P (readOf 0x40 b Now false))
+      → (0x50 ≤ b → b ≤ 0x57 → P (readOf 0x50 b Earlier false)) → (0x58 ≤ b → b ≤ 0x5F → P (readOf 0x58 b Earlier true))
+      → (0x60 ≤ b → b ≤ 0x67 → P (readOf 0x60 b Later false)) → (0x68 ≤ b → b ≤ 0x6F → P (readOf 0x68 b Later true))
+      → P (Rejected Byte) → P (opOf b)
+  unfolding opOf readsOf
+  op-cases f₀ f₁ f₂ f₃ f₄ now e₀ e₁ l₀ l₁ unknown =
+      key-case 0 _ _ f₀ (key-case 1 _ _ f₁ (key-case 2 _ _ f₂ (key-case 3 _ _ f₃ (key-case 4 _ _ f₄
+      (range-case 0x40 0x47 _ _ now
+      (range-case 0x50 0x57 _ _ e₀ (range-case 0x58 0x5F _ _ e₁
+      (range-case 0x60 0x67 _ _ l₀ (range-case 0x68 0x6F _ _ l₁ unknown)))))))))
+
 -- the only rule that a byte breaks by itself is 7
 abbrev pub OnlyByte : Op → Type 0
 OnlyByte (Const v) = Unit {0}
@@ -114,24 +148,8 @@ OnlyByte Or = Unit {0}
 OnlyByte (Read q o v) = Unit {0}
 OnlyByte (Rejected r) = r ≡ Byte
 
-pick-only : (t : Bool) (x y : Op) → OnlyByte x → OnlyByte y → OnlyByte (cond t x y)
-pick-only true x y f g = f
-pick-only false x y f g = g
-
 pub only-byte : (b : ℕ) → OnlyByte (opOf b)
-unfolding opOf readsOf
-only-byte b =
-    pick-only (eqb b 0) _ _ tt
-    (pick-only (eqb b 1) _ _ tt
-    (pick-only (eqb b 2) _ _ tt
-    (pick-only (eqb b 3) _ _ tt
-    (pick-only (eqb b 4) _ _ tt
-    (pick-only (within 0x40 0x47 b) _ _ tt
-    (pick-only (within 0x50 0x57 b) _ _ tt
-    (pick-only (within 0x58 0x5F b) _ _ tt
-    (pick-only (within 0x60 0x67 b) _ _ tt
-    (pick-only (within 0x68 0x6F b) _ _ tt
-    refl)))))))))
+only-byte b = op-cases OnlyByte b (λ e. tt) (λ e. tt) (λ e. tt) (λ e. tt) (λ e. tt) (λ l h. tt) (λ l h. tt) (λ l h. tt) (λ l h. tt) (λ l h. tt) refl
 
 -- the number of the stream is what eights leave over
 pub by-eights : (base b : ℕ) (o : Offset) (d : Bool) → base % 8 ≡ 0 → base ≤ b → b ≤ base + 7 → opOf b ≡ readOf base b o d → Read (record { 0 = b % 8 }) o d ≡ opOf b

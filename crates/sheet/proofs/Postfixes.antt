@@ -1,18 +1,18 @@
 -- Bytes are read as a tree exactly if they are the tree's writing, and its reads are of the sheet's streams. Assumes nothing.
-use Prim.Native.Nat.{ℕ, _+_, _-_, _≤_, _<_}
+use Prim.Native.Nat.{ℕ, _+_, _<_}
 use native.Mathlib.Omega.{arith}
 use native.Mathlib.Nat.{add-sub-cancel-left}
 use mathlib.Core.Path.{_≡_, refl, sym, ap, _∙_, subst}
 use mathlib.Core.Logic.{_↔_}
 use mathlib.Core.Bool.{Bool, true, false, cond}
 use mathlib.Core.List.{List, [], _∷_, _++_, append-assoc, append-nil}
-use lib.Dec.{leb, ltb, eqb}
-use borrow.Author.Tests.{lt-ltb, ltb-true, leb-true, eqb-true}
-use Rattle.sheet.specs.Bytes.{opOf, readsOf, readOf, within}
-use Rattle.sheet.specs.Expression.{Expr, constant, negation, conjunction, disjunction, read, stack, breaks, Parsed, tree, broken, applyOp, final, go-on, parse}
+use lib.Dec.{ltb}
+use borrow.Author.Tests.{lt-ltb, ltb-true}
+use Rattle.sheet.specs.Bytes.{opOf, readOf}
+use Rattle.sheet.specs.Expression.{Expr, constant, negation, conjunction, disjunction, read, stack, breaks, Parsed, tree, applyOp, final, go-on, parse}
 use Rattle.sheet.specs.Postfix.{readByte, written, DefaultFits, InSheet}
-use Rattle.sheet.proofs.Ops.{is-now, is-earlier-false, is-earlier-true, is-later-false, is-later-true}
-use Rattle.sheet.proofs.Sheets.{and-split}
+use Rattle.sheet.proofs.Ops.{is-now, is-earlier-false, is-earlier-true, is-later-false, is-later-true, op-cases}
+use Rattle.sheet.proofs.Sheets.{no-tree}
 use Rattle.sheet.specs.declared.StreamNo.{StreamNo}
 use Rattle.sheet.specs.declared.Offset.{Offset}
 use Rattle.sheet.specs.declared.Offset.the-variants.{Earlier, Now, Later}
@@ -66,27 +66,16 @@ Means b Or = b ≡ 0x04
 Means b (Read q o v) = (b ≡ readByte (q .0) o v) × (q .0 < 8) × DefaultFits o v
 Means b (Rejected r) = Unit {0}
 
-pick-means : (b : ℕ) (t : Bool) (x y : Op) → (t ≡ true → Means b x) → Means b y → Means b (cond t x y)
-pick-means b true x y f g = f refl
-pick-means b false x y f g = g
-
-bounds : (lo hi b : ℕ) → within lo hi b ≡ true → (lo ≤ b) × (b ≤ hi)
-bounds lo hi b e = let a = and-split (leb lo b) (leb b hi) e in (leb-true lo b (a .0), leb-true b hi (a .1))
-
 op-means : (b : ℕ) → Means b (opOf b)
-unfolding opOf readsOf readByte
+unfolding readByte
 op-means b =
-    pick-means b (eqb b 0) _ _ (eqb-true b 0)
-    (pick-means b (eqb b 1) _ _ (eqb-true b 1)
-    (pick-means b (eqb b 2) _ _ (eqb-true b 2)
-    (pick-means b (eqb b 3) _ _ (eqb-true b 3)
-    (pick-means b (eqb b 4) _ _ (eqb-true b 4)
-    (pick-means b (within 0x40 0x47 b) _ _ (λ e. (omega (arith, bounds 0x40 0x47 b e), omega (arith, bounds 0x40 0x47 b e), refl))
-    (pick-means b (within 0x50 0x57 b) _ _ (λ e. (omega (arith, bounds 0x50 0x57 b e), omega (arith, bounds 0x50 0x57 b e), tt))
-    (pick-means b (within 0x58 0x5F b) _ _ (λ e. (omega (arith, bounds 0x58 0x5F b e), omega (arith, bounds 0x58 0x5F b e), tt))
-    (pick-means b (within 0x60 0x67 b) _ _ (λ e. (omega (arith, bounds 0x60 0x67 b e), omega (arith, bounds 0x60 0x67 b e), tt))
-    (pick-means b (within 0x68 0x6F b) _ _ (λ e. (omega (arith, bounds 0x68 0x6F b e), omega (arith, bounds 0x68 0x6F b e), tt))
-    tt)))))))))
+    op-cases (Means b) b (λ e. e) (λ e. e) (λ e. e) (λ e. e) (λ e. e)
+    (λ l h. (omega arith, omega arith, refl))
+    (λ l h. (omega arith, omega arith, tt))
+    (λ l h. (omega arith, omega arith, tt))
+    (λ l h. (omega arith, omega arith, tt))
+    (λ l h. (omega arith, omega arith, tt))
+    tt
 
 -- the bytes of a stack, its bottom first
 abbrev pile : List Expr → List ℕ
@@ -110,9 +99,6 @@ grown₂ p w x b c bs r e h = rw e (simp append-assoc (simp append-assoc at h))
 grown₀ : (p : List ℕ) (b c : ℕ) (bs : List ℕ) (r : List ℕ) → b ≡ c → (p ++ (c ∷ [])) ++ bs ≡ r → p ++ (b ∷ bs) ≡ r
 grown₀ p b c bs r e h = rw e (simp append-assoc at h)
 
-wrong : (r : _) (t : Expr) → broken r ≡ tree t → ⊥
-wrong r t h = let y : _≡_ {A = ℕ} 0 1 = cc in omega arith
-
 one-byte : (s b : ℕ) (bs : List ℕ) (t : Expr) (op : Op) → Means b op → (st : List Expr) → AllIn s st
     → ((st′ : List Expr) → AllIn s st′ → parse s st′ bs ≡ tree t → Was s st′ bs t)
     → go-on (applyOp s op st) (λ st′. parse s st′ bs) ≡ tree t → Was s st (b ∷ bs) t
@@ -121,16 +107,16 @@ one-byte s b bs t (Const false) m st all rec h =
     let r = rec (constant false ∷ st) (tt, all) h in (grown₀ (pile st) b 0x00 bs (written t) m (r .0), r .1)
 one-byte s b bs t (Const true) m st all rec h =
     let r = rec (constant true ∷ st) (tt, all) h in (grown₀ (pile st) b 0x01 bs (written t) m (r .0), r .1)
-one-byte s b bs t Not m [] all rec h = absurd (wrong Values t h)
+one-byte s b bs t Not m [] all rec h = absurd (no-tree Values t h)
 one-byte s b bs t Not m (x ∷ st) all rec h =
     let r = rec (negation x ∷ st) all h in (grown (pile st) (written x) b 0x02 bs (written t) m (r .0), r .1)
-one-byte s b bs t And m [] all rec h = absurd (wrong Values t h)
-one-byte s b bs t And m (y ∷ []) all rec h = absurd (wrong Values t h)
+one-byte s b bs t And m [] all rec h = absurd (no-tree Values t h)
+one-byte s b bs t And m (y ∷ []) all rec h = absurd (no-tree Values t h)
 one-byte s b bs t And m (y ∷ (x ∷ st)) all rec h =
     let r = rec (conjunction x y ∷ st) ((all .1 .0, all .0), all .1 .1) h in
     (grown₂ (pile st) (written x) (written y) b 0x03 bs (written t) m (r .0), r .1)
-one-byte s b bs t Or m [] all rec h = absurd (wrong Values t h)
-one-byte s b bs t Or m (y ∷ []) all rec h = absurd (wrong Values t h)
+one-byte s b bs t Or m [] all rec h = absurd (no-tree Values t h)
+one-byte s b bs t Or m (y ∷ []) all rec h = absurd (no-tree Values t h)
 one-byte s b bs t Or m (y ∷ (x ∷ st)) all rec h =
     let r = rec (disjunction x y ∷ st) ((all .1 .0, all .0), all .1 .1) h in
     (grown₂ (pile st) (written x) (written y) b 0x04 bs (written t) m (r .0), r .1)
@@ -140,16 +126,16 @@ one-byte s b bs t (Read q o v) m st all rec h = go (ltb (q .0) s) refl h
     go true e k =
         let r = rec (read (q .0) o v ∷ st) ((ltb-true (q .0) s e, m .1, m .2), all) k in
         (grown₀ (pile st) b (readByte (q .0) o v) bs (written t) (m .0) (r .0), r .1)
-    go false e k = absurd (wrong Byte t k)
-one-byte s b bs t (Rejected r) m st all rec h = absurd (wrong r t h)
+    go false e k = absurd (no-tree Byte t k)
+one-byte s b bs t (Rejected r) m st all rec h = absurd (no-tree r t h)
 
 was-written : (s : ℕ) (t : Expr) (bs : List ℕ) (st : List Expr) → AllIn s st → parse s st bs ≡ tree t → Was s st bs t
 unfolding parse final AllIn
-was-written s t [] [] all h = absurd (wrong Values t h)
+was-written s t [] [] all h = absurd (no-tree Values t h)
 was-written s t [] (x ∷ []) all h =
     let e : x ≡ t = cc in
     (append-nil (written x) ∙ ap written e, subst (InSheet s) e (all .0))
-was-written s t [] (x ∷ (y ∷ st)) all h = absurd (wrong Values t h)
+was-written s t [] (x ∷ (y ∷ st)) all h = absurd (no-tree Values t h)
 was-written s t (b ∷ bs) st all h = one-byte s b bs t (opOf b) (op-means b) st all (λ st′ a k. was-written s t bs st′ a k) h
 
 -- An expression's bytes are read as the tree t exactly if they are its writing and its reads are of the sheet's streams.

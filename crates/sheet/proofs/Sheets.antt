@@ -3,17 +3,17 @@ use Prim.Native.Nat.{ℕ, zero, suc, _<_}
 use native.Mathlib.Omega.{arith}
 use native.Mathlib.Numerals.{add-one}
 use mathlib.Core.Path.{_≡_, refl, ap, _∙_}
-use mathlib.Core.Bool.{Bool, true, false, _&&_}
 use mathlib.Core.List.{List, [], _∷_, _++_}
 use lib.ListN.{length, getD, List·getD-append, length-append}
 use native.Mathlib.Decide.{ℕ-discrete}
 use lib.Seq.{getD-at}
-use Rattle.sheet.specs.Expression.{Expr, parse}
+use Rattle.refusal.specs.declared.Refusal.{Refusal}
+use Rattle.sheet.specs.Expression.{Expr, parse, tree, broken}
 use Rattle.sheet.specs.Reading.{treeOf, codeAt, treesOf}
 
-pub and-split : (a b : Bool) → (a && b) ≡ true → (a ≡ true) × (b ≡ true)
-and-split true b e = (refl, e)
-and-split false b e = absurd (let y : _≡_ {A = ℕ} 0 1 = cc in omega arith)
+-- a broken expression is no tree
+pub no-tree : (r : Refusal) (t : Expr) → broken r ≡ tree t → ⊥
+no-tree r t h = let y : _≡_ {A = ℕ} 0 1 = cc in omega arith
 
 pub length-trees : (s : ℕ) (code len : List ℕ) (n : ℕ) → length (treesOf s code len n) ≡ n
 unfolding treesOf

@@ -1,6 +1,6 @@
 -- Numbers put into a slice, a record taken out of one, and the sizes of a call's slices.
 use mathlib.Core.Path.{_≡_, refl, sym, ap, _∙_}
-use mathlib.Core.Bool.{Bool, true, false, not, _&&_}
+use mathlib.Core.Bool.{Bool, true, false, not}
 use mathlib.Core.List.{List, [], _∷_, append-nil}
 use Prim.Native.Nat.{ℕ, _+_, _≤_, _<_}
 use native.Mathlib.Omega.{arith}
@@ -10,6 +10,7 @@ use lib.Dec.{eqb, leb}
 use lib.ListN.{length, getD, set, take, drop, length-set, length-drop}
 use lib.Seq.{paste, paste-zero, paste-suc, getD-drop, getD-set-same, getD-set-other, ext-getD, take-all, drop-length}
 use borrow.Author.Tests.{not-false, eqb-true, leb-true, eq-eqb, le-leb}
+use Rattle.words.proofs.Bools.{and-split}
 use Rattle.slices.specs.Slices.{sized}
 
 -- the first k of xs stand in `new` from a place on
@@ -77,19 +78,11 @@ pub record Sizes (rec ans : List ℕ) : Type 0 where
 pub right-sizes : (rec ans : List ℕ) → length rec ≡ 30 → 16 ≤ length ans → sized rec ans ≡ true
 right-sizes rec ans e h = simp (eq-eqb (length rec) 30 e, le-leb 16 (length ans) h)
 
-and-l : (a b : Bool) → a && b ≡ true → a ≡ true
-and-l true b e = refl
-and-l false b e = e
-
-and-r : (a b : Bool) → a && b ≡ true → b ≡ true
-and-r true b e = e
-and-r false b e = cc
-
 -- what a test of the sizes that did not fail says
 pub sizes-tested : (rec ans : List ℕ) (r : Bool) → r ≡ sized rec ans → not r ≡ false → Sizes rec ans
 sizes-tested rec ans r e h =
     let both : sized rec ans ≡ true = sym e ∙ not-false r h in
     record {
-      thirty = eqb-true (length rec) 30 (and-l (eqb (length rec) 30) (leb 16 (length ans)) both);
-      room = leb-true 16 (length ans) (and-r (eqb (length rec) 30) (leb 16 (length ans)) both);
+      thirty = eqb-true (length rec) 30 (and-split (eqb (length rec) 30) (leb 16 (length ans)) both .0);
+      room = leb-true 16 (length ans) (and-split (eqb (length rec) 30) (leb 16 (length ans)) both .1);
     }

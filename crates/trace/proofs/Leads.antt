@@ -12,8 +12,8 @@ use lib.ListN.{length, getD}
 use borrow.Author.Tests.{eqb-true, ltb-true}
 use Rattle.words.specs.Bits.{digit, bit}
 use Rattle.words.proofs.BitLaws.{digit-zero, bit-none, bit-or}
+use Rattle.words.proofs.Bools.{and-split}
 use Rattle.circular.specs.Table.{readsOf}
-use Rattle.circular.proofs.Bools.{and-l, and-r}
 use Rattle.trace.proofs.Flips.{bit-mask}
 use Rattle.trace.specs.Order.{Bounded, toward, Farthest, Behind, BehindAll, Raised, Steady, Settled}
 
@@ -105,8 +105,8 @@ over (x ∷ l) = ltb 54 x && over l
 over-at : (l : List ℕ) → over l ≡ true → (s : ℕ) → s < length l → 54 < getD l s 0
 unfolding over
 over-at [] e s h = absurd (omega arith)
-over-at (x ∷ l) e zero h = ltb-true 54 x (and-l (ltb 54 x) (over l) e)
-over-at (x ∷ l) e (suc s) h = over-at l (and-r (ltb 54 x) (over l) e) s (omega arith)
+over-at (x ∷ l) e zero h = ltb-true 54 x (and-split (ltb 54 x) (over l) e .0)
+over-at (x ∷ l) e (suc s) h = over-at l (and-split (ltb 54 x) (over l) e .1) s (omega arith)
 
 pub steady-none : (masks : List ℕ) (n : ℕ) (up : Bool) (settled : ℕ) → n ≤ 7 → Steady masks (63 ∷ 63 ∷ 63 ∷ 63 ∷ 63 ∷ 63 ∷ 63 ∷ []) n up settled
 unfolding over

@@ -1,6 +1,6 @@
 -- Rows of words: their lanes, written one word after the other.
 use mathlib.Core.Path.{_≡_, refl, sym, ap, ap₂, _∙_}
-use mathlib.Core.Bool.{Bool, true, false, not, _&&_, _||_}
+use mathlib.Core.Bool.{Bool, true, false, not, _&&_, _||_, and-true}
 use mathlib.Core.List.{List, []}
 use Prim.Native.Nat.{ℕ, _+_, _-_, _*_, _/_, _%_, _^_, _≤_, _<_}
 use native.Mathlib.Omega.{arith}
@@ -22,7 +22,6 @@ use Rattle.sheet.proofs.Sheets.{length-trees}
 use Rattle.lanes.specs.Coded.{sheetOf}
 use Rattle.completions.specs.Live.{allowed, allTrue}
 use Rattle.pairs.specs.Changes.{rowBit}
-use Rattle.pairs.proofs.Bools.{and-true}
 use Rattle.unions.specs.Rows.{Row, United}
 
 -- the number of valuations, as the code has it

@@ -1,22 +1,22 @@
 -- The valuations before a round, gathered over the pairs of a layer.
 use mathlib.Core.Path.{_≡_, refl, sym, ap, ap₂, _∙_}
-use mathlib.Core.Bool.{Bool, true, false, _&&_, _||_}
+use mathlib.Core.Bool.{Bool, true, false, _&&_, _||_, and-false, or-false, or-assoc, or-comm, and-or-distrib-left}
 use mathlib.Core.List.{List}
 use mathlib.Core.Option.{none, some}
-use Prim.Native.Nat.{ℕ, zero, suc, _+_, _-_, _*_, _/_, _%_, _≤_, _<_}
+use Prim.Native.Nat.{ℕ, _+_, _*_, _/_, _%_, _≤_, _<_}
 use native.Mathlib.Omega.{arith}
-use lib.ListN.{getD, replicate}
+use lib.ListN.{replicate}
 use Rattle.words.specs.Bits.{bit}
 use Rattle.words.proofs.BitLaws.{bit-none}
 use Rattle.words.specs.Below.{anyBelow}
 use Rattle.words.proofs.AnyLaws.{any-one}
+use Rattle.words.proofs.ListLaws.{zeros}
 use Rattle.sheet.specs.RuleSheet.{RuleSheet}
 use Rattle.lola.specs.Equations.{holds}
 use Rattle.completions.specs.Live.{allowed}
 use Rattle.completions.specs.Steps.{anyNext}
 use Rattle.pairs.specs.Storage.{stored}
 use Rattle.pairs.specs.Changes.{rowBit, NextBit}
-use Rattle.pairs.proofs.Bools.{and-false, or-false, or-assoc, or-comm}
 use Rattle.pairs.proofs.BitSearch.{any-skip}
 use Rattle.pairs.proofs.Sets.{row-bit}
 use Rattle.unions.specs.Rows.{meets, Row, United}
@@ -50,8 +50,7 @@ united-as w s t f h p e = record { same-length = p .same-length; gains = λ a l.
 -- ---- the valuations of a row of the layer; c is the next, or the bound
 
 and-or : (o u v : Bool) → ((o && u) || (o && v)) ≡ (o && (v || u))
-and-or true u v = or-comm u v
-and-or false u v = refl
+and-or o u v = sym (and-or-distrib-left o u v) ∙ ap (λ (z : Bool). o && z) (or-comm u v)
 
 module _ (x : RuleSheet) (w : ℕ) (ok s : List ℕ) (layer b : ℕ) where
   abbrev F : ℕ → ℕ → Bool
@@ -115,12 +114,6 @@ module _ (x : RuleSheet) (w : ℕ) (ok s : List ℕ) (layer b : ℕ) where
 pub row-from : (x : RuleSheet) (w : ℕ) (ok old new : List ℕ) (M : ℕ → Bool) → ((a : ℕ) → a < 64 * w → rowBit old 0 a ≡ false) → Row w ok (allowed x)
     → United w old new (λ a. rowBit ok 0 a && M a) → Row w new (λ a. allowed x a && M a)
 row-from x w ok old new M z r p a l = p .gains a l ∙ ap₂ (λ (u v : Bool). u || (v && M a)) (z a l) (r a l)
-
--- a table of zeros
-pub zeros : (n k : ℕ) → _≡_ {A = ℕ} (getD (replicate n 0) k 0) 0
-zeros zero k = refl
-zeros (suc n) zero = refl
-zeros (suc n) (suc k) = zeros n k
 
 pub empty-row : (n a : ℕ) → rowBit (replicate n 0) 0 a ≡ false
 unfolding rowBit

@@ -1,9 +1,9 @@
 -- Valuations as the bits of words, and the verdicts read off them. Assumes nothing.
 use mathlib.Core.Path.{_≡_, refl, sym, ap, ap₂, _∙_, subst}
-use mathlib.Core.Bool.{Bool, true, false, not, _&&_, _||_, Bool·beq}
+use mathlib.Core.Bool.{Bool, true, false, not, _&&_, _||_, Bool·beq, and-true, and-false, or-false, and-assoc, and-comm}
 use mathlib.Core.List.{List}
 use mathlib.Core.Option.{Option, none, some}
-use Prim.Native.Nat.{ℕ, zero, suc, _+_, _-_, _*_, _/_, _%_, _^_, _≤_, _<_}
+use Prim.Native.Nat.{ℕ, _+_, _-_, _*_, _/_, _%_, _^_, _≤_, _<_}
 use native.Mathlib.Omega.{arith}
 use native.Mathlib.Decide.{ℕ-discrete, decLt}
 use borrow.Author.Tests.{le-ltb, lt-ltb, ltb-true, eq-eqb, ne-eqb}
@@ -15,19 +15,19 @@ use lib.Seq.{getD-set-same, getD-set-other}
 use Rattle.words.specs.Bits.{bit}
 use Rattle.words.specs.Below.{anyBelow}
 use Rattle.words.proofs.BitLaws.{bit-and, bit-or, bit-shl, bit-none, Lowest, lowest, without, lane-off, lane-less}
-use Rattle.words.proofs.AnyLaws.{any-cong, any-add, any-groups, any-word, none-any, some-any}
+use Rattle.words.proofs.AnyLaws.{any-cong, any-add, any-groups, any-word, none-any, some-any, any-some}
 use Rattle.words.proofs.LaneLaws.{beq-true, beq-false}
+use Rattle.words.proofs.Bools.{iff, and-split}
+use Rattle.words.proofs.ListLaws.{zeros}
 use Rattle.refusal.specs.declared.Verdict.{Verdict}
-use Rattle.refusal.specs.Numbers.{verdictNo}
+use Rattle.refusal.specs.Numbers.{verdictNo, Verdicts}
 use Rattle.completions.specs.Live.{Pairs}
 use Rattle.completions.specs.Steps.{anyNext, anyPair, verdictOf, pairsVerdict, endsVerdict}
 use Rattle.pairs.specs.Storage.{stored}
 use Rattle.pairs.specs.Changes.{rowBit}
-use Rattle.pairs.proofs.Bools.{and-true, and-false, or-false, and-assoc, iff}
 use Rattle.pairs.proofs.Sets.{lane-end}
 use Rattle.rounds.specs.Rows.{among, Wide}
-use Rattle.verdicts.specs.Firsts.{Passing, Words, shows, Told}
-use Rattle.rounds.proofs.Bools.{and-split, found}
+use Rattle.verdicts.specs.Firsts.{Passing, Words, shows}
 use Rattle.rounds.proofs.WordLaws.{heard-lane}
 
 -- ---- whether a row has a member
@@ -51,17 +51,17 @@ module _ (s : List ℕ) (v w a x mask : ℕ) (wide : Wide v w) (lx : (i : ℕ) �
 
   some-lane : anyBelow 64 (λ i. bit i (bitAnd x mask)) ≡ true → anyBelow v member ≡ true
   some-lane e =
-      let z = found 64 (λ i. bit i (bitAnd x mask)) e in
+      let z = any-some 64 (λ i. bit i (bitAnd x mask)) e in
       let i : ℕ = z .0 in
       let h : i < 64 = z .1 in
       let k = and-split (bit i x) (bit i mask) (sym (bit-and i x mask) ∙ z .2) in
       let l : 64 * 0 + i < v = ltb-true (64 * 0 + i) v (sym (lm i h) ∙ k .1) in
-      let y = found w (λ j. member (64 * j + i)) (sym (lx i h) ∙ k .0) in
+      let y = any-some w (λ j. member (64 * j + i)) (sym (lx i h) ∙ k .0) in
       some-any v member (64 * y .0 + i) (within i (y .0) h (omega arith) (y .1)) (y .2)
 
   lane-of : anyBelow v member ≡ true → anyBelow 64 (λ i. bit i (bitAnd x mask)) ≡ true
   lane-of e =
-      let z = found v member e in
+      let z = any-some v member e in
       let b : ℕ = z .0 in
       let g : b < v = z .1 in
       let h : b % 64 < 64 = omega arith in
@@ -154,12 +154,6 @@ filling-all w g f j h p = record { size = p .size; bits = λ b l. at b l }
         let e : 0 + b / 64 ≡ b / 64 = omega arith in
         let q : 64 * (b / 64) + b % 64 ≡ b = omega arith in
         ap (λ (z : ℕ). bit (b % 64) (getD f z 0)) e ∙ p .done (b / 64) (b % 64) (omega arith) (omega arith) ∙ ap g q
-
-and-comm : (u v : Bool) → (u && v) ≡ (v && u)
-and-comm true true = refl
-and-comm true false = refl
-and-comm false true = refl
-and-comm false false = refl
 
 -- a word of the end row
 pub ends-lane : (s : List ℕ) (j v mask : ℕ) → ((i : ℕ) → i < 64 → bit i mask ≡ ltb (64 * j + i) v) → (i : ℕ) → i < 64
@@ -259,11 +253,6 @@ pub record Telling (n : ℕ) (f : ℕ → Verdict) (vs : List ℕ) (k : ℕ) : T
   pub each : (j : ℕ) → j < k → getD vs j 0 ≡ verdictNo (f j)
   pub beyond : (j : ℕ) → k ≤ j → getD vs j 0 ≡ 0
 
-zeros : (n k : ℕ) → _≡_ {A = ℕ} (getD (replicate n 0) k 0) 0
-zeros zero k = refl
-zeros (suc n) zero = refl
-zeros (suc n) (suc k) = zeros n k
-
 pub telling-none : (n : ℕ) (f : ℕ → Verdict) → Telling n f (replicate 7 0) 0
 telling-none n f = record { within = omega arith; size = refl; each = λ j h. absurd (omega arith); beyond = λ j h. zeros 7 j }
 
@@ -279,8 +268,8 @@ telling-more n f vs k x h l p e = record {
     go j g (yes d) = ap (λ (z : ℕ). getD (set vs k x) z 0) d ∙ getD-set-same vs k x 0 (omega (arith, p .size)) ∙ e ∙ ap (λ (z : ℕ). verdictNo (f z)) (sym d)
     go j g (no d) = getD-set-other vs k j x 0 (omega arith) ∙ p .each j (omega arith)
 
-pub telling-all : (n : ℕ) (f : ℕ → Verdict) (vs : List ℕ) (k : ℕ) → n ≤ k → Telling n f vs k → Told n f vs
+pub telling-all : (n : ℕ) (f : ℕ → Verdict) (vs : List ℕ) (k : ℕ) → n ≤ k → Telling n f vs k → Verdicts n f vs
 telling-all n f vs k h p = record { size = p .size; each = λ j g. p .each j (omega arith); beyond = λ j g. p .beyond j (omega (arith, p .within)) }
 
-pub told-as : (n : ℕ) (f g : ℕ → Verdict) (vs : List ℕ) → ((k : ℕ) → k < n → f k ≡ g k) → Told n f vs → Told n g vs
-told-as n f g vs e t = record { size = t .size; each = λ k h. t .each k h ∙ ap verdictNo (e k h); beyond = t .beyond }
+pub verdicts-as : (n : ℕ) (f g : ℕ → Verdict) (vs : List ℕ) → ((k : ℕ) → k < n → f k ≡ g k) → Verdicts n f vs → Verdicts n g vs
+verdicts-as n f g vs e t = record { size = t .size; each = λ k h. t .each k h ∙ ap verdictNo (e k h); beyond = t .beyond }

@@ -3,12 +3,10 @@ use mathlib.Core.Path.{_≡_}
 use mathlib.Core.Bool.{Bool, false, _&&_, Bool·beq}
 use mathlib.Core.List.{List}
 use mathlib.Core.Option.{Option}
-use Prim.Native.Nat.{ℕ, _*_, _<_, _≤_}
-use lib.ListN.{length, getD}
+use Prim.Native.Nat.{ℕ, _*_, _<_}
+use lib.ListN.{length}
 use Rattle.words.specs.Bits.{bit}
 use Rattle.words.specs.Below.{anyBelow}
-use Rattle.refusal.specs.declared.Verdict.{Verdict}
-use Rattle.refusal.specs.Numbers.{verdictNo}
 use Rattle.completions.specs.Live.{Pairs}
 use Rattle.completions.specs.Steps.{Within}
 use Rattle.pairs.specs.Changes.{rowBit}
@@ -25,9 +23,3 @@ pub record Words (w : ℕ) (f : List ℕ) (g : ℕ → Bool) : Type 0 where
 -- some valuation of the first w words has v in stream q
 unfoldable pub shows : ℕ → List ℕ → ℕ → Bool → Bool
 shows w f q v = anyBelow (64 * w) (λ b. rowBit f 0 b && Bool·beq (bit q b) v)
-
--- the numbers of n verdicts, and 0 after them
-pub record Told (n : ℕ) (f : ℕ → Verdict) (vs : List ℕ) : Type 0 where
-  pub size : length vs ≡ 7
-  pub each : (k : ℕ) → k < n → getD vs k 0 ≡ verdictNo (f k)
-  pub beyond : (k : ℕ) → n ≤ k → getD vs k 0 ≡ 0

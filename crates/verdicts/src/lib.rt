@@ -9,9 +9,9 @@ ghost use lib.ListN.{length};
 ghost use Rattle.words.specs.Bits.{bit};
 ghost use Rattle.completions.specs.Steps.{anyNext, verdictOf, pairsVerdict, endsVerdict};
 ghost use Rattle.pairs.specs.Storage.{stored};
-ghost use Rattle.refusal.specs.Numbers.{verdictNo};
+ghost use Rattle.refusal.specs.Numbers.{verdictNo, Verdicts};
 ghost use Rattle.rounds.specs.Rows.{among, Wide};
-ghost use Rattle.verdicts.specs.Firsts.{Passing, Words, shows, Told};
+ghost use Rattle.verdicts.specs.Firsts.{Passing, Words, shows};
 
 // Whether some pair of the reached set has the first part a; v valuations, w words to a row.
 fn is_first(s: &[u64], v: usize, w: usize, a: usize) -> bool
@@ -114,7 +114,7 @@ fn verdict(f: &[u64], w: usize, q: usize) -> u8
 // The verdicts on the n outputs, streams m on.
 fn verdicts(f: &[u64], w: usize, m: usize, n: usize) -> [u8; 7]
     requires { ⌜ (w ≤ 4) × (m + n ≤ 8) × (n ≤ 7) × (length (now f) ≡ 4) ⌝ }
-    ensures { λ r. ⌜ Told n (λ k. verdictOf (shows w (now (f .entry)) (m + k) true) (shows w (now (f .entry)) (m + k) false)) r ⌝ }
+    ensures { λ r. ⌜ Verdicts n (λ k. verdictOf (shows w (now (f .entry)) (m + k) true) (shows w (now (f .entry)) (m + k) false)) r ⌝ }
 {
     let mut vs = [0u8; 7];
     let mut k: usize = 0;
@@ -128,7 +128,7 @@ fn verdicts(f: &[u64], w: usize, m: usize, n: usize) -> [u8; 7]
 // Each output's verdict over the reached set, where only valuations that were heard are first parts.
 pub fn round_verdicts(s: &[u64], m: usize, n: usize, letters: u64) -> [u8; 7]
     requires { ⌜ (m + n ≤ 8) × (n ≤ 7) × (3084 ≤ length (now s)) ⌝ }
-    ensures { λ r. ⌜ (Passing (2 ^ (m + n)) (among letters) (stored (now (s .entry)) 1028) → Told n (λ k. pairsVerdict (2 ^ (m + n)) (stored (now (s .entry)) 1028) (bit (m + k))) r) ⌝ }
+    ensures { λ r. ⌜ (Passing (2 ^ (m + n)) (among letters) (stored (now (s .entry)) 1028) → Verdicts n (λ k. pairsVerdict (2 ^ (m + n)) (stored (now (s .entry)) 1028) (bit (m + k))) r) ⌝ }
 {
     let v = rounds::valuations(m, n);
     let w = rounds::row_words(m, n);
@@ -139,7 +139,7 @@ pub fn round_verdicts(s: &[u64], m: usize, n: usize, letters: u64) -> [u8; 7]
 // Each output's verdict over the pairs of the reached set with the end mark.
 pub fn closing_verdicts(s: &[u64], m: usize, n: usize) -> [u8; 7]
     requires { ⌜ (m + n ≤ 8) × (n ≤ 7) × (3084 ≤ length (now s)) ⌝ }
-    ensures { λ r. ⌜ Told n (λ k. endsVerdict (2 ^ (m + n)) (stored (now (s .entry)) 1028) (bit (m + k))) r ⌝ }
+    ensures { λ r. ⌜ Verdicts n (λ k. endsVerdict (2 ^ (m + n)) (stored (now (s .entry)) 1028) (bit (m + k))) r ⌝ }
 {
     let v = rounds::valuations(m, n);
     let w = rounds::row_words(m, n);

@@ -1,7 +1,7 @@
 -- Laws of a word's digits and bits. Assumes nothing.
 use mathlib.Core.Path.{_≡_, refl, sym, ap, ap₂, _∙_}
 use mathlib.Core.Logic.{_⊎_, inl, inr, ⊎-elim}
-use mathlib.Core.Bool.{Bool, true, false, not, _&&_, _||_}
+use mathlib.Core.Bool.{Bool, true, false, not, _&&_, _||_, and-false}
 use Prim.Native.Nat.{ℕ, zero, suc, _+_, _-_, _*_, _/_, _%_, _^_, _≤_, _<_, min, max}
 use native.Mathlib.Nat.{div-eq-of-lt, div-div-eq-div-mul, pow-suc, mul-comm, zero-div, div-one}
 use native.Mathlib.Omega.{arith}
@@ -208,11 +208,7 @@ lane-off k x i h l =
     ∙ ap (λ (u : Bool). bit k x && u) (bit-not 64 k (1 * 2 ^ i % 2 ^ 64) h (omega arith) ∙ ap not (bit-shl k i l))
 
 pub lane-gone : (x i : ℕ) → i < 64 → bit i (without x i) ≡ false
-lane-gone x i h = lane-off i x i h h ∙ ap (λ (v : Bool). bit i x && not v) (eq-eqb i i refl) ∙ none (bit i x)
-  where
-    none : (u : Bool) → (u && false) ≡ false
-    none true = refl
-    none false = refl
+lane-gone x i h = lane-off i x i h h ∙ ap (λ (v : Bool). bit i x && not v) (eq-eqb i i refl) ∙ and-false (bit i x)
 
 pub lane-less : (x i : ℕ) → i < 64 → bit i x ≡ true → without x i < x
 lane-less x i h e = let l : without x i ≤ x = and-le-l x (18446744073709551615 - 1 * 2 ^ i % 2 ^ 64) in let n : without x i ≡ x → ⊥ = differs in omega arith

@@ -1,8 +1,7 @@
-use Prim.Native.Nat.{_-_}
 use mathlib.Core.Path.{refl}
 use denote.Ref.{now}
 use Rattle.sheet.specs.RuleSheet.{requiredOf}
-use Rattle.accepted.proofs.Done.{told-are, heard-firsts, round-done}
+use Rattle.accepted.proofs.Done.{verdicts-small, heard-firsts, round-done}
 use borrow.Author.Needs.{needs}
 use Rattle.accepted.proofs.round.Statement.{statement}
 use Rattle.accepted.proofs.round.Tie as tie
@@ -32,7 +31,7 @@ with-round-requires c κs =
     let p = a .pre in
     let d = c .before .before .before .before .before .step in
     let t = c .before .round-verdicts .ensures (heard-firsts x (p .0) (now (a .args .storage)) (d .last .0) (a .args .r .rounds) (c .before .before .before .before .before .before .before .before .before .before .before .before .letters-of .result) (d .ensures (requiredOf (x .assumed)))) in
-    (p .0 .ranges .outputs, p .1 .right, p .1 .room, t .size, told-are _ _ _ t)
+    (p .0 .ranges .outputs, p .1 .right, p .1 .room, t .size, verdicts-small _ _ _ t)
 
 same-length : tie.Need-same-length
 same-length c = search needs

@@ -1,6 +1,6 @@
 use lib.Pow.{pow-mono}
 use borrow.Author.Tests.{le-leb, lt-leb}
-use Prim.Native.Nat.{_-_, _≤_, _^_}
+use Prim.Native.Nat.{_≤_, _^_}
 use native.Mathlib.Omega.{arith}
 use Rattle.letters.specs.Masks.{badMasks}
 use borrow.Author.Needs.{needs}

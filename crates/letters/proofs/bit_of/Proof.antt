@@ -1,4 +1,3 @@
-use Prim.Native.Nat.{_-_}
 use mathlib.Core.Path.{refl}
 use Rattle.words.specs.Bits.{bit, digit}
 use borrow.Author.Needs.{needs}

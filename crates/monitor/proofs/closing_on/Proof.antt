@@ -1,4 +1,3 @@
-use Prim.Native.Nat.{_-_}
 use denote.Ref.{now}
 use Rattle.sheet.specs.Reading.{ruleSheet}
 use Rattle.checks.specs.Checks.{given}

@@ -1,5 +1,4 @@
 use borrow.Author.Tests.{ne-eqb}
-use Prim.Native.Nat.{_-_}
 use native.Mathlib.Omega.{arith}
 use borrow.Author.Needs.{needs}
 use Rattle.record.proofs.place_of.Statement.{statement}

@@ -1,4 +1,3 @@
-use Prim.Native.Nat.{_-_}
 use native.Mathlib.Omega.{arith}
 use Rattle.record.specs.Record.{share}
 use Rattle.record.proofs.Tallies.{share-small}

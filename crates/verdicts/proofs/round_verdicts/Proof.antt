@@ -1,7 +1,7 @@
 -- `verdicts::round_verdicts` meets its contract. Assumes nothing.
 use native.Mathlib.Omega.{arith}
 use borrow.Author.Needs.{needs}
-use Rattle.verdicts.proofs.VerdictLaws.{told-as, firsts-verdict}
+use Rattle.verdicts.proofs.VerdictLaws.{verdicts-as, firsts-verdict}
 use Rattle.verdicts.proofs.round_verdicts.Statement.{statement}
 use Rattle.verdicts.proofs.round_verdicts.Tie as tie
 
@@ -23,7 +23,7 @@ verdicts-requires c κs = search needs
 returns : tie.Need-returns
 returns c = λ h.
     let v = c .before .before .before .before .valuations .ensures .0 in
-    told-as _ _ _ _ (λ k l. firsts-verdict _ _ _ _ _ _ _ v (omega (arith, v, c .before .before .before .row-words .ensures .under)) h (c .before .before .firsts .ensures)) (c .verdicts .ensures)
+    verdicts-as _ _ _ _ (λ k l. firsts-verdict _ _ _ _ _ _ _ v (omega (arith, v, c .before .before .before .row-words .ensures .under)) h (c .before .before .firsts .ensures)) (c .verdicts .ensures)
 
 pub round-verdicts-spec : {M : Type 1} → statement M
 round-verdicts-spec =

@@ -3,7 +3,8 @@ use mathlib.Core.Logic.{inl, inr, ⊎-elim}
 use lib.ListN.{getD}
 use borrow.Author.Needs.{needs}
 use Rattle.words.specs.Bits.{bit, digit}
-use Rattle.trace.proofs.Flips.{same-values, other-values, put-byte}
+use Rattle.words.proofs.Bools.{beq-eq}
+use Rattle.trace.proofs.Flips.{other-values, put-byte}
 use Rattle.trace.proofs.place.put_bit.Statement.{statement}
 use Rattle.trace.proofs.place.put_bit.Tie as tie
 
@@ -35,7 +36,7 @@ returns c =
     let a = st .args in
     let was = bit (a .s) (getD (a .buf .now) (a .i) 0) in
     put-byte _ _ _ _ _ (st .pre .0) (st .pre .1)
-    (⊎-elim (λ w. inl (w .1, same-values was (a .v) (w .0 .taken))) (λ w. inr (w .1, other-values was (a .v) (w .0 .left))) (c .before .if1 .came))
+    (⊎-elim (λ w. inl (w .1, beq-eq was (a .v) (w .0 .taken))) (λ w. inr (w .1, other-values was (a .v) (w .0 .left))) (c .before .if1 .came))
 
 pub put-bit-spec : {M : Type 1} → statement M
 put-bit-spec =

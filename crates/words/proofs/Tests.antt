@@ -1,7 +1,7 @@
--- Tests as facts: conjunction, disjunction, negation.
-use mathlib.Core.Bool.{Bool, true, false, not, _&&_, _||_}
+-- Tests as facts: conjunction, disjunction, negation. Assumes nothing.
+use mathlib.Core.Bool.{Bool, true, false, not, _&&_, _||_, false≢true}
 use mathlib.Core.Logic.{_⊎_, inl, inr}
-use mathlib.Core.Path.{_≡_, refl}
+use mathlib.Core.Path.{_≡_, refl, sym}
 use lib.Dec.{T}
 
 pub and-left : (a b : Bool) → T (a && b) → T a
@@ -44,3 +44,13 @@ not-fails false f = tt
 pub true-of : (b : Bool) → T b → b ≡ true
 true-of true t = refl
 true-of false t = absurd t
+
+pub of-true : (b : Bool) → b ≡ true → T b
+of-true true e = tt
+of-true false e = absurd (false≢true e)
+
+-- equal, by both ways
+pub same-test : (a b : Bool) → (T a → T b) → (T b → T a) → a ≡ b
+same-test true b f g = sym (true-of b (f tt))
+same-test false true f g = absurd (g tt)
+same-test false false f g = refl

@@ -177,7 +177,7 @@ fn settle_more(
     settle(&lead, settled)
 }
 
-// Sweeps up and down by turns until all outputs are settled; whether they are. Two sweeps settle one output at least.
+// Sweeps up and down by turns, at most 14, until all outputs are settled; whether they are.
 fn sweeps(
     code: &[u8],
     len: &[usize],

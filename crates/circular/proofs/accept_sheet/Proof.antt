@@ -18,7 +18,9 @@ cast-n c = search needs
 
 is-circular-requires : tie.Need-is-circular-requires
 is-circular-requires c κs =
-    let u = rw (c .before .before .before .before .before .enum-told .given .1) at (c .before .before .before .before .before .before .before .read-sheet .ensures .1 .0) in
+    let after-enum-told = c .before .before .before .before .before in
+    let after-read-sheet = after-enum-told .before .before in
+    let u = rw (after-enum-told .enum-told .given .1) at (after-read-sheet .read-sheet .ensures .1 .0) in
     (u .ranges .inputs, u .ranges .outputs, u .room, u .sizes, u .small)
 
 refused-sheet-requires : tie.Need-refused-sheet-requires

@@ -38,15 +38,21 @@ cast-check-outputs c = search needs
 
 check-outputs-requires : tie.Need-check-outputs-requires
 check-outputs-requires c κs =
-    let a = c .before .before .before .before .before .before .before .before .before .args .t1 in
-    (counts (a .inputs) (a .outputs) (sym (c .before .before .before .before .before .before .before .before .counts-fit .ensures) ∙ not-false _ (c .before .before .before .before .before .before .before .if1 .left)) .outputs, search needs, search needs)
+    let after-if1 = c .before .before .before .before .before .before .before in
+    let after-counts-fit = after-if1 .before in
+    let a = after-counts-fit .before .args .t1 in
+    (counts (a .inputs) (a .outputs) (sym (after-counts-fit .counts-fit .ensures) ∙ not-false _ (after-if1 .if1 .left)) .outputs, search needs, search needs)
 
 returns-3 : tie.Need-returns-3
 unfolding formOf
 returns-3 c =
-    let a = c .before .before .before .before .before .before .before .before .before .before .args .t1 in
-    let m = sym (c .before .before .before .before .before .before .before .before .before .counts-fit .ensures) ∙ not-false _ (c .before .before .before .before .before .before .before .before .if1 .left) in
-    let n = sym (c .before .before .before .before .before .before .before .assumed-fits .ensures) ∙ not-false _ (c .before .before .before .before .before .before .if2 .left) in
+    let after-if2 = c .before .before .before .before .before .before in
+    let after-assumed-fits = after-if2 .before in
+    let after-if1 = after-assumed-fits .before in
+    let after-counts-fit = after-if1 .before in
+    let a = after-counts-fit .before .args .t1 in
+    let m = sym (after-counts-fit .counts-fit .ensures) ∙ not-false _ (after-if1 .if1 .left) in
+    let n = sym (after-assumed-fits .assumed-fits .ensures) ∙ not-false _ (after-if2 .if2 .left) in
     let room : length (a .code) ≡ 448 = search needs in
     let sizes : length (a .len) ≡ 7 = search needs in
     (rw (m, n) (c .check-outputs .ensures), when-so _ _ (λ e. checked-usable a room sizes m n (sym (c .check-outputs .ensures) ∙ e)))

@@ -48,7 +48,10 @@ loop-less c = search needs
 
 loop-again : tie.Need-loop-again Inv-loop μ-loop
 loop-again c =
-    (omega arith, covers-more _ _ _ _ _ _ (c .before .before .before .before .loop .inv .1) (c .expression-mask .ensures _ _ (part-parses _ _ _ _ (c .before .before .before .before .before .before .before .pre) _ (c .before .before .before .loop-test .taken))))
+    let tested = c .before .before .before in
+    let turn = tested .before in
+    let start = turn .before .before .before in
+    (omega arith, covers-more _ _ _ _ _ _ (turn .loop .inv .1) (c .expression-mask .ensures _ _ (part-parses _ _ _ _ (start .pre) _ (tested .loop-test .taken))))
 
 wide-requires : tie.Need-wide-requires Inv-loop μ-loop
 wide-requires c κs = search needs

@@ -22,8 +22,11 @@ same-length-2 : tie.Need-same-length-2
 same-length-2 c = search needs
 
 returns : tie.Need-returns
-returns c = λ p h ks j i g l.
-    c .before .before .before .before .equations-row .ensures .lanes j i g l ∙ look-holds _ _ _ _ (c .before .before .before .before .before .before .before .before .before .before .before .pre .0) _ _ _ _ (ender-look _ p 0 (seen-alone _ p h) (64 * j + i)) ks
+returns c =
+    let after-equations-row = c .before .before .before .before in
+    let start = after-equations-row .before .before .before .before .before .before .before in
+    λ p h ks j i g l.
+    after-equations-row .equations-row .ensures .lanes j i g l ∙ look-holds _ _ _ _ (start .pre .0) _ _ _ _ (ender-look _ p 0 (seen-alone _ p h) (64 * j + i)) ks
 
 pub enders-spec : {M : Type 1} → statement M
 enders-spec =

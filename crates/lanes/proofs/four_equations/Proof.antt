@@ -45,16 +45,32 @@ slice-aggregate-four-value : tie.Need-slice-aggregate-four-value Inv-loop μ-loo
 slice-aggregate-four-value c = search needs
 
 sub-four-value : tie.Need-sub-four-value Inv-loop μ-loop
-sub-four-value c = omega (arith, part-room _ _ _ _ (c .before .before .before .before .before .before .before .before .before .before .before .before .before .pre .0) (c .before .before .before .before .loop .k) (c .before .before .before .loop-test .taken))
+sub-four-value c =
+    let tested = c .before .before .before in
+    let turn = tested .before in
+    let start = turn .before .before .before .before .before .before .before .before .before in
+    omega (arith, part-room _ _ _ _ (start .pre .0) (turn .loop .k) (tested .loop-test .taken))
 
 part-four-value-start : tie.Need-part-four-value-start Inv-loop μ-loop
-part-four-value-start c = omega (arith, part-room _ _ _ _ (c .before .before .before .before .before .before .before .before .before .before .before .before .before .pre .0) (c .before .before .before .before .loop .k) (c .before .before .before .loop-test .taken))
+part-four-value-start c =
+    let tested = c .before .before .before in
+    let turn = tested .before in
+    let start = turn .before .before .before .before .before .before .before .before .before in
+    omega (arith, part-room _ _ _ _ (start .pre .0) (turn .loop .k) (tested .loop-test .taken))
 
 part-four-value-end : tie.Need-part-four-value-end Inv-loop μ-loop
-part-four-value-end c = omega (arith, part-room _ _ _ _ (c .before .before .before .before .before .before .before .before .before .before .before .before .before .pre .0) (c .before .before .before .before .loop .k) (c .before .before .before .loop-test .taken))
+part-four-value-end c =
+    let tested = c .before .before .before in
+    let turn = tested .before in
+    let start = turn .before .before .before .before .before .before .before .before .before in
+    omega (arith, part-room _ _ _ _ (start .pre .0) (turn .loop .k) (tested .loop-test .taken))
 
 four-value-requires : tie.Need-four-value-requires Inv-loop μ-loop
-four-value-requires c κs = (simp length-take (omega (arith, part-room _ _ _ _ (c .before .before .before .before .before .before .before .before .before .before .before .before .before .before .pre .0) (c .before .before .before .before .before .loop .k) (c .before .before .before .before .loop-test .taken))), omega arith, omega arith)
+four-value-requires c κs =
+    let tested = c .before .before .before .before in
+    let turn = tested .before in
+    let start = turn .before .before .before .before .before .before .before .before .before in
+    (simp length-take (omega (arith, part-room _ _ _ _ (start .pre .0) (turn .loop .k) (tested .loop-test .taken))), omega arith, omega arith)
 
 slice-aggregate-keep-row : tie.Need-slice-aggregate-keep-row Inv-loop μ-loop
 slice-aggregate-keep-row c = search needs
@@ -75,8 +91,15 @@ same-length-2 : tie.Need-same-length-2 Inv-loop μ-loop
 same-length-2 c = search needs
 
 returns : tie.Need-returns Inv-loop μ-loop
-returns c = agree-stop _ _ _ _ _ _ _ _ _ (c .before .before .before .before .before .before .before .before .before .before .before .before .before .before .before .before .before .before .loop .k + 1) (omega arith)
-    (agree-more _ _ _ _ _ _ _ _ _ _ _ _ _ (c .before .before .before .before .before .before .before .before .before .before .before .before .before .before .before .before .before .before .before .before .before .before .before .before .before .before .before .pre .0) (c .before .before .before .before .before .before .before .before .before .before .before .before .before .before .before .before .before .loop-test .taken) (c .before .before .before .before .before .before .before .before .before .before .before .before .before .before .before .before .before .before .loop .inv .4) (c .before .before .before .before .before .before .before .before .before .before .before .before .four-value .ensures) (c .before .before .before .before .before .before .output-stream .ensures) (c .before .before .before .before .before .keep-row .ensures))
+returns c =
+    let after-keep-row = c .before .before .before .before .before in
+    let after-output-stream = after-keep-row .before in
+    let after-four-value = after-output-stream .before .before .before .before .before .before in
+    let tested = after-four-value .before .before .before .before .before in
+    let turn = tested .before in
+    let start = turn .before .before .before .before .before .before .before .before .before in
+    agree-stop _ _ _ _ _ _ _ _ _ (turn .loop .k + 1) (omega arith)
+    (agree-more _ _ _ _ _ _ _ _ _ _ _ _ _ (start .pre .0) (tested .loop-test .taken) (turn .loop .inv .4) (after-four-value .four-value .ensures) (after-output-stream .output-stream .ensures) (after-keep-row .keep-row .ensures))
     (c .before .is-empty .ensures (c .if1 .taken))
 
 add-k : tie.Need-add-k Inv-loop μ-loop
@@ -86,7 +109,14 @@ loop-less : tie.Need-loop-less Inv-loop μ-loop
 loop-less c = search needs
 
 loop-again : tie.Need-loop-again Inv-loop μ-loop
-loop-again c = (omega arith, omega arith, omega arith, omega arith, agree-more _ _ _ _ _ _ _ _ _ _ _ _ _ (c .before .before .before .before .before .before .before .before .before .before .before .before .before .before .before .before .before .before .before .before .before .before .before .before .before .before .before .pre .0) (c .before .before .before .before .before .before .before .before .before .before .before .before .before .before .before .before .before .loop-test .taken) (c .before .before .before .before .before .before .before .before .before .before .before .before .before .before .before .before .before .before .loop .inv .4) (c .before .before .before .before .before .before .before .before .before .before .before .before .four-value .ensures) (c .before .before .before .before .before .before .output-stream .ensures) (c .before .before .before .before .before .keep-row .ensures))
+loop-again c =
+    let after-keep-row = c .before .before .before .before .before in
+    let after-output-stream = after-keep-row .before in
+    let after-four-value = after-output-stream .before .before .before .before .before .before in
+    let tested = after-four-value .before .before .before .before .before in
+    let turn = tested .before in
+    let start = turn .before .before .before .before .before .before .before .before .before in
+    (omega arith, omega arith, omega arith, omega arith, agree-more _ _ _ _ _ _ _ _ _ _ _ _ _ (start .pre .0) (tested .loop-test .taken) (turn .loop .inv .4) (after-four-value .four-value .ensures) (after-output-stream .output-stream .ensures) (after-keep-row .keep-row .ensures))
 
 same-length-3 : tie.Need-same-length-3 Inv-loop μ-loop
 same-length-3 c = search needs

@@ -57,11 +57,13 @@ loop-less c = search needs
 
 loop-again : tie.Need-loop-again Inv-loop μ-loop
 loop-again c =
-    writing-more _ _ _ _ _ (c .before .before .before .before .before .loop .inv) (omega arith)
+    let turn = c .before .before .before .before .before in
+    let start = turn .before .before .before in
+    writing-more _ _ _ _ _ (turn .loop .inv) (omega arith)
     (λ i h.
-    bit-and i (getD (c .before .before .before .before .before .loop .acc) (c .before .before .before .before .before .loop .j) 0) (c .alike .result)
-    ∙ ap₂ _&&_ (ap (bit i) (c .before .before .before .before .before .loop .inv .rest _ (omega arith)))
-    (c .alike .ensures i h ∙ ap (Bool·beq (bit i (getD (c .before .before .before .before .before .before .before .before .args .x .now) (c .before .before .before .before .before .loop .j) 0))) (c .before .here-word .ensures i h)))
+    bit-and i (getD (turn .loop .acc) (turn .loop .j) 0) (c .alike .result)
+    ∙ ap₂ _&&_ (ap (bit i) (turn .loop .inv .rest _ (omega arith)))
+    (c .alike .ensures i h ∙ ap (Bool·beq (bit i (getD (start .args .x .now) (turn .loop .j) 0))) (c .before .here-word .ensures i h)))
 
 same-length : tie.Need-same-length Inv-loop μ-loop
 same-length c = search needs

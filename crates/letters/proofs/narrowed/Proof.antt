@@ -27,14 +27,18 @@ agree-requires : tie.Need-agree-requires
 agree-requires c κs = search needs
 
 returns : tie.Need-returns
-returns c = λ l h.
-    let known = c .before .before .before .before .before .args .known in
-    let i = c .before .before .before .before .before .args .i in
+returns c =
+    let after-if1 = c .before .before .before in
+    let after-bit-of = after-if1 .before in
+    let start = after-bit-of .before in
+    λ l h.
+    let known = start .args .known in
+    let i = start .args .i in
     let zero : 64 * 0 + l ≡ l = omega arith in
-    bit-and l (c .before .before .before .before .before .args .set) (c .agree .result)
-    ∙ ap (λ (z : Bool). bit l (c .before .before .before .before .before .args .set) && z)
+    bit-and l (start .args .set) (c .agree .result)
+    ∙ ap (λ (z : Bool). bit l (start .args .set) && z)
     (c .agree .ensures l h ∙ ap₂ Bool·beq (c .before .stream-word .ensures l h ∙ ap (bit i) zero) (c .before .before .bit-of2 .ensures)
-    ∙ sym (ap (λ (z : Bool). cond z (Bool·beq (bit i l) (bit i (c .before .before .before .before .before .args .value))) true) (sym (c .before .before .before .before .bit-of .ensures) ∙ c .before .before .before .if1 .taken)))
+    ∙ sym (ap (λ (z : Bool). cond z (Bool·beq (bit i l) (bit i (start .args .value))) true) (sym (after-bit-of .bit-of .ensures) ∙ after-if1 .if1 .taken)))
 
 returns-2 : tie.Need-returns-2
 returns-2 c = λ l h.

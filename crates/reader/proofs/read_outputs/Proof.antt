@@ -66,10 +66,16 @@ enum-known-got-2 : tie.Need-enum-known-got-2 Inv-loop μ-loop
 enum-known-got-2 c = search needs
 
 same-length : tie.Need-same-length Inv-loop μ-loop
-same-length c = c .before .before .before .before .before .loop .inv .held .sizes ∙ sym (c .before .before .before .before .before .before .before .before .before .pre .2)
+same-length c =
+    let turn = c .before .before .before .before .before in
+    let start = turn .before .before .before .before in
+    turn .loop .inv .held .sizes ∙ sym (start .pre .2)
 
 same-length-2 : tie.Need-same-length-2 Inv-loop μ-loop
-same-length-2 c = c .before .before .before .before .before .loop .inv .held .room ∙ sym (c .before .before .before .before .before .before .before .before .before .pre .3)
+same-length-2 c =
+    let turn = c .before .before .before .before .before in
+    let start = turn .before .before .before .before in
+    turn .loop .inv .held .room ∙ sym (start .pre .3)
 
 returns : tie.Need-returns Inv-loop μ-loop
 returns c =
@@ -85,10 +91,12 @@ loop-less c = omega arith
 
 loop-again : tie.Need-loop-again Inv-loop μ-loop
 loop-again c =
-    let p = c .before .before .before .before .before .before .before .before .before .before in
+    let after-got = c .before .before .before .before .before .before in
+    let after-read-output = after-got .before .before in
+    let p = after-read-output .before .before in
     let a = p .before .before .before .before .args in
     next (now (a .s)) (a .streams) (a .n) (p .loop .len) (p .loop .code) (p .loop .at) (p .loop .k) (p .loop .inv)
-    (omega arith) (omega arith) _ (sym (c .before .before .before .before .before .before .before .before .read-output .ensures) ∙ c .before .before .before .before .before .before .got .given .1) (c .before .before .put .last .0) (rw add-sub-cancel-left at (c .before .before .put .ensures))
+    (omega arith) (omega arith) _ (sym (after-read-output .read-output .ensures) ∙ after-got .got .given .1) (c .before .before .put .last .0) (rw add-sub-cancel-left at (c .before .before .put .ensures))
 
 same-length-3 : tie.Need-same-length-3 Inv-loop μ-loop
 same-length-3 c = c .before .before .loop .inv .held .sizes ∙ sym (c .before .before .before .before .before .before .pre .2)

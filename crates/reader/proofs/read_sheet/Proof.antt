@@ -51,8 +51,10 @@ refused-sheet-requires-2 c κs = search needs
 returns : tie.Need-returns
 unfolding readSheet
 returns c =
-    let e = sym (c .before .before .before .before .before .before .before .before .before .before .read-header .ensures) ∙ c .before .before .before .before .before .before .before .before .h .given .1 in
-    let d = c .before .before .before .before .before .before .before .before .h .given .0 in
+    let after-h = c .before .before .before .before .before .before .before .before in
+    let after-read-header = after-h .before .before in
+    let e = sym (after-read-header .read-header .ensures) ∙ after-h .h .given .1 in
+    let d = after-h .h .given .0 in
     let f = fields _ _ _ _ e in
     let r = c .before .before .before .before .read-outputs in
     let t = c .enum-told .given .1 in (
@@ -63,8 +65,10 @@ returns c =
 returns-2 : tie.Need-returns-2
 unfolding readSheet
 returns-2 c =
-    let e = sym (c .before .before .before .before .before .before .before .before .before .before .before .before .read-header .ensures) ∙ c .before .before .before .before .before .before .before .before .before .before .h .given .1 in
-    let d = c .before .before .before .before .before .before .before .before .before .before .h .given .0 in
+    let after-h = c .before .before .before .before .before .before .before .before .before .before in
+    let after-read-header = after-h .before .before in
+    let e = sym (after-read-header .read-header .ensures) ∙ after-h .h .given .1 in
+    let d = after-h .h .given .0 in
     let r = c .before .before .before .before .before .before .read-outputs in
     let t = c .before .before .outcome .given .1 in
     let n = c .refused-sheet .ensures in (

@@ -27,24 +27,38 @@ place-of-requires : tie.Need-place-of-requires Inv-loop μ-loop
 place-of-requires c κs = (omega arith, c .before .before .before .before .before .pre .3 .are (c .before .before .loop .k) (omega arith))
 
 mul-counts : tie.Need-mul-counts Inv-loop μ-loop
-mul-counts c = omega (arith, column-lt (getD (now (c .before .before .before .before .before .before .args .verdicts)) (c .before .before .before .loop .k) 0) (c .before .before .before .before .before .before .pre .3 .are (c .before .before .before .loop .k) (omega arith)))
+mul-counts c =
+    let turn = c .before .before .before in
+    let start = turn .before .before .before in
+    omega (arith, column-lt (getD (now (start .args .verdicts)) (turn .loop .k) 0) (start .pre .3 .are (turn .loop .k) (omega arith)))
 
 slice-read-counts : tie.Need-slice-read-counts Inv-loop μ-loop
-slice-read-counts c = omega (arith, column-lt (getD (now (c .before .before .before .before .before .before .before .args .verdicts)) (c .before .before .before .before .loop .k) 0) (c .before .before .before .before .before .before .before .pre .3 .are (c .before .before .before .before .loop .k) (omega arith)))
+slice-read-counts c =
+    let turn = c .before .before .before .before in
+    let start = turn .before .before .before in
+    omega (arith, column-lt (getD (now (start .args .verdicts)) (turn .loop .k) 0) (start .pre .3 .are (turn .loop .k) (omega arith)))
 
 add-counts : tie.Need-add-counts Inv-loop μ-loop
 add-counts c =
-    let v = getD (now (c .before .before .before .before .before .before .before .args .verdicts)) (c .before .before .before .before .loop .k) 0 in
-    let at = 4 * c .before .before .before .before .loop .k + columnNo v in
-    let l = column-lt v (c .before .before .before .before .before .before .before .pre .3 .are (c .before .before .before .before .loop .k) (omega arith)) in
+    let turn = c .before .before .before .before in
+    let start = turn .before .before .before in
+    let v = getD (now (start .args .verdicts)) (turn .loop .k) 0 in
+    let at = 4 * turn .loop .k + columnNo v in
+    let l = column-lt v (start .pre .3 .are (turn .loop .k) (omega arith)) in
     rw (c .before .place-of .ensures)
-    (omega (arith, c .before .before .before .before .loop .inv .2 .beyond at (omega arith), c .before .before .before .before .before .before .before .pre .3 .low at (omega arith)))
+    (omega (arith, turn .loop .inv .2 .beyond at (omega arith), start .pre .3 .low at (omega arith)))
 
 mul-counts-2 : tie.Need-mul-counts-2 Inv-loop μ-loop
-mul-counts-2 c = omega (arith, column-lt (getD (now (c .before .before .before .before .before .before .before .args .verdicts)) (c .before .before .before .before .loop .k) 0) (c .before .before .before .before .before .before .before .pre .3 .are (c .before .before .before .before .loop .k) (omega arith)))
+mul-counts-2 c =
+    let turn = c .before .before .before .before in
+    let start = turn .before .before .before in
+    omega (arith, column-lt (getD (now (start .args .verdicts)) (turn .loop .k) 0) (start .pre .3 .are (turn .loop .k) (omega arith)))
 
 slice-write-counts : tie.Need-slice-write-counts Inv-loop μ-loop
-slice-write-counts c = omega (arith, column-lt (getD (now (c .before .before .before .before .before .before .before .args .verdicts)) (c .before .before .before .before .loop .k) 0) (c .before .before .before .before .before .before .before .pre .3 .are (c .before .before .before .before .loop .k) (omega arith)))
+slice-write-counts c =
+    let turn = c .before .before .before .before in
+    let start = turn .before .before .before in
+    omega (arith, column-lt (getD (now (start .args .verdicts)) (turn .loop .k) 0) (start .pre .3 .are (turn .loop .k) (omega arith)))
 
 add-k : tie.Need-add-k Inv-loop μ-loop
 add-k c = omega arith
@@ -54,12 +68,13 @@ loop-less c = omega arith
 
 loop-again : tie.Need-loop-again Inv-loop μ-loop
 loop-again c =
-    let vs = now (c .before .before .before .before .before .before .before .args .verdicts) in
+    let start = c .before .before .before .before .before .before .before in
+    let vs = now (start .args .verdicts) in
     let p = c .before .before .before .before in
     rw (c .before .place-of .ensures) (
       omega arith,
       length-set (p .loop .counts) _ _ ∙ p .loop .inv .1,
-      counted-more (p .loop .k) vs (now (c .before .before .before .before .before .before .before .args .counts)) (p .loop .counts) (omega arith) (c .before .before .before .before .before .before .before .pre .3 .are (p .loop .k) (omega arith)) (p .loop .inv .2),
+      counted-more (p .loop .k) vs (now (start .args .counts)) (p .loop .counts) (omega arith) (start .pre .3 .are (p .loop .k) (omega arith)) (p .loop .inv .2),
     )
 
 same-length : tie.Need-same-length Inv-loop μ-loop

@@ -36,9 +36,12 @@ sum-at-requires c κs = (omega arith, search needs)
 
 returns-2 : tie.Need-returns-2 Inv-loop μ-loop
 returns-2 c =
-    sym (by-counts (c .before .before .before .before .before .before .before .before .before .args .n) (c .before .before .before .before .before .before .before .before .before .args .r) false (omega arith)
-    (add-up-not (c .before .before .before .before .before .before .before .before .before .args .r .counts) (c .before .before .before .before .before .before .before .before .before .args .r .rounds) (c .before .before .before .before .loop .k) (c .before .before .before .before .before .before .before .before .before .args .n) (omega arith)
-    (λ e. c .if2 .taken (c .before .sum-at .ensures ∙ e ∙ sym (c .before .before .before .before .before .before .wide .ensures)))))
+    let turn = c .before .before .before .before in
+    let after-wide = turn .before .before in
+    let start = after-wide .before .before .before in
+    sym (by-counts (start .args .n) (start .args .r) false (omega arith)
+    (add-up-not (start .args .r .counts) (start .args .r .rounds) (turn .loop .k) (start .args .n) (omega arith)
+    (λ e. c .if2 .taken (c .before .sum-at .ensures ∙ e ∙ sym (after-wide .wide .ensures)))))
 
 add-k : tie.Need-add-k Inv-loop μ-loop
 add-k c = omega arith
@@ -47,7 +50,11 @@ loop-less : tie.Need-loop-less Inv-loop μ-loop
 loop-less c = omega arith
 
 loop-again : tie.Need-loop-again Inv-loop μ-loop
-loop-again c = (omega arith, add-up-more (c .before .before .before .before .before .before .before .before .before .args .r .counts) (c .before .before .before .before .before .before .wide .result) (c .before .before .before .before .loop .k) (sym (c .before .sum-at .ensures) ∙ c .if2 .left) (c .before .before .before .before .loop .inv .1))
+loop-again c =
+    let turn = c .before .before .before .before in
+    let after-wide = turn .before .before in
+    let start = after-wide .before .before .before in
+    (omega arith, add-up-more (start .args .r .counts) (after-wide .wide .result) (turn .loop .k) (sym (c .before .sum-at .ensures) ∙ c .if2 .left) (turn .loop .inv .1))
 
 returns-3 : tie.Need-returns-3 Inv-loop μ-loop
 returns-3 c =

@@ -35,7 +35,10 @@ wide-requires-2 : tie.Need-wide-requires-2
 wide-requires-2 c κs = search needs
 
 add-result : tie.Need-add-result
-add-result c = omega (arith, c .wide2 .ensures, c .before .before .wide .ensures, c .before .shared-slice-known3 .given (4 * c .before .before .before .before .before .args .k + 1), c .before .before .before .shared-slice-known2 .given (4 * c .before .before .before .before .before .args .k))
+add-result c =
+    let after-shared-slice-known2 = c .before .before .before in
+    let start = after-shared-slice-known2 .before .before in
+    omega (arith, c .wide2 .ensures, c .before .before .wide .ensures, c .before .shared-slice-known3 .given (4 * start .args .k + 1), after-shared-slice-known2 .shared-slice-known2 .given (4 * start .args .k))
 
 add-wide-2 : tie.Need-add-wide-2
 add-wide-2 c = search needs
@@ -50,7 +53,11 @@ wide-requires-3 : tie.Need-wide-requires-3
 wide-requires-3 c κs = search needs
 
 add-result-2 : tie.Need-add-result-2
-add-result-2 c = omega (arith, c .before .shared-slice-known4 .given (4 * c .before .before .before .before .before .before .before .args .k + 2), c .before .before .before .shared-slice-known3 .given (4 * c .before .before .before .before .before .before .before .args .k + 1), c .before .before .before .before .before .shared-slice-known2 .given (4 * c .before .before .before .before .before .before .before .args .k))
+add-result-2 c =
+    let after-shared-slice-known3 = c .before .before .before in
+    let after-shared-slice-known2 = after-shared-slice-known3 .before .before in
+    let start = after-shared-slice-known2 .before .before in
+    omega (arith, c .before .shared-slice-known4 .given (4 * start .args .k + 2), after-shared-slice-known3 .shared-slice-known3 .given (4 * start .args .k + 1), after-shared-slice-known2 .shared-slice-known2 .given (4 * start .args .k))
 
 add-wide-3 : tie.Need-add-wide-3
 add-wide-3 c = search needs
@@ -65,10 +72,19 @@ wide-requires-4 : tie.Need-wide-requires-4
 wide-requires-4 c κs = search needs
 
 add-result-3 : tie.Need-add-result-3
-add-result-3 c = omega (arith, c .before .shared-slice-known5 .given (4 * c .before .before .before .before .before .before .before .before .before .args .k + 3), c .before .before .before .shared-slice-known4 .given (4 * c .before .before .before .before .before .before .before .before .before .args .k + 2), c .before .before .before .before .before .shared-slice-known3 .given (4 * c .before .before .before .before .before .before .before .before .before .args .k + 1), c .before .before .before .before .before .before .before .shared-slice-known2 .given (4 * c .before .before .before .before .before .before .before .before .before .args .k))
+add-result-3 c =
+    let after-shared-slice-known4 = c .before .before .before in
+    let after-shared-slice-known3 = after-shared-slice-known4 .before .before in
+    let after-shared-slice-known2 = after-shared-slice-known3 .before .before in
+    let start = after-shared-slice-known2 .before .before in
+    omega (arith, c .before .shared-slice-known5 .given (4 * start .args .k + 3), after-shared-slice-known4 .shared-slice-known4 .given (4 * start .args .k + 2), after-shared-slice-known3 .shared-slice-known3 .given (4 * start .args .k + 1), after-shared-slice-known2 .shared-slice-known2 .given (4 * start .args .k))
 
 returns : tie.Need-returns
-returns c = rw (c .before .before .before .before .before .before .wide .ensures, c .before .before .before .before .wide2 .ensures, c .before .before .wide3 .ensures, c .wide4 .ensures) (ap (λ (z : ℕ). getD (now (c .before .before .before .before .before .before .before .before .before .args .counts)) z 0 + getD (now (c .before .before .before .before .before .before .before .before .before .args .counts)) (4 * c .before .before .before .before .before .before .before .before .before .args .k + 1) 0 + getD (now (c .before .before .before .before .before .before .before .before .before .args .counts)) (4 * c .before .before .before .before .before .before .before .before .before .args .k + 2) 0 + getD (now (c .before .before .before .before .before .before .before .before .before .args .counts)) (4 * c .before .before .before .before .before .before .before .before .before .args .k + 3) 0) (omega arith))
+returns c =
+    let after-wide2 = c .before .before .before .before in
+    let after-wide = after-wide2 .before .before in
+    let start = after-wide .before .before .before in
+    rw (after-wide .wide .ensures, after-wide2 .wide2 .ensures, c .before .before .wide3 .ensures, c .wide4 .ensures) (ap (λ (z : ℕ). getD (now (start .args .counts)) z 0 + getD (now (start .args .counts)) (4 * start .args .k + 1) 0 + getD (now (start .args .counts)) (4 * start .args .k + 2) 0 + getD (now (start .args .counts)) (4 * start .args .k + 3) 0) (omega arith))
 
 pub sum-at-spec : {M : Type 1} → statement M
 sum-at-spec =

@@ -55,10 +55,11 @@ rounds-by-requires c κs = search needs
 
 returns : tie.Need-returns Inv-loop μ-loop
 returns c =
-    let ns = now (c .before .before .before .before .before .before .args .ns) in
+    let start = c .before .before .before .before .before .before in
+    let ns = now (start .args .ns) in
     let l = c .before .before .before .before .loop in
     let same : l .i ≡ 28 = omega arith in
-    let e : l .counts ≡ drop 2 ns = taken-all ns (l .counts) (c .before .before .before .before .before .before .pre) (rw same at (l .inv .1)) in
+    let e : l .counts ≡ drop 2 ns = taken-all ns (l .counts) (start .pre) (rw same at (l .inv .1)) in
     rw (e, c .rounds-by .ensures)
 
 pub load-spec : {M : Type 1} → statement M

@@ -32,17 +32,21 @@ put-numbers-requires c κs =
 
 same-length : tie.Need-same-length
 same-length c =
-    let a = c .before .before .before .before .before .before .before .before .args in
+    let after-mark-of = c .before .before .before .before .before in
+    let start = after-mark-of .before .before .before in
+    let a = start .args in
     let f : length (a .r .counts) ≡ 28 = search needs in
-    let d = set (set (now (a .ns)) 0 (a .r .rounds)) 1 (c .before .before .before .before .before .mark-of .result) in
+    let d = set (set (now (a .ns)) 0 (a .r .rounds)) 1 (after-mark-of .mark-of .result) in
     let e : length d ≡ length (now (a .ns)) = simp length-set (omega arith) in
-    ap length (c .before .before .put-numbers .ensures) ∙ length-paste d 2 (a .r .counts) 28 (omega (arith, e, c .before .before .before .before .before .before .before .before .pre)) (omega (arith, f)) ∙ e
+    ap length (c .before .before .put-numbers .ensures) ∙ length-paste d 2 (a .r .counts) 28 (omega (arith, e, start .pre)) (omega (arith, f)) ∙ e
 
 returns : tie.Need-returns
 returns c =
-    let a = c .before .before .before .before .before .before .before .before .args in
+    let after-mark-of = c .before .before .before .before .before in
+    let start = after-mark-of .before .before .before in
+    let a = start .args in
     let f : length (a .r .counts) ≡ 28 = search needs in
-    rw (sym (c .before .before .before .before .before .mark-of .ensures)) (stored-numbers (a .r .rounds) (c .before .before .before .before .before .mark-of .result) (now (a .ns)) (a .r .counts) (c .before .before .put-numbers .last .0) (c .before .before .before .before .before .before .before .before .pre) f (c .before .before .put-numbers .ensures))
+    rw (sym (after-mark-of .mark-of .ensures)) (stored-numbers (a .r .rounds) (after-mark-of .mark-of .result) (now (a .ns)) (a .r .counts) (c .before .before .put-numbers .last .0) (start .pre) f (c .before .before .put-numbers .ensures))
 
 pub store-spec : {M : Type 1} → statement M
 store-spec =

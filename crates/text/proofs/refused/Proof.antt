@@ -33,8 +33,11 @@ same-length c = search needs
 
 returns : tie.Need-returns
 returns c =
-    let w = wrote-then (c .before .before .before .before .before .before .before .bytes .ensures) (rw (c .before .before .before .refusal-number .ensures) at (c .before .before .decimal .ensures)) in
-    (w, omega (arith, w .end, decimal-length 2 _ (omega arith) (refusal-short (c .before .before .before .before .before .before .before .before .before .before .before .args .r))))
+    let after-refusal-number = c .before .before .before in
+    let after-bytes = after-refusal-number .before .before .before .before in
+    let start = after-bytes .before .before .before .before in
+    let w = wrote-then (after-bytes .bytes .ensures) (rw (after-refusal-number .refusal-number .ensures) at (c .before .before .decimal .ensures)) in
+    (w, omega (arith, w .end, decimal-length 2 _ (omega arith) (refusal-short (start .args .r))))
 
 pub refused-spec : {M : Type 1} → statement M
 refused-spec =

@@ -26,7 +26,10 @@ same-length : tie.Need-same-length
 same-length c = c .before .before .fill .ensures .len
 
 returns-2 : tie.Need-returns-2
-returns-2 c = (λ bs e. rw (c .before .before .before .before .enum-told .given .1) at (c .before .before .before .before .before .before .check-run .ensures .0 bs e), c .before .before .fill .ensures)
+returns-2 c =
+    let after-enum-told = c .before .before .before .before in
+    let after-check-run = after-enum-told .before .before in
+    (λ bs e. rw (after-enum-told .enum-told .given .1) at (after-check-run .check-run .ensures .0 bs e), c .before .before .fill .ensures)
 
 pub run-spec : {M : Type 1} → statement M
 run-spec =

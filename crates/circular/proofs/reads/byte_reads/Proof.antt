@@ -23,10 +23,18 @@ mul-result : tie.Need-mul-result
 mul-result c = search needs
 
 add-result : tie.Need-add-result
-add-result c = let low = rw (sym (c .before .before .before .before .before .operation .ensures) ∙ c .before .before .before .op .given .1) at (op-low (c .before .before .before .before .before .before .args .byte)) in omega (arith, place-le (c .before .before .before .op .given .0 .1 .0), c .offset-number .ensures)
+add-result c =
+    let after-op = c .before .before .before in
+    let after-operation = after-op .before .before in
+    let start = after-operation .before in
+    let low = rw (sym (after-operation .operation .ensures) ∙ after-op .op .given .1) at (op-low (start .args .byte)) in omega (arith, place-le (after-op .op .given .0 .1 .0), c .offset-number .ensures)
 
 shl-result : tie.Need-shl-result
-shl-result c = let low = rw (sym (c .before .before .before .before .before .operation .ensures) ∙ c .before .before .before .op .given .1) at (op-low (c .before .before .before .before .before .before .args .byte)) in omega (arith, place-le (c .before .before .before .op .given .0 .1 .0), c .offset-number .ensures)
+shl-result c =
+    let after-op = c .before .before .before in
+    let after-operation = after-op .before .before in
+    let start = after-operation .before in
+    let low = rw (sym (after-operation .operation .ensures) ∙ after-op .op .given .1) at (op-low (start .args .byte)) in omega (arith, place-le (after-op .op .given .0 .1 .0), c .offset-number .ensures)
 
 enum-told : tie.Need-enum-told
 enum-told c = search needs
@@ -44,9 +52,13 @@ enum-told-5 : tie.Need-enum-told-5
 enum-told-5 c = search needs
 
 returns : tie.Need-returns
-returns c = λ q o h.
-    let low = rw (sym (c .before .before .before .before .before .operation .ensures) ∙ c .before .before .before .op .given .1) at (op-low (c .before .before .before .before .before .before .args .byte)) in
-    rw (sym (c .before .before .before .before .before .operation .ensures) ∙ c .before .before .before .op .given .1) (read-word _ _ _ _ low (c .offset-number .ensures) q o h)
+returns c =
+    let after-op = c .before .before .before in
+    let after-operation = after-op .before .before in
+    let start = after-operation .before in
+    λ q o h.
+    let low = rw (sym (after-operation .operation .ensures) ∙ after-op .op .given .1) at (op-low (start .args .byte)) in
+    rw (sym (after-operation .operation .ensures) ∙ after-op .op .given .1) (read-word _ _ _ _ low (c .offset-number .ensures) q o h)
 
 returns-2 : tie.Need-returns-2
 unfolding opReads

@@ -22,8 +22,10 @@ same-length c = search needs
 
 returns : tie.Need-returns
 returns c =
-    let w = wrote-then (c .before .before .before .before .before .before .byte .ensures) (c .before .before .decimal .ensures) in
-    (w, omega (arith, w .end, decimal-length 10 (c .before .before .before .before .before .before .before .before .before .args .n) (omega arith) (omega arith)))
+    let after-byte = c .before .before .before .before .before .before in
+    let start = after-byte .before .before .before in
+    let w = wrote-then (after-byte .byte .ensures) (c .before .before .decimal .ensures) in
+    (w, omega (arith, w .end, decimal-length 10 (start .args .n) (omega arith) (omega arith)))
 
 pub spaced-spec : {M : Type 1} → statement M
 spaced-spec = tie.close (tie.spec byte-requires decimal-requires same-length returns)

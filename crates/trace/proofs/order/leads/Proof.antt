@@ -25,7 +25,10 @@ same-requires : tie.Need-same-requires Inv-loop μ-loop
 same-requires c κs = search needs
 
 returns : tie.Need-returns Inv-loop μ-loop
-returns c = steady-of _ _ (c .before .before .before .before .raise .result) _ _ _ (c .before .before .before .before .before .before .before .before .before .pre) (c .before .before .before .before .raise .ensures) (c .before .same .ensures (c .if1 .taken))
+returns c =
+    let after-raise = c .before .before .before .before in
+    let start = after-raise .before .before .before .before .before in
+    steady-of _ _ (after-raise .raise .result) _ _ _ (start .pre) (after-raise .raise .ensures) (c .before .same .ensures (c .if1 .taken))
 
 add-k : tie.Need-add-k Inv-loop μ-loop
 add-k c = omega arith

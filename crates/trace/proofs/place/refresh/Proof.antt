@@ -51,9 +51,11 @@ same-length c = search needs
 
 returns : tie.Need-returns
 returns c =
-    let st = c .before .before .before .before .before .before .before .before .before .before .before .before .before in
+    let after-value-bit = c .before .before .before .before in
+    let after-environment = after-value-bit .before .before .before in
+    let st = after-environment .before .before .before .before .before .before in
     let put = c .before .before .put-bit .ensures in
-    let right = place-value _ _ _ _ _ _ _ _ _ _ (st .pre .0) (st .pre .2) (c .before .before .before .before .before .before .before .environment .ensures) (c .before .before .before .before .value-bit .ensures) in
+    let right = place-value _ _ _ _ _ _ _ _ _ _ (st .pre .0) (st .pre .2) (after-environment .environment .ensures) (after-value-bit .value-bit .ensures) in
     (renewed-put _ _ _ _ _ _ _ _ put (st .pre .3) (st .pre .2) right, put .same)
 
 pub refresh-spec : {M : Type 1} → statement M

@@ -17,7 +17,11 @@ same-length : tie.Need-same-length
 same-length c = search needs
 
 returns : tie.Need-returns
-returns c = extends-sweep _ _ _ _ _ _ _ _ _ _ (c .before .before .before .before .before .before .before .before .before .before .before .before .pre .0 .outputs) (c .before .before .before .before .before .before .before .leads .ensures) (c .settle .ensures) (c .before .before .before .before .sweep .ensures)
+returns c =
+    let after-sweep = c .before .before .before .before in
+    let after-leads = after-sweep .before .before .before in
+    let start = after-leads .before .before .before .before .before in
+    extends-sweep _ _ _ _ _ _ _ _ _ _ (start .pre .0 .outputs) (after-leads .leads .ensures) (c .settle .ensures) (after-sweep .sweep .ensures)
 
 pub settle-more-spec : {M : Type 1} → statement M
 settle-more-spec =

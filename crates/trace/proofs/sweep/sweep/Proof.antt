@@ -42,7 +42,10 @@ loop-less : tie.Need-loop-less Inv-loop μ-loop
 loop-less c = search needs
 
 loop-again : tie.Need-loop-again Inv-loop μ-loop
-loop-again c = (omega arith, sweep-more _ _ _ _ _ _ _ _ (c .before .before .before .before .before .before .before .before .before .order-of .ensures) _ _ _ (c .before .before .before .before .before .before .loop .inv .1) (c .before .before .refresh-block .ensures))
+loop-again c =
+    let turn = c .before .before .before .before .before .before in
+    let after-order-of = turn .before .before .before in
+    (omega arith, sweep-more _ _ _ _ _ _ _ _ (after-order-of .order-of .ensures) _ _ _ (turn .loop .inv .1) (c .before .before .refresh-block .ensures))
 
 same-length : tie.Need-same-length Inv-loop μ-loop
 same-length c = c .before .loop .inv .1 .kept .len

@@ -49,10 +49,12 @@ same-length c = search needs
 
 returns : tie.Need-returns
 returns c =
+    let after-outcome = c .before .before .before .before .before in
+    let after-answer-closing = after-outcome .before .before in
     let r = c .before .before .refused-line .result in
-    let a = c .before .before .before .before .before .before .before .before .before .before .args in
+    let a = after-answer-closing .before .before .before .args in
     let f = c .before .before .refused-line .ensures in (
-      λ sheet b part o sv l. refused-ends sheet _ b _ part _ _ _ _ _ _ _ _ l (rw (c .before .before .before .before .before .outcome .given .1) at (c .before .before .before .before .before .before .before .answer-closing .ensures .0 sheet b o sv)) (f .0) (f .2),
+      λ sheet b part o sv l. refused-ends sheet _ b _ part _ _ _ _ _ _ _ _ l (rw (after-outcome .outcome .given .1) at (after-answer-closing .answer-closing .ensures .0 sheet b o sv)) (f .0) (f .2),
       over-bound (r .over) (r .record .closed) (a .journal .closed) (a .at) (r .at) (f .0) (f .1),
     )
 
@@ -61,9 +63,13 @@ same-length-2 c = search needs
 
 returns-2 : tie.Need-returns-2
 returns-2 c =
-    let k = rw (c .before .before .before .before .before .before .before .before .before .before .before .before .before .enum-told .given .1) at (c .before .before .before .before .before .before .before .before .before .before .before .before .before .before .before .answer-closing .ensures .1) in (
-      λ sheet b part o sv l. closing-ends sheet _ b _ part _ _ _ _ _ refl (c .next-line .ensures) _ _ _ _ (sheet-outputs (c .before .before .before .before .before .before .before .before .before .before .before .before .before .before .before .before .before .before .args .x)) (sym (k .2)) l (rw (c .before .before .before .before .before .before .before .before .before .before .before .before .before .enum-told .given .1) at (c .before .before .before .before .before .before .before .before .before .before .before .before .before .before .before .answer-closing .ensures .0 sheet b o sv)) (c .before .before .before .closing .ensures .0),
-      rw (k .0, k .1) (omega (arith, c .before .before .before .closing .ensures .1)),
+    let after-closing = c .before .before .before in
+    let after-enum-told = after-closing .before .before .before .before .before .before .before .before .before .before in
+    let after-answer-closing = after-enum-told .before .before in
+    let start = after-answer-closing .before .before .before in
+    let k = rw (after-enum-told .enum-told .given .1) at (after-answer-closing .answer-closing .ensures .1) in (
+      λ sheet b part o sv l. closing-ends sheet _ b _ part _ _ _ _ _ refl (c .next-line .ensures) _ _ _ _ (sheet-outputs (start .args .x)) (sym (k .2)) l (rw (after-enum-told .enum-told .given .1) at (after-answer-closing .answer-closing .ensures .0 sheet b o sv)) (after-closing .closing .ensures .0),
+      rw (k .0, k .1) (omega (arith, after-closing .closing .ensures .1)),
     )
 
 pub closing-line-spec : {M : Type 1} → statement M

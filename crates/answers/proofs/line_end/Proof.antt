@@ -52,10 +52,13 @@ same-length-4 c = search needs
 
 returns-4 : tie.Need-returns-4
 returns-4 c =
+    let after-if4 = c .before .before .before .before in
+    let after-if3 = after-if4 .before .before in
+    let after-if2 = after-if3 .before in
     let r = c .before .before .malformed-line2 .result in
-    let a = c .before .before .before .before .before .before .before .before .before .before .before .args in
+    let a = after-if2 .before .before .before .before .args in
     let f = c .before .before .malformed-line2 .ensures in
-    (λ sheet b part o sv h. malformed-ends sheet _ b _ part _ _ _ _ _ _ _ sv (scanned-short _ part _ h (c .before .before .before .before .before .before .before .if2 .left) (c .before .before .before .before .before .before .if3 .left) (c .before .before .before .before .if4 .taken)) (f .0) (f .2), over-bound (r .over) (r .record .closed) (a .journal .closed) (a .at) (r .at) (f .0) (f .1))
+    (λ sheet b part o sv h. malformed-ends sheet _ b _ part _ _ _ _ _ _ _ sv (scanned-short _ part _ h (after-if2 .if2 .left) (after-if3 .if3 .left) (after-if4 .if4 .taken)) (f .0) (f .2), over-bound (r .over) (r .record .closed) (a .journal .closed) (a .at) (r .at) (f .0) (f .1))
 
 round-line-requires : tie.Need-round-line-requires
 round-line-requires c κs = search needs
@@ -67,7 +70,12 @@ same-length-6 : tie.Need-same-length-6
 same-length-6 c = search needs
 
 returns-5 : tie.Need-returns-5
-returns-5 c = (λ sheet b part o sv h. c .before .before .before .before .round-line .ensures .0 sheet b part o sv (scanned-round _ part _ h (c .before .before .before .before .before .before .before .before .before .before .if2 .left) (c .before .before .before .before .before .before .before .before .before .if3 .left) (c .before .before .before .before .before .before .before .if4 .left)), c .before .before .before .before .round-line .ensures .1)
+returns-5 c =
+    let after-round-line = c .before .before .before .before in
+    let after-if4 = after-round-line .before .before .before in
+    let after-if3 = after-if4 .before .before in
+    let after-if2 = after-if3 .before in
+    (λ sheet b part o sv h. after-round-line .round-line .ensures .0 sheet b part o sv (scanned-round _ part _ h (after-if2 .if2 .left) (after-if3 .if3 .left) (after-if4 .if4 .left)), after-round-line .round-line .ensures .1)
 
 pub line-end-spec : {M : Type 1} → statement M
 line-end-spec =

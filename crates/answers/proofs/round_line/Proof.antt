@@ -31,8 +31,10 @@ cast-verdict-line c = search needs
 
 verdict-line-requires : tie.Need-verdict-line-requires
 verdict-line-requires c κs =
-    let k = rw (c .before .before .before .before .before .enum-told .given .1) at (c .before .before .before .before .before .before .before .before .before .answer-round .ensures .1) in
-    let n = c .before .before .before .before .before .before .before .before .before .before .before .before .before .pre .0 .ranges .outputs in
+    let after-enum-told = c .before .before .before .before .before in
+    let after-answer-round = after-enum-told .before .before .before .before in
+    let k = rw (after-enum-told .enum-told .given .1) at (after-answer-round .answer-round .ensures .1) in
+    let n = after-answer-round .before .before .before .before .pre .0 .ranges .outputs in
     (omega (arith, k .1), omega arith)
 
 next-line-requires : tie.Need-next-line-requires
@@ -46,10 +48,12 @@ same-length-2 c = search needs
 
 returns : tie.Need-returns
 returns c =
+    let after-outcome = c .before .before .before .before .before in
+    let after-answer-round = after-outcome .before .before .before .before in
     let r = c .before .before .refused-line .result in
-    let a = c .before .before .before .before .before .before .before .before .before .before .before .before .before .args in
+    let a = after-answer-round .before .before .before .before .args in
     let f = c .before .before .refused-line .ensures in (
-      λ sheet b part o sv l. refused-ends sheet _ b _ part _ _ _ _ _ _ _ _ l (rw (c .before .before .before .before .before .outcome .given .1) at (c .before .before .before .before .before .before .before .before .before .answer-round .ensures .0 sheet b o sv)) (f .0) (f .2),
+      λ sheet b part o sv l. refused-ends sheet _ b _ part _ _ _ _ _ _ _ _ l (rw (after-outcome .outcome .given .1) at (after-answer-round .answer-round .ensures .0 sheet b o sv)) (f .0) (f .2),
       over-bound (r .over) (r .record .closed) (a .journal .closed) (a .at) (r .at) (f .0) (f .1),
     )
 
@@ -61,10 +65,13 @@ same-length-4 c = search needs
 
 returns-2 : tie.Need-returns-2
 returns-2 c =
-    let k = rw (c .before .before .before .before .before .before .before .before .before .enum-told .given .1) at (c .before .before .before .before .before .before .before .before .before .before .before .before .before .answer-round .ensures .1) in
-    let n = c .before .before .before .before .before .before .before .before .before .before .before .before .before .before .before .before .before .pre .0 .ranges .outputs in (
-      λ sheet b part o sv l. round-ends sheet _ b _ part _ _ _ _ _ refl (c .next-line .ensures) _ _ l (rw (c .before .before .before .before .before .before .before .before .before .enum-told .given .1) at (c .before .before .before .before .before .before .before .before .before .before .before .before .before .answer-round .ensures .0 sheet b o sv)) (c .before .before .before .verdict-line .ensures .0),
-      rw (k .0) (omega (arith, c .before .before .before .verdict-line .ensures .1)),
+    let after-verdict-line = c .before .before .before in
+    let after-enum-told = after-verdict-line .before .before .before .before .before .before in
+    let after-answer-round = after-enum-told .before .before .before .before in
+    let k = rw (after-enum-told .enum-told .given .1) at (after-answer-round .answer-round .ensures .1) in
+    let n = after-answer-round .before .before .before .before .pre .0 .ranges .outputs in (
+      λ sheet b part o sv l. round-ends sheet _ b _ part _ _ _ _ _ refl (c .next-line .ensures) _ _ l (rw (after-enum-told .enum-told .given .1) at (after-answer-round .answer-round .ensures .0 sheet b o sv)) (after-verdict-line .verdict-line .ensures .0),
+      rw (k .0) (omega (arith, after-verdict-line .verdict-line .ensures .1)),
     )
 
 pub round-line-spec : {M : Type 1} → statement M

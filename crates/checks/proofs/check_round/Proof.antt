@@ -60,26 +60,34 @@ returns-4 c =
 
 returns-5 : tie.Need-returns-5
 returns-5 c =
-    let a = c .before .before .before .before .before .before .before .before .args in
+    let after-bad-masks = c .before .before .before in
+    let after-if3 = after-bad-masks .before in
+    let after-if2 = after-if3 .before in
+    let after-record-ok = after-if2 .before in
+    let a = after-record-ok .before .before .args in
     let g = given (a .lent) (a .r) (a .known) (a .value) in (
       past-storage (a .m) (a .n) g (tallies ∷ (closed ∷ (masks ∷ (full ∷ [])))) (Refused Full) (omega arith)
-          (past-record (a .m) (a .n) g (closed ∷ (masks ∷ (full ∷ []))) (Refused Full) (sym (c .before .before .before .before .before .before .record-ok .ensures) ∙ not-false _ (c .before .before .before .before .before .if2 .left))
-          (past-closed (a .m) (a .n) g (masks ∷ (full ∷ [])) (Refused Full) (c .before .before .before .before .if3 .left)
-          (past-masks (a .m) (a .n) g (full ∷ []) (Refused Full) (sym (c .before .before .before .bad-masks .ensures) ∙ c .before .before .if4 .left)
+          (past-record (a .m) (a .n) g (closed ∷ (masks ∷ (full ∷ []))) (Refused Full) (sym (after-record-ok .record-ok .ensures) ∙ not-false _ (after-if2 .if2 .left))
+          (past-closed (a .m) (a .n) g (masks ∷ (full ∷ [])) (Refused Full) (after-if3 .if3 .left)
+          (past-masks (a .m) (a .n) g (full ∷ []) (Refused Full) (sym (after-bad-masks .bad-masks .ensures) ∙ c .before .before .if4 .left)
           (is-full (a .m) (a .n) g (c .if5 .taken))))),
       tt,
     )
 
 returns-6 : tie.Need-returns-6
 returns-6 c =
-    let a = c .before .before .before .before .before .before .before .before .args in
+    let after-bad-masks = c .before .before .before in
+    let after-if3 = after-bad-masks .before in
+    let after-if2 = after-if3 .before in
+    let after-record-ok = after-if2 .before in
+    let a = after-record-ok .before .before .args in
     let g = given (a .lent) (a .r) (a .known) (a .value) in (
       past-storage (a .m) (a .n) g (tallies ∷ (closed ∷ (masks ∷ (full ∷ [])))) Accepted (omega arith)
-          (past-record (a .m) (a .n) g (closed ∷ (masks ∷ (full ∷ []))) Accepted (sym (c .before .before .before .before .before .before .record-ok .ensures) ∙ not-false _ (c .before .before .before .before .before .if2 .left))
-          (past-closed (a .m) (a .n) g (masks ∷ (full ∷ [])) Accepted (c .before .before .before .before .if3 .left)
-          (past-masks (a .m) (a .n) g (full ∷ []) Accepted (sym (c .before .before .before .bad-masks .ensures) ∙ c .before .before .if4 .left)
+          (past-record (a .m) (a .n) g (closed ∷ (masks ∷ (full ∷ []))) Accepted (sym (after-record-ok .record-ok .ensures) ∙ not-false _ (after-if2 .if2 .left))
+          (past-closed (a .m) (a .n) g (masks ∷ (full ∷ [])) Accepted (after-if3 .if3 .left)
+          (past-masks (a .m) (a .n) g (full ∷ []) Accepted (sym (after-bad-masks .bad-masks .ensures) ∙ c .before .before .if4 .left)
           (not-full (a .m) (a .n) g (c .if5 .left))))),
-      record { long = omega arith; right = sym (c .before .before .before .before .before .before .record-ok .ensures) ∙ not-false _ (c .before .before .before .before .before .if2 .left); shut = c .before .before .before .before .if3 .left; masks = sym (c .before .before .before .bad-masks .ensures) ∙ c .before .before .if4 .left; room = omega arith },
+      record { long = omega arith; right = sym (after-record-ok .record-ok .ensures) ∙ not-false _ (after-if2 .if2 .left); shut = after-if3 .if3 .left; masks = sym (after-bad-masks .bad-masks .ensures) ∙ c .before .before .if4 .left; room = omega arith },
     )
 
 pub check-round-spec : {M : Type 1} → statement M

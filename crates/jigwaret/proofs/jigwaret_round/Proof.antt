@@ -43,11 +43,15 @@ returns c =
 -- an accepted sheet is long enough to have a byte 6, which is at most 7
 long : (c : tie.After-enum-told) → 8 ≤ length (now (entry (c .before .before .before .before .before .before .before .before) .args .sheet))
 long c =
-    let a = entry (c .before .before .before .before .before .before .before .before) .args in
-    sheet-long (now (a .sheet)) (given (length (now (a .storage))) (c .before .before .before .before .before .before .load .result) (a .known) (a .value)) roundChecks (rw (c .enum-told .given .1) at (c .before .before .before .before .round .ensures .0))
+    let after-round = c .before .before .before .before in
+    let after-load = after-round .before .before in
+    let a = entry (after-load .before .before) .args in
+    sheet-long (now (a .sheet)) (given (length (now (a .storage))) (after-load .load .result) (a .known) (a .value)) roundChecks (rw (c .enum-told .given .1) at (after-round .round .ensures .0))
 
 few : (c : tie.After-enum-told) → outputsOf (now (entry (c .before .before .before .before .before .before .before .before) .args .sheet)) ≤ 7
-few c = few-outputs (now (entry (c .before .before .before .before .before .before .before .before) .args .sheet)) _ (rw (c .enum-told .given .1) at (c .before .before .before .before .round .ensures .1))
+few c =
+    let after-round = c .before .before .before .before in
+    few-outputs (now (entry (after-round .before .before .before .before) .args .sheet)) _ (rw (c .enum-told .given .1) at (after-round .round .ensures .1))
 
 load-requires : tie.Need-load-requires
 load-requires c κs = fits (c .before) .thirty

@@ -56,7 +56,10 @@ loop-again c =
     )
 
 line-end-requires : tie.Need-line-end-requires Inv-loop μ-loop
-line-end-requires c κs = let l = c .before .before .before .before .before .loop in (c .before .before .before .before .before .before .before .before .before .before .before .before .pre .0, omega (arith, l .inv .2, l .inv .3, c .before .before .before .before .loop-test .taken, c .before .before .before .before .before .before .before .before .before .before .before .before .pre .1))
+line-end-requires c κs =
+    let tested = c .before .before .before .before in
+    let start = tested .before .before .before .before .before .before .before .before in
+    let l = tested .before .loop in (start .pre .0, omega (arith, l .inv .2, l .inv .3, tested .loop-test .taken, start .pre .1))
 
 empty-requires : tie.Need-empty-requires Inv-loop μ-loop
 empty-requires c κs = search needs
@@ -69,18 +72,22 @@ same-length-2 c = search needs
 
 returns-2 : tie.Need-returns-2 Inv-loop μ-loop
 returns-2 c =
-    let l = c .before .before .before .before .before .before .before .before .before .before .before .before .before .loop in
+    let after-if2 = c .before .before .before .before .before .before .before .before .before .before in
+    let tested = after-if2 .before .before in
+    let after-if1 = tested .before .before in
+    let start = after-if1 .before .before .before .before .before .before in
+    let l = tested .before .loop in
     let e = c .before .before .before .before .before .before .before .line-end in (
       λ sheet seen wrote st.
-          let m = l .inv .5 sheet seen wrote (st .accepts) (stands-midway sheet _ _ _ seen wrote st (c .before .before .before .before .before .before .before .before .before .before .before .before .before .before .if1 .left)) in
+          let m = l .inv .5 sheet seen wrote (st .accepts) (stands-midway sheet _ _ _ seen wrote st (after-if1 .if1 .left)) in
           let le = e .ensures .0 sheet (m .book) (m .part) (st .accepts) (m .serves) (m .scanned) in
           record {
             accepts = st .accepts;
             place = rw (wrote-more wrote _ _ (le .text) _ _ (le .wrote))
-                (over-all sheet seen (now (c .before .before .before .before .before .before .before .before .before .before .before .before .before .before .before .before .before .before .before .before .args .chunk)) _ (l .i + 1)
-                (rw (seen-more seen (now (c .before .before .before .before .before .before .before .before .before .before .before .before .before .before .before .before .before .before .before .before .args .chunk)) (l .i) (c .before .before .before .before .before .before .before .before .before .before .before .before .loop-test .taken)) (line-over sheet _ _ _ _ _ _ m _ _ _ _ _ le _ (c .before .before .before .before .before .before .before .before .before .before .if2 .left) (c .if3 .taken))));
+                (over-all sheet seen (now (start .args .chunk)) _ (l .i + 1)
+                (rw (seen-more seen (now (start .args .chunk)) (l .i) (tested .loop-test .taken)) (line-over sheet _ _ _ _ _ _ m _ _ _ _ _ le _ (after-if2 .if2 .left) (c .if3 .taken))));
           },
-      omega (arith, e .ensures .1, l .inv .2, l .inv .3, c .before .before .before .before .before .before .before .before .before .before .before .before .loop-test .taken, c .before .before .before .before .before .before .before .before .before .before .before .before .before .before .before .before .before .before .before .before .pre .1),
+      omega (arith, e .ensures .1, l .inv .2, l .inv .3, tested .loop-test .taken, start .pre .1),
     )
 
 loop-less-2 : tie.Need-loop-less-2 Inv-loop μ-loop
@@ -88,7 +95,10 @@ loop-less-2 c = search needs
 
 loop-again-2 : tie.Need-loop-again-2 Inv-loop μ-loop
 loop-again-2 c =
-    let l = c .before .before .before .before .before .before .before .before .before .before .before .before .before .loop in
+    let after-if2 = c .before .before .before .before .before .before .before .before .before .before in
+    let tested = after-if2 .before .before in
+    let start = tested .before .before .before .before .before .before .before .before in
+    let l = tested .before .loop in
     let e = c .before .before .before .before .before .before .before .line-end in (
       omega arith,
       l .inv .1,
@@ -98,8 +108,8 @@ loop-again-2 c =
       λ sheet seen wrote o k.
           let m = l .inv .5 sheet seen wrote o k in
           let le = e .ensures .0 sheet (m .book) (m .part) o (m .serves) (m .scanned) in
-          rw (seen-more seen (now (c .before .before .before .before .before .before .before .before .before .before .before .before .before .before .before .before .before .before .before .before .args .chunk)) (l .i) (c .before .before .before .before .before .before .before .before .before .before .before .before .loop-test .taken), wrote-more wrote _ _ (le .text) _ _ (le .wrote))
-          (line-more sheet _ _ _ _ _ _ m _ _ _ _ _ le _ _ (c .before .before .before .before .before .before .before .before .before .before .if2 .left) (c .if3 .left) (c .before .empty .ensures _)),
+          rw (seen-more seen (now (start .args .chunk)) (l .i) (tested .loop-test .taken), wrote-more wrote _ _ (le .text) _ _ (le .wrote))
+          (line-more sheet _ _ _ _ _ _ m _ _ _ _ _ le _ _ (after-if2 .if2 .left) (c .if3 .left) (c .before .empty .ensures _)),
     )
 
 same-length-3 : tie.Need-same-length-3 Inv-loop μ-loop
@@ -110,13 +120,14 @@ same-length-4 c = search needs
 
 returns-3 : tie.Need-returns-3 Inv-loop μ-loop
 returns-3 c =
+    let start = c .before .before .before .before .before .before .before .before in
     let l = c .before .loop in (
       λ sheet seen wrote st.
           record {
             accepts = st .accepts;
-            place = rw (take-all (l .i) (now (c .before .before .before .before .before .before .before .before .args .chunk)) (c .loop-test .left)) at (l .inv .5 sheet seen wrote (st .accepts) (stands-midway sheet _ _ _ seen wrote st (c .before .before .if1 .left)));
+            place = rw (take-all (l .i) (now (start .args .chunk)) (c .loop-test .left)) at (l .inv .5 sheet seen wrote (st .accepts) (stands-midway sheet _ _ _ seen wrote st (c .before .before .if1 .left)));
           },
-      omega (arith, l .inv .2, l .inv .3, l .inv .0, c .before .before .before .before .before .before .before .before .pre .1),
+      omega (arith, l .inv .2, l .inv .3, l .inv .0, start .pre .1),
     )
 
 pub feed-spec : {M : Type 1} → statement M

@@ -27,7 +27,9 @@ returns-2 c = (
 )
 
 line-end-requires : tie.Need-line-end-requires
-line-end-requires c κs = (c .before .before .before .before .before .before .before .before .before .pre .0, omega (arith, room-most (c .before .before .before .before .before .before .before .before .before .args .s .record .closed), c .before .before .before .before .before .before .before .before .before .pre .1))
+line-end-requires c κs =
+    let start = c .before .before .before .before .before .before .before .before .before in
+    (start .pre .0, omega (arith, room-most (start .args .s .record .closed), start .pre .1))
 
 same-length : tie.Need-same-length
 same-length c = search needs
@@ -37,12 +39,16 @@ same-length-2 c = search needs
 
 returns-3 : tie.Need-returns-3
 returns-3 c =
+    let after-if2 = c .before .before .before .before .before .before .before in
+    let after-is-blank = after-if2 .before in
+    let after-if1 = after-is-blank .before .before .before in
+    let start = after-if1 .before .before .before in
     let e = c .before .before .before .before .line-end in (
       λ sheet seen wrote st.
-          let m = stands-midway sheet _ _ _ seen wrote st (c .before .before .before .before .before .before .before .before .before .before .before .if1 .left) in
+          let m = stands-midway sheet _ _ _ seen wrote st (after-if1 .if1 .left) in
           let le = e .ensures .0 sheet (m .book) (m .part) (st .accepts) (m .serves) (m .scanned) in
-          subst (λ (z : List ℕ). Printed sheet seen (wrote ++ z)) (sym (le .wrote .text)) (line-last sheet _ _ _ _ seen wrote m _ _ _ _ _ le (c .before .before .before .before .before .before .before .before .is-blank .ensures .1 (c .before .before .before .before .before .before .before .if2 .left) _ (m .part) (m .scanned))),
-      omega (arith, e .ensures .1, room-most (c .before .before .before .before .before .before .before .before .before .before .before .before .before .before .args .s .record .closed), c .before .before .before .before .before .before .before .before .before .before .before .before .before .before .pre .1),
+          subst (λ (z : List ℕ). Printed sheet seen (wrote ++ z)) (sym (le .wrote .text)) (line-last sheet _ _ _ _ seen wrote m _ _ _ _ _ le (after-is-blank .is-blank .ensures .1 (after-if2 .if2 .left) _ (m .part) (m .scanned))),
+      omega (arith, e .ensures .1, room-most (start .args .s .record .closed), start .pre .1),
     )
 
 pub finish-spec : {M : Type 1} → statement M

@@ -41,22 +41,27 @@ same-length c = search needs
 
 returns : tie.Need-returns
 returns c =
+    let after-accept-sheet = c .before .before .before .before .before .before .before .before .before .before in
+    let start = after-accept-sheet .before .before .before .before in
     let e = c .before .before .before .before .before .before .outcome .given .1 in
     let w = c .before .before .before .sheet-refusal .ensures in
-    ((λ input. refused-start _ input _ _ _ _ (rw e at (c .before .before .before .before .before .before .before .before .before .before .accept-sheet .ensures .0)) (w .0)), omega (arith, w .0 .size, w .1, c .before .before .before .before .before .before .before .before .before .before .before .before .before .before .pre .1))
+    ((λ input. refused-start _ input _ _ _ _ (rw e at (after-accept-sheet .accept-sheet .ensures .0)) (w .0)), omega (arith, w .0 .size, w .1, start .pre .1))
 
 same-length-2 : tie.Need-same-length-2
 same-length-2 c = search needs
 
 returns-2 : tie.Need-returns-2
 returns-2 c =
+    let after-empty = c .before .before .before .before .before .before .before in
+    let after-accept-sheet = after-empty .before .before in
+    let start = after-accept-sheet .before .before .before .before in
     let e = c .before .before .before .before .before .enum-told .given .1 in
-    let acc = rw e at (c .before .before .before .before .before .before .before .before .before .accept-sheet .ensures .1 .0) in
-    let bs = now (c .before .before .before .before .before .before .before .before .before .before .before .before .before .args .sheet) in
-    let x = c .before .before .before .before .before .before .before .before .before .accept-sheet .result .sheet in
-    let o : Accepts bs x = record { decided = rw e at (c .before .before .before .before .before .before .before .before .before .accept-sheet .ensures .0); read = acc } in
+    let acc = rw e at (after-accept-sheet .accept-sheet .ensures .1 .0) in
+    let bs = now (start .args .sheet) in
+    let x = after-accept-sheet .accept-sheet .result .sheet in
+    let o : Accepts bs x = record { decided = rw e at (after-accept-sheet .accept-sheet .ensures .0); read = acc } in
     let p = c .before .before .before .prepare-read in
-    (rw e (acc .usable, refl, record { accepts = o; place = midway-start bs x _ _ o (serves-prepared bs x o _ _ (p .result) (c .before .before .before .before .before .before .before .before .before .before .before .before .before .pre .0) (p .ensures)) (c .before .before .before .before .before .before .before .empty .ensures _) }), omega arith)
+    (rw e (acc .usable, refl, record { accepts = o; place = midway-start bs x _ _ o (serves-prepared bs x o _ _ (p .result) (start .pre .0) (p .ensures)) (after-empty .empty .ensures _) }), omega arith)
 
 pub start-spec : {M : Type 1} → statement M
 start-spec =

@@ -32,8 +32,10 @@ closing-on-requires c κs = (rw (c .enum-told .given .1) at (c .before .before .
 
 returns : tie.Need-returns
 returns c =
+    let after-accept-sheet = c .before .before .before .before in
+    let start = after-accept-sheet .before .before .before in
     let a = c .refused-closing .ensures in
-    (rw (a .0) (sheet-refused (now (c .before .before .before .before .before .before .before .args .sheet)) (given (length (now (c .before .before .before .before .before .before .before .args .storage))) (c .before .before .before .before .before .before .before .args .before) 0 0) closingChecks _ (rw (c .before .before .outcome .given .1) at (c .before .before .before .before .accept-sheet .ensures .0))), rw (a .0) (a .1, a .2, a .3))
+    (rw (a .0) (sheet-refused (now (start .args .sheet)) (given (length (now (start .args .storage))) (start .args .before) 0 0) closingChecks _ (rw (c .before .before .outcome .given .1) at (after-accept-sheet .accept-sheet .ensures .0))), rw (a .0) (a .1, a .2, a .3))
 
 returns-2 : tie.Need-returns-2
 returns-2 c =

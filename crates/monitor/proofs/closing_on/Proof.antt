@@ -34,10 +34,12 @@ returns c =
 
 returns-2 : tie.Need-returns-2
 returns-2 c =
+    let after-check-closing = c .before .before .before in
+    let start = after-check-closing .before .before in
     let a = c .closing .ensures in
     let p = c .closing .result in (
-      rw (a .0) (rw (c .before .enum-told .given .1) at (c .before .before .before .check-closing .ensures .0)),
-      closing-accepted (ClosingDone (ruleSheet (c .before .before .before .before .before .args .x)) (now (c .before .before .before .before .before .args .storage)) (c .before .before .before .before .before .args .r) p) (c .before .before .before .before .before .args .r) p (p .outcome) (a .0) (a .1),
+      rw (a .0) (rw (c .before .enum-told .given .1) at (after-check-closing .check-closing .ensures .0)),
+      closing-accepted (ClosingDone (ruleSheet (start .args .x)) (now (start .args .storage)) (start .args .r) p) (start .args .r) p (p .outcome) (a .0) (a .1),
     )
 
 pub closing-on-spec : {M : Type 1} → statement M

@@ -44,12 +44,13 @@ same-length c = search needs
 
 returns-2 : tie.Need-returns-2
 returns-2 c =
-    let a = c .before .before .before .before .before .before .before .before .before .args in
-    let x = c .before .before .before .before .before .before .accept-sheet .result .sheet in
+    let after-accept-sheet = c .before .before .before .before .before .before in
+    let a = after-accept-sheet .before .before .before .args in
+    let x = after-accept-sheet .accept-sheet .result .sheet in
     let e = c .before .before .before .before .enum-told .given .1 in
-    let ok = rw e at (c .before .before .before .before .before .before .accept-sheet .ensures .1 .0) in
+    let ok = rw e at (after-accept-sheet .accept-sheet .ensures .1 .0) in
     let p = c .before .before .prepare-on in (
-      (λ r. sheet-accepted (now (a .sheet)) (given (length (now (a .storage))) r 0 0) x ok (rw e at (c .before .before .before .before .before .before .accept-sheet .ensures .0)) prepareChecks (p .result .outcome) (p .ensures .0 r)),
+      (λ r. sheet-accepted (now (a .sheet)) (given (length (now (a .storage))) r 0 0) x ok (rw e at (after-accept-sheet .accept-sheet .ensures .0)) prepareChecks (p .result .outcome) (p .ensures .0 r)),
       prepare-of (Prepared (ruleSheet x) (now (a .storage)) (p .last .1 .0) (p .result)) (OfSheet (now (a .sheet)) (λ (y : RuleSheet). Prepared y (now (a .storage)) (p .last .1 .0) (p .result)))
           (now (a .storage)) (p .last .1 .0) (p .result) (p .result .outcome) (λ d. (ruleSheet x, ok .reads, d)) (p .ensures .1),
     )

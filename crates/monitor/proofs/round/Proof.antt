@@ -33,24 +33,27 @@ round-on-requires c κs = (rw (c .before .enum-told .given .1) at (c .before .be
 
 returns : tie.Need-returns
 returns c =
+    let after-accept-sheet = c .before .before .before .before in
+    let start = after-accept-sheet .before .before .before in
     let a = c .refused-round .ensures in
-    (rw (a .0) (sheet-refused (now (c .before .before .before .before .before .before .before .args .sheet)) (given (length (now (c .before .before .before .before .before .before .before .args .storage))) (c .before .before .before .before .before .before .before .args .before) (c .before .before .before .before .before .before .before .args .known) (c .before .before .before .before .before .before .before .args .value)) roundChecks _ (rw (c .before .before .outcome .given .1) at (c .before .before .before .before .accept-sheet .ensures .0))), rw (a .0) (refl, a .1, a .2))
+    (rw (a .0) (sheet-refused (now (start .args .sheet)) (given (length (now (start .args .storage))) (start .args .before) (start .args .known) (start .args .value)) roundChecks _ (rw (c .before .before .outcome .given .1) at (after-accept-sheet .accept-sheet .ensures .0))), rw (a .0) (refl, a .1, a .2))
 
 same-length : tie.Need-same-length
 same-length c = search needs
 
 returns-2 : tie.Need-returns-2
 returns-2 c =
-    let a = c .before .before .before .before .before .before .before .before .before .args in
+    let after-accept-sheet = c .before .before .before .before .before .before in
+    let a = after-accept-sheet .before .before .before .args in
     let bs = now (a .sheet) in
-    let x = c .before .before .before .before .before .before .accept-sheet .result .sheet in
+    let x = after-accept-sheet .accept-sheet .result .sheet in
     let e = c .before .before .before .before .enum-told .given .1 in
-    let acc = rw e at (c .before .before .before .before .before .before .accept-sheet .ensures .1 .0) in
+    let acc = rw e at (after-accept-sheet .accept-sheet .ensures .1 .0) in
     let s = now (a .storage) in
     let t = c .before .before .round-on .last .1 .0 in
     let r = a .before in
     let p = c .before .before .round-on .result in (
-      sheet-accepted bs (given (length (now (a .storage))) (a .before) (a .known) (a .value)) x acc (rw e at (c .before .before .before .before .before .before .accept-sheet .ensures .0)) roundChecks (p .outcome) (c .before .before .round-on .ensures .0),
+      sheet-accepted bs (given (length (now (a .storage))) (a .before) (a .known) (a .value)) x acc (rw e at (after-accept-sheet .accept-sheet .ensures .0)) roundChecks (p .outcome) (c .before .before .round-on .ensures .0),
       round-of (RoundDone (ruleSheet x) s t r (a .known) (a .value) p) (OfSheet bs (λ (y : RuleSheet). RoundDone y s t r (a .known) (a .value) p)) s t r p (p .outcome)
           (λ d. (ruleSheet x, acc .reads, d)) (c .before .before .round-on .ensures .1),
     )

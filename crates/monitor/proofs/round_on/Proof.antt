@@ -38,12 +38,15 @@ same-length c = search needs
 
 returns-2 : tie.Need-returns-2
 returns-2 c =
+    let after-enum-told = c .before .before .before .before in
+    let after-check-round = after-enum-told .before .before in
+    let start = after-check-round .before .before in
     let a = c .before .before .round .ensures in
     let p = c .before .before .round .result in
-    let s = now (c .before .before .before .before .before .before .before .before .args .storage) in
+    let s = now (start .args .storage) in
     let t = c .before .before .round .last .1 .0 in (
-      rw (a .0) (rw (c .before .before .before .before .enum-told .given .1) at (c .before .before .before .before .before .before .check-round .ensures .0)),
-      round-accepted (RoundDone (ruleSheet (c .before .before .before .before .before .before .before .before .args .x)) s t (c .before .before .before .before .before .before .before .before .args .r) (c .before .before .before .before .before .before .before .before .args .known) (c .before .before .before .before .before .before .before .before .args .value) p) s t (c .before .before .before .before .before .before .before .before .args .r) p (p .outcome) (a .0) (a .1),
+      rw (a .0) (rw (after-enum-told .enum-told .given .1) at (after-check-round .check-round .ensures .0)),
+      round-accepted (RoundDone (ruleSheet (start .args .x)) s t (start .args .r) (start .args .known) (start .args .value) p) s t (start .args .r) p (p .outcome) (a .0) (a .1),
     )
 
 pub round-on-spec : {M : Type 1} → statement M

@@ -1,6 +1,6 @@
 -- What is held after a call is answered as the book answers it, too.
 use mathlib.Core.Path.{_≡_, refl, sym, _∙_, subst}
-use mathlib.Core.Bool.{Bool, true, false}
+use mathlib.Core.Bool.{Bool, true, false, true≢false}
 use mathlib.Core.List.{List, [], _∷_, List·Memᴰ·head, List·Memᴰ·tail}
 use Prim.Native.Nat.{ℕ, _≤_}
 use native.Mathlib.Omega.{arith}
@@ -116,7 +116,7 @@ open-before x g Accepted h = go (g .before .closed) refl
     go : (t : Bool) → g .before .closed ≡ t → g .before .closed ≡ false
     go true e = absurd (h closed (List·Memᴰ·tail (List·Memᴰ·tail (List·Memᴰ·head refl))) e)
     go false e = e
-open-before x g (Refused e) h = absurd (let y : _≡_ {A = ℕ} 0 1 = cc in omega arith)
+open-before x g (Refused e) h = absurd (true≢false cc)
 
 pub closing-kept : (x : Sheet) (s : List ℕ) (r : JournalRecord) (a : ClosingAnswer) → ClosingRead x s r a
     → whenAccepted (a .outcome) ((r .closed ≡ false) × (a .record .closed ≡ true) × (a .record .counts ≡ r .counts) × (length (a .verdicts) ≡ 7) × (length (a .shares) ≡ 7))

@@ -112,10 +112,10 @@ module _ (bs : List ℕ) (x : RuleSheet) (ok : SheetOk bs x) (g : Given) (lent :
 -- what an outcome says of the book's refusal
 pub by-accepted : (o : Option Refusal) → Accepted ≡ outcomeBy o → o ≡ none
 by-accepted none e = refl
-by-accepted (some r) e = absurd (let z : _≡_ {A = ℕ} 0 1 = cc in omega arith)
+by-accepted (some r) e = absurd (true≢false cc)
 
 pub by-refused : (o : Option Refusal) (r : Refusal) → Refused r ≡ outcomeBy o → o ≡ some r
-by-refused none r e = absurd (let z : _≡_ {A = ℕ} 0 1 = cc in omega arith)
+by-refused none r e = absurd (true≢false cc)
 by-refused (some q) r e = cc
 
 -- a round that the book accepts finds room
@@ -124,7 +124,7 @@ unfolding refusal
 room x t shut known val e = go shut (badMasks (x .inputs) known val) (leb limit t) refl e
   where
     go : (a b c : Bool) → leb limit t ≡ c → cond a (some Closed) (cond b (some Letter) (cond c (some Full) none)) ≡ none → t < limit
-    go true b c f e = absurd (let z : _≡_ {A = ℕ} 0 1 = cc in omega arith)
-    go false true c f e = absurd (let z : _≡_ {A = ℕ} 0 1 = cc in omega arith)
-    go false false true f e = absurd (let z : _≡_ {A = ℕ} 0 1 = cc in omega arith)
+    go true b c f e = absurd (true≢false cc)
+    go false true c f e = absurd (true≢false cc)
+    go false false true f e = absurd (true≢false cc)
     go false false false f e = leb-false limit t f

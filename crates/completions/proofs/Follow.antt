@@ -2,6 +2,7 @@
 use mathlib.Core.Path.{_≡_, refl, sym, ap}
 use mathlib.Core.List.{List, [], _∷_, _++_}
 use mathlib.Core.Option.{Option, none, some}
+use mathlib.Core.Bool.{true≢false}
 use Prim.Native.Nat.{ℕ, zero, suc, _≤_}
 use lib.Dec.{T}
 use lib.ListN.{length, getElem?, take}
@@ -12,7 +13,7 @@ use Rattle.completions.specs.Live.{Follows, Live}
 use Rattle.completions.proofs.Runs.{Round, Agrees}
 
 pub nothing : {b : ℕ} → none ≡ some b → ⊥
-nothing {b} e = let z : _≡_ {A = ℕ} 0 1 = cc in omega arith
+nothing {b} e = true≢false cc
 
 pub same-some : {a b : ℕ} → some a ≡ some b → a ≡ b
 same-some e = cc

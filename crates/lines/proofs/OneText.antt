@@ -1,6 +1,7 @@
 -- What is to be written is settled: no two texts fit.
 use mathlib.Core.Path.{_≡_, refl, sym, ap, ap₂, _∙_, subst}
 use mathlib.Core.List.{List, [], _++_}
+use mathlib.Core.Bool.{true≢false}
 use Prim.Native.Nat.{ℕ}
 use native.Mathlib.Omega.{arith}
 use Rattle.refusal.specs.declared.Refusal.{Refusal}
@@ -24,13 +25,13 @@ unfolding readLine
 blank-line m = refl
 
 no-call : (m : ℕ) {c : Call} → readLine m [] ≡ calls c → ⊥
-no-call m {c} e = let z : blank ≡ calls c = sym (blank-line m) ∙ e in let w : _≡_ {A = ℕ} 0 1 = cc in omega arith
+no-call m {c} e = let z : blank ≡ calls c = sym (blank-line m) ∙ e in true≢false cc
 
 not-malformed : (m : ℕ) → readLine m [] ≡ malformed → ⊥
-not-malformed m e = let z : blank ≡ malformed = sym (blank-line m) ∙ e in let w : _≡_ {A = ℕ} 0 1 = cc in omega arith
+not-malformed m e = let z : blank ≡ malformed = sym (blank-line m) ∙ e in true≢false cc
 
 one-reading : {y : Line} {c : Call} → y ≡ calls c → y ≡ malformed → ⊥
-one-reading {y} {c} e f = let z : calls c ≡ malformed = sym e ∙ f in let w : _≡_ {A = ℕ} 0 1 = cc in omega arith
+one-reading {y} {c} e f = let z : calls c ≡ malformed = sym e ∙ f in true≢false cc
 
 module _ (x : RuleSheet) {b : Book} where
   same-step : {y : Line} {c d : Call} {a₁ a₂ : Answer} {b₁ b₂ : Book} → y ≡ calls c → y ≡ calls d → BookStep x b c a₁ b₁ → BookStep x b d a₂ b₂ → (a₁ ≡ a₂) × (b₁ ≡ b₂)
@@ -41,13 +42,13 @@ module _ (x : RuleSheet) {b : Book} where
 
 -- answers of different kinds
 no-close : {vs ws : List Verdict} {xs : List ℕ} → verdicts vs ≡ closed ws xs → ⊥
-no-close e = let w : _≡_ {A = ℕ} 0 1 = cc in omega arith
+no-close e = true≢false cc
 
 no-refusal : {vs : List Verdict} {r : Refusal} → verdicts vs ≡ refused r → ⊥
-no-refusal e = let w : _≡_ {A = ℕ} 0 1 = cc in omega arith
+no-refusal e = true≢false cc
 
 closed-not-refused : {vs : List Verdict} {xs : List ℕ} {r : Refusal} → closed vs xs ≡ refused r → ⊥
-closed-not-refused e = let w : _≡_ {A = ℕ} 0 1 = cc in omega arith
+closed-not-refused e = true≢false cc
 
 same-verdicts : {vs ws : List Verdict} → verdicts vs ≡ verdicts ws → vs ≡ ws
 same-verdicts e = cc

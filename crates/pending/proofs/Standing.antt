@@ -71,7 +71,7 @@ module _ (m : ℕ) (part : List ℕ) (q : Pending) (h : Scanned m part q) where
       go : (k : ℕ) → q .kind ≡ k → (k ≡ 0 → ⊥) → ⊥
       go zero f n = n refl
       go (suc zero) f n = let z : _≡_ {A = ℕ} 0 1 = ap length (sym e ∙ h .dot f) in omega arith
-      go (suc (suc k)) f n = let z : blank ≡ malformed = rw e at (h .spoiled (omega arith) []) in let w : _≡_ {A = ℕ} 0 1 = cc in omega arith
+      go (suc (suc k)) f n = let z : blank ≡ malformed = rw e at (h .spoiled (omega arith) []) in true≢false cc
 
   pub some-marks : q .kind ≡ 0 → (q .count ≡ 0 → ⊥) → part ≡ [] → ⊥
   some-marks k n e = n (h .marks k .count ∙ ap length e)

@@ -1,5 +1,6 @@
 -- Laws of verdicts and outcomes. Assumes nothing.
 use mathlib.Core.Path.{_≡_, refl}
+use mathlib.Core.Bool.{true≢false}
 use Prim.Native.Nat.{ℕ, _≤_}
 use native.Mathlib.Omega.{arith}
 use Rattle.refusal.specs.declared.Refusal.{Refusal}
@@ -21,4 +22,4 @@ verdict-small Open = omega arith
 verdict-small Broken = omega arith
 
 pub not-both : {r : Refusal} → Refused r ≡ Accepted → ⊥
-not-both e = let y : _≡_ {A = ℕ} 0 1 = cc in omega arith
+not-both e = true≢false cc

@@ -3,7 +3,7 @@ use Prim.Native.Nat.{ℕ, suc, _+_, _≤_, _<_}
 use native.Mathlib.Omega.{arith}
 use native.Mathlib.Numerals.{add-one}
 use mathlib.Core.Path.{_≡_, refl, sym, ap, _∙_, subst}
-use mathlib.Core.Bool.{Bool, true, false, cond}
+use mathlib.Core.Bool.{Bool, true, false, cond, true≢false}
 use mathlib.Core.List.{List, [], _∷_}
 use lib.ListN.{length, drop, getD}
 use lib.Seq.{drop-cons, drop-length}
@@ -51,7 +51,7 @@ taken-on s st b bs d k e h = go (applyOp s (opOf b) st) refl
 
     go : (n : Next) → applyOp s (opOf b) st ≡ n → (st′ : List Expr) × (length st′ ≡ k) × (go-on (applyOp s (opOf b) st) (λ st″. parse s st″ bs) ≡ parse s st′ bs)
     go (stack st′) q = (st′, (let z : depthOf (stack st′) ≡ Is k = ap depthOf (sym q) ∙ at in cc), rw q refl)
-    go (breaks r) q = absurd (let z : depthOf (breaks r) ≡ Is k = ap depthOf (sym q) ∙ at in let y : _≡_ {A = ℕ} 0 1 = cc in omega arith)
+    go (breaks r) q = absurd (let z : depthOf (breaks r) ≡ Is k = ap depthOf (sym q) ∙ at in true≢false cc)
 
 -- one byte more: the rule that the code finds broken is the one that the reading breaks
 pub stopped : (s : ℕ) (st : List Expr) (b : ℕ) (bs : List ℕ) (d : ℕ) (r : Refusal) → length st ≡ d → depthAfter s (opOf b) d ≡ Refused r → parse s st (b ∷ bs) ≡ broken r
@@ -62,7 +62,7 @@ stopped s st b bs d r e h = go (applyOp s (opOf b) st) refl
     at = sym (agrees s (opOf b) st) ∙ (rw e h)
 
     go : (n : Next) → applyOp s (opOf b) st ≡ n → go-on (applyOp s (opOf b) st) (λ st″. parse s st″ bs) ≡ broken r
-    go (stack st′) q = absurd (let z : depthOf (stack st′) ≡ Refused r = ap depthOf (sym q) ∙ at in let y : _≡_ {A = ℕ} 0 1 = cc in omega arith)
+    go (stack st′) q = absurd (let z : depthOf (stack st′) ≡ Refused r = ap depthOf (sym q) ∙ at in true≢false cc)
     go (breaks p) q = rw q (let z : depthOf (breaks p) ≡ Refused r = ap depthOf (sym q) ∙ at in cc)
 
 -- the end: one value, or rule 8

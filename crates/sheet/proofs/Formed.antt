@@ -2,7 +2,7 @@
 use mathlib.Core.Path.{_≡_, refl, sym, ap, _∙_, subst}
 use Prim.Native.Nat.{ℕ, zero, suc, _+_, _<_}
 use native.Mathlib.Omega.{arith}
-use mathlib.Core.Bool.{Bool, true, false, cond}
+use mathlib.Core.Bool.{Bool, true, false, cond, true≢false}
 use mathlib.Core.List.{List, [], _∷_}
 use lib.ListN.{length, getD, take, drop}
 use Rattle.refusal.specs.declared.Refusal.the-variants.{Length}
@@ -31,8 +31,8 @@ AllIn s k ts = (length ts ≡ k) × ((i : ℕ) → i < k → InSheet s (getD ts 
 all-in : (s k : ℕ) (bs : List ℕ) (ts : List Expr) → readOutputs s k bs ≡ trees ts → AllIn s k ts
 unfolding readOutputs
 all-in s zero [] ts h = let e : [] ≡ ts = cc in (ap length (sym e), λ i l. absurd (omega arith))
-all-in s zero (b ∷ bs) ts h = absurd (let y : _≡_ {A = ℕ} 0 1 = cc in omega arith)
-all-in s (suc k) [] ts h = absurd (let y : _≡_ {A = ℕ} 0 1 = cc in omega arith)
+all-in s zero (b ∷ bs) ts h = absurd (true≢false cc)
+all-in s (suc k) [] ts h = absurd (true≢false cc)
 all-in s (suc k) (l ∷ bs) ts h =
     go (lengthOk l bs) (parse s [] (take l bs)) refl (readOutputs s k (drop l bs)) (λ us e. all-in s k (drop l bs) us e) h
   where
@@ -48,9 +48,9 @@ all-in s (suc k) (l ∷ bs) ts h =
     go true (tree t) e (trees us) r h =
         let same : t ∷ us ≡ ts = cc in
         subst (AllIn s (suc k)) same (at t us (tree-exactly s (take l bs) t .0 e .1) (r us refl))
-    go true (tree t) e (breaks x) r h = absurd (let y : _≡_ {A = ℕ} 0 1 = cc in omega arith)
-    go true (broken x) e o r h = absurd (let y : _≡_ {A = ℕ} 0 1 = cc in omega arith)
-    go false p e o r h = absurd (let y : _≡_ {A = ℕ} 0 1 = cc in omega arith)
+    go true (tree t) e (breaks x) r h = absurd (true≢false cc)
+    go true (broken x) e o r h = absurd (true≢false cc)
+    go false p e o r h = absurd (true≢false cc)
 
 formed-of : (m n : ℕ) (a : Assumed) → Ranges m n → (bs : List ℕ) (o : Outputs) → readOutputs (m + n) n bs ≡ o → (x : RuleSheet) → withOutputs m n a o ≡ accepted x → Formed x
 formed-of m n a g bs (trees ts) e x h =
@@ -58,7 +58,7 @@ formed-of m n a g bs (trees ts) e x h =
     let y : RuleSheet = record { inputs = m; expressions = ts; required = requiredOf a } in
     let same : y ≡ x = cc in
     subst Formed same (record { ranges = rw (r .0) g; each = λ s l. subst (λ (z : ℕ). InSheet (m + z) (getD ts s (constant false))) (sym (r .0)) (r .1 s (omega (arith, r .0))) })
-formed-of m n a g bs (breaks r) e x h = absurd (let y : _≡_ {A = ℕ} 0 1 = cc in omega arith)
+formed-of m n a g bs (breaks r) e x h = absurd (true≢false cc)
 
 pub read-formed : (bs : List ℕ) (x : RuleSheet) → readSheet bs ≡ accepted x → Formed x
 unfolding readSheet
@@ -66,7 +66,7 @@ read-formed bs x h = go (headerOf bs) refl h
   where
     go : (k : Header) → headerOf bs ≡ k → withHeader bs k ≡ accepted x → Formed x
     go (Fields m n a) f e = formed-of m n a (fields bs m n a f .1) (drop 8 bs) (readOutputs (m + n) n (drop 8 bs)) refl x e
-    go (Refused r) f e = absurd (let y : _≡_ {A = ℕ} 0 1 = cc in omega arith)
+    go (Refused r) f e = absurd (true≢false cc)
 
 pub usable-formed : (x : Sheet) → Usable x → Formed (ruleSheet x)
 usable-formed x u =
@@ -89,11 +89,11 @@ counts-of bs x h = go (headerOf bs) refl h
     with m n a (trees ts) f e =
         let same : record { inputs = m; expressions = ts; required = requiredOf a } ≡ x = cc in
         (sym (ap (λ (y : RuleSheet). y .inputs) same), sym (ap outputs same) ∙ all-in (m + n) n (drop 8 bs) ts f .0)
-    with m n a (breaks r) f e = absurd (let y : _≡_ {A = ℕ} 0 1 = cc in omega arith)
+    with m n a (breaks r) f e = absurd (true≢false cc)
 
     go : (k : Header) → headerOf bs ≡ k → withHeader bs k ≡ accepted x → (x .inputs ≡ inputsOf bs) × (outputs x ≡ outputsOf bs)
     go (Fields m n a) f e =
         let c = with m n a (readOutputs (m + n) n (drop 8 bs)) refl e in
         let d = fields-are bs m n a f in
         (c .0 ∙ d .0, c .1 ∙ d .1)
-    go (Refused r) f e = absurd (let y : _≡_ {A = ℕ} 0 1 = cc in omega arith)
+    go (Refused r) f e = absurd (true≢false cc)

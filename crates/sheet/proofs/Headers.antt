@@ -2,7 +2,7 @@
 use Prim.Native.Nat.{ℕ, _+_, _≤_}
 use native.Mathlib.Omega.{arith}
 use mathlib.Core.Path.{_≡_, refl, subst}
-use mathlib.Core.Bool.{Bool, true, false, cond, _&&_}
+use mathlib.Core.Bool.{Bool, true, false, cond, _&&_, true≢false}
 use mathlib.Core.List.{List}
 use lib.ListN.{length, getD}
 use lib.Dec.{leb, ltb, eqb}
@@ -39,7 +39,7 @@ assumes a n x h = go (eqb a 255) (ltb a n) refl h
     go : (t u : Bool) → ltb a n ≡ u → cond t (assumed.Is Nothing) (cond u (assumed.Is (Output (record { 0 = a }))) (assumed.Refused Assumption)) ≡ assumed.Is x → Below x n
     go true u e k = let z : Nothing ≡ x = cc in subst (λ (y : Assumed). Below y n) z tt
     go false true e k = let z : Output (record { 0 = a }) ≡ x = cc in subst (λ (y : Assumed). Below y n) z (ltb-true a n e)
-    go false false e k = absurd (let y : _≡_ {A = ℕ} 0 1 = cc in omega arith)
+    go false false e k = absurd (true≢false cc)
 
 abbrev FieldsFit : List ℕ → ℕ → ℕ → Assumed → Type 0
 FieldsFit bs m n x = (8 ≤ length bs) × Ranges m n × Below x n
@@ -52,11 +52,11 @@ fields bs m n x h =
     go : (t u v w : Bool) (y : AssumedRead) → ltb (length bs) 8 ≡ t → countsOk (getD bs 5 0) (getD bs 6 0) ≡ w → assumedAt (getD bs 7 0) (getD bs 6 0) ≡ y
         → cond t (Refused Short) (cond u (cond v (cond w (fieldsOf (getD bs 5 0) (getD bs 6 0) y) (Refused Counts)) (Refused Version)) (Refused Mark)) ≡ Fields m n x
         → FieldsFit bs m n x
-    go true u v w y e f g k = absurd (let z : _≡_ {A = ℕ} 0 1 = cc in omega arith)
-    go false false v w y e f g k = absurd (let z : _≡_ {A = ℕ} 0 1 = cc in omega arith)
-    go false true false w y e f g k = absurd (let z : _≡_ {A = ℕ} 0 1 = cc in omega arith)
-    go false true true false y e f g k = absurd (let z : _≡_ {A = ℕ} 0 1 = cc in omega arith)
-    go false true true true (assumed.Refused r) e f g k = absurd (let z : _≡_ {A = ℕ} 0 1 = cc in omega arith)
+    go true u v w y e f g k = absurd (true≢false cc)
+    go false false v w y e f g k = absurd (true≢false cc)
+    go false true false w y e f g k = absurd (true≢false cc)
+    go false true true false y e f g k = absurd (true≢false cc)
+    go false true true true (assumed.Refused r) e f g k = absurd (true≢false cc)
     go false true true true (assumed.Is y) e f g k =
         let p : getD bs 5 0 ≡ m = cc in
         let q : getD bs 6 0 ≡ n = cc in
@@ -75,9 +75,9 @@ fields-are bs m n x h =
     go : (t u v w : Bool) (y : AssumedRead)
         → cond t (Refused Short) (cond u (cond v (cond w (fieldsOf (getD bs 5 0) (getD bs 6 0) y) (Refused Counts)) (Refused Version)) (Refused Mark)) ≡ Fields m n x
         → (m ≡ getD bs 5 0) × (n ≡ getD bs 6 0)
-    go true u v w y k = absurd (let z : _≡_ {A = ℕ} 0 1 = cc in omega arith)
-    go false false v w y k = absurd (let z : _≡_ {A = ℕ} 0 1 = cc in omega arith)
-    go false true false w y k = absurd (let z : _≡_ {A = ℕ} 0 1 = cc in omega arith)
-    go false true true false y k = absurd (let z : _≡_ {A = ℕ} 0 1 = cc in omega arith)
-    go false true true true (assumed.Refused r) k = absurd (let z : _≡_ {A = ℕ} 0 1 = cc in omega arith)
+    go true u v w y k = absurd (true≢false cc)
+    go false false v w y k = absurd (true≢false cc)
+    go false true false w y k = absurd (true≢false cc)
+    go false true true false y k = absurd (true≢false cc)
+    go false true true true (assumed.Refused r) k = absurd (true≢false cc)
     go false true true true (assumed.Is y) k = (cc, cc)

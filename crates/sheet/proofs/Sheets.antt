@@ -4,6 +4,7 @@ use native.Mathlib.Omega.{arith}
 use native.Mathlib.Numerals.{add-one}
 use mathlib.Core.Path.{_≡_, refl, ap, _∙_}
 use mathlib.Core.List.{List, [], _∷_, _++_}
+use mathlib.Core.Bool.{true≢false}
 use lib.ListN.{length, getD, List·getD-append, length-append}
 use native.Mathlib.Decide.{ℕ-discrete}
 use lib.Seq.{getD-at}
@@ -13,7 +14,7 @@ use Rattle.sheet.specs.Reading.{treeOf, codeAt, treesOf}
 
 -- a broken expression is no tree
 pub no-tree : (r : Refusal) (t : Expr) → broken r ≡ tree t → ⊥
-no-tree r t h = let y : _≡_ {A = ℕ} 0 1 = cc in omega arith
+no-tree r t h = true≢false cc
 
 pub length-trees : (s : ℕ) (code len : List ℕ) (n : ℕ) → length (treesOf s code len n) ≡ n
 unfolding treesOf

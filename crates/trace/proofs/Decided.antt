@@ -1,7 +1,7 @@
 -- The checks of evaluation in their order. Assumes nothing.
 use mathlib.Core.Path.{_≡_, refl, sym, ap, subst}
 use mathlib.Core.Logic.{inl, inr}
-use mathlib.Core.Bool.{Bool, true, false}
+use mathlib.Core.Bool.{Bool, true, false, true≢false}
 use mathlib.Core.List.{List, [], _∷_, map, List·Memᴰ·not-nil}
 use Prim.Native.Nat.{ℕ, zero, suc, _+_, _^_, _≤_, _<_}
 use native.Mathlib.Omega.{arith}
@@ -28,7 +28,7 @@ with-inputs m n a (trees ts) x h = inner (cc)
   where
     inner : record { inputs = m; expressions = ts; required = requiredOf a } ≡ x → m ≡ x .inputs
     inner e = ap (λ (y : RuleSheet). y .inputs) e
-with-inputs m n a (breaks r) x h = absurd (let z : _≡_ {A = ℕ} 0 1 = cc in omega arith)
+with-inputs m n a (breaks r) x h = absurd (true≢false cc)
 
 pub inputs-byte : (bs : List ℕ) (x : RuleSheet) → readSheet bs ≡ accepted x → getD bs 5 0 ≡ x .inputs
 unfolding readSheet headerOf assumedAt
@@ -38,22 +38,22 @@ inputs-byte bs x h = short (ltb (length bs) 8) refl
         → (t u : Bool) → eqb (getD bs 7 0) 255 ≡ t → ltb (getD bs 7 0) (getD bs 6 0) ≡ u → getD bs 5 0 ≡ x .inputs
     last a b c d true u e f = with-inputs (getD bs 5 0) (getD bs 6 0) Nothing (readOutputs (getD bs 5 0 + getD bs 6 0) (getD bs 6 0) (drop 8 bs)) x (rw (a, b, c, d, e) at h)
     last a b c d false true e f = with-inputs (getD bs 5 0) (getD bs 6 0) (Output (record { 0 = getD bs 7 0 })) (readOutputs (getD bs 5 0 + getD bs 6 0) (getD bs 6 0) (drop 8 bs)) x (rw (a, b, c, d, e, f) at h)
-    last a b c d false false e f = let k = (rw (a, b, c, d, e, f) at h) in absurd (let z : _≡_ {A = ℕ} 0 1 = cc in omega arith)
+    last a b c d false false e f = let k = (rw (a, b, c, d, e, f) at h) in absurd (true≢false cc)
 
     counts : ltb (length bs) 8 ≡ false → markOk bs ≡ true → eqb (versionOf bs) 1 ≡ true → (t : Bool) → countsOk (getD bs 5 0) (getD bs 6 0) ≡ t → getD bs 5 0 ≡ x .inputs
     counts a b c true d = last a b c d (eqb (getD bs 7 0) 255) (ltb (getD bs 7 0) (getD bs 6 0)) refl refl
-    counts a b c false d = let k = (rw (a, b, c, d) at h) in absurd (let z : _≡_ {A = ℕ} 0 1 = cc in omega arith)
+    counts a b c false d = let k = (rw (a, b, c, d) at h) in absurd (true≢false cc)
 
     version : ltb (length bs) 8 ≡ false → markOk bs ≡ true → (t : Bool) → eqb (versionOf bs) 1 ≡ t → getD bs 5 0 ≡ x .inputs
     version a b true c = counts a b c (countsOk (getD bs 5 0) (getD bs 6 0)) refl
-    version a b false c = let k = (rw (a, b, c) at h) in absurd (let z : _≡_ {A = ℕ} 0 1 = cc in omega arith)
+    version a b false c = let k = (rw (a, b, c) at h) in absurd (true≢false cc)
 
     mark : ltb (length bs) 8 ≡ false → (t : Bool) → markOk bs ≡ t → getD bs 5 0 ≡ x .inputs
     mark a true b = version a b (eqb (versionOf bs) 1) refl
-    mark a false b = let k = (rw (a, b) at h) in absurd (let z : _≡_ {A = ℕ} 0 1 = cc in omega arith)
+    mark a false b = let k = (rw (a, b) at h) in absurd (true≢false cc)
 
     short : (t : Bool) → ltb (length bs) 8 ≡ t → getD bs 5 0 ≡ x .inputs
-    short true a = let k = (rw a at h) in absurd (let z : _≡_ {A = ℕ} 0 1 = cc in omega arith)
+    short true a = let k = (rw a at h) in absurd (true≢false cc)
     short false a = mark a (markOk bs) refl
 
 -- ---- rules 16 and 11

@@ -1,7 +1,7 @@
 -- One bit of a byte turned over. Assumes nothing.
 use mathlib.Core.Path.{_≡_, refl, sym, ap, ap₂, _∙_}
 use mathlib.Core.Logic.{_⊎_, inl, inr}
-use mathlib.Core.Bool.{Bool, true, false, not, Bool·beq}
+use mathlib.Core.Bool.{Bool, true, false, not, Bool·beq, true≢false}
 use mathlib.Core.List.{List}
 use Prim.Native.Nat.{ℕ, zero, suc, _+_, _*_, _/_, _%_, _^_, _<_}
 use native.Mathlib.Omega.{arith}
@@ -75,7 +75,7 @@ module _ (i s : ℕ) (v : Bool) (old : List ℕ) where
         put = ap (bit s) here ∙ bit-flipped s (getD old i 0) h ∙ e;
         kept = λ k n. ap (bit k) here ∙ bit-kept k s (getD old i 0) h n;
         below = λ n k b. rw here (flip-lt n s (getD old i 0) h k b);
-        same = λ c. absurd (let z : _≡_ {A = ℕ} 0 1 = cc in omega arith);
+        same = λ c. absurd (true≢false cc);
       }
     where
       here : getD (set old i (bitXor (getD old i 0) (1 * 2 ^ s % 2 ^ 8))) i 0 ≡ bitXor (getD old i 0) (1 * 2 ^ s % 2 ^ 8)
@@ -96,7 +96,7 @@ module _ (i s : ℕ) (v : Bool) (old : List ℕ) where
 
 -- a test whether two values are the same, that failed
 pub other-values : (a b : Bool) → Bool·beq a b ≡ false → not a ≡ b
-other-values true true e = absurd (let z : _≡_ {A = ℕ} 0 1 = cc in omega arith)
+other-values true true e = absurd (true≢false cc)
 other-values true false e = refl
 other-values false true e = refl
-other-values false false e = absurd (let z : _≡_ {A = ℕ} 0 1 = cc in omega arith)
+other-values false false e = absurd (true≢false cc)

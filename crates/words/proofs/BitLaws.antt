@@ -1,7 +1,7 @@
 -- Laws of a word's digits and bits. Assumes nothing.
 use mathlib.Core.Path.{_≡_, refl, sym, ap, ap₂, _∙_}
 use mathlib.Core.Logic.{_⊎_, inl, inr, ⊎-elim}
-use mathlib.Core.Bool.{Bool, true, false, not, _&&_, _||_, and-false}
+use mathlib.Core.Bool.{Bool, true, false, not, _&&_, _||_, and-false, true≢false}
 use Prim.Native.Nat.{ℕ, zero, suc, _+_, _-_, _*_, _/_, _%_, _^_, _≤_, _<_, min, max}
 use native.Mathlib.Nat.{div-eq-of-lt, div-div-eq-div-mul, pow-suc, mul-comm, zero-div, div-one}
 use native.Mathlib.Omega.{arith}
@@ -214,4 +214,4 @@ pub lane-less : (x i : ℕ) → i < 64 → bit i x ≡ true → without x i < x
 lane-less x i h e = let l : without x i ≤ x = and-le-l x (18446744073709551615 - 1 * 2 ^ i % 2 ^ 64) in let n : without x i ≡ x → ⊥ = differs in omega arith
   where
     differs : without x i ≡ x → ⊥
-    differs q = let y : true ≡ false = sym e ∙ ap (bit i) (sym q) ∙ lane-gone x i h in let z : _≡_ {A = ℕ} 0 1 = cc in omega arith
+    differs q = let y : true ≡ false = sym e ∙ ap (bit i) (sym q) ∙ lane-gone x i h in true≢false cc

@@ -5,13 +5,13 @@ use mathlib.Core.List.{List}
 use mathlib.Core.Option.{Option, none, some}
 use Prim.Native.Nat.{ℕ, _+_, _*_, _/_, _%_, _≤_, _<_}
 use native.Mathlib.Omega.{arith}
-use native.Mathlib.Decide.{ℕ-discrete, decLt}
+use native.Mathlib.Decide.{decLt}
 use borrow.Author.Tests.{lt-ltb, le-ltb}
 use lib.Dec.{ltb}
 use lib.ListN.{length, getD, set}
-use lib.Seq.{getD-set-same, getD-set-other}
 use Rattle.words.specs.Bits.{bit}
 use Rattle.words.proofs.BitLaws.{bit-none}
+use Rattle.words.proofs.ListLaws.{set-more-from}
 use Rattle.completions.specs.Steps.{Within}
 use Rattle.pairs.specs.Storage.{place, slot, stored, used}
 use Rattle.pairs.specs.Changes.{Framed, Zeroed, RowsCleared}
@@ -31,12 +31,8 @@ module _ (base size : ℕ) (f : ℕ → ℕ) (s : List ℕ) where
   filling-more t n x h l p e = record {
     within = omega arith;
     frame = framed-then (p .frame) (framed-set t (base + n) x (omega arith) (omega arith));
-    done = λ k g. go k g (ℕ-discrete k n);
+    done = set-more-from (λ k v. v ≡ f k) base t n x (omega (arith, p .frame .same-length)) e (p .done);
   }
-    where
-      go : (k : ℕ) → k < n + 1 → Dec (k ≡ n) → getD (set t (base + n) x) (base + k) 0 ≡ f k
-      go k g (yes d) = ap (λ (u : ℕ). getD (set t (base + n) x) (base + u) 0) d ∙ getD-set-same t (base + n) x 0 (omega (arith, p .frame .same-length)) ∙ e ∙ ap f (sym d)
-      go k g (no d) = getD-set-other t (base + n) (base + k) x 0 (omega arith) ∙ p .done k (omega arith)
 
 pub zeroed : (at n : ℕ) (s t : List ℕ) (k : ℕ) → n ≤ k → Filling at n (λ k. 0) s t k → Zeroed at n s t
 zeroed at n s t k h p = record { frame = p .frame; zero-now = λ i g. p .done i (omega arith) }

@@ -81,8 +81,8 @@ module _ (x : Sheet) (u : Usable x) where
       d .reached b c hb hc
       ∙ ap₂ (λ (w : ℕ) (S : Pairs). cond (used w b c) (pairsWithin w S b c) (stored s 1028 b c)) (sym (sheet-width x)) (ap (nextSet X (stored s 0) (r .rounds) (stored s 1028)) H) in
       record {
-        kept = record { same-length = d .same-length; beyond = d .beyond };
-        live = d .live;
+        kept = record { same-length = d .frame .same-length; beyond = d .frame .beyond };
+        live = d .frame .before;
         reached = same;
         scratch = λ b c hb hc. d .scratch b c hb hc ∙ ap (λ (w : ℕ). cond (used w b c) false (stored s 2056 b c)) (sym (sheet-width x));
         verdicts = verdicts-of _ (λ k. pairsVerdict (width X) R (output X k)) (a .verdicts)

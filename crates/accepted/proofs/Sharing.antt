@@ -1,12 +1,11 @@
 -- The shares, output by output.
-use mathlib.Core.Path.{_≡_, refl, sym, _∙_, subst}
+use mathlib.Core.Path.{_≡_, refl, _∙_}
 use mathlib.Core.List.{List}
 use Prim.Native.Nat.{ℕ, _+_, _<_, _≤_}
 use native.Mathlib.Omega.{arith}
-use native.Mathlib.Decide.{decLt}
 use lib.ListN.{length, getD, set, length-set, replicate}
-use lib.Seq.{getD-set-same, getD-set-other}
-use Rattle.words.proofs.ListLaws.{zeros}
+use lib.Seq.{getD-set-other}
+use Rattle.words.proofs.ListLaws.{zeros, set-more}
 use Rattle.refusal.specs.declared.Verdict.the-variants.{True}
 use Rattle.record.specs.Record.{countAt, share}
 use Rattle.record.specs.declared.JournalRecord.{JournalRecord}
@@ -23,15 +22,9 @@ shares-none counts t = record { size = refl; each = λ j h. absurd (omega arith)
 pub shares-more : (k : ℕ) (counts : List ℕ) (t : ℕ) (xs : List ℕ) (y : ℕ) → k < 7 → y ≡ share (countAt counts k True) t → SharesTo k counts t xs → SharesTo (k + 1) counts t (set xs k y)
 shares-more k counts t xs y h e x = record {
   size = length-set xs k y ∙ x .size;
-  each = λ j l. go j l (decLt j k);
+  each = set-more (λ j v. v ≡ share (countAt counts j True) t) xs k y (omega (arith, x .size)) e (x .each);
   beyond = λ j l. getD-set-other xs k j y 0 (omega arith) ∙ x .beyond j (omega arith);
 }
-  where
-    go : (j : ℕ) → j < k + 1 → Dec (j < k) → getD (set xs k y) j 0 ≡ share (countAt counts j True) t
-    go j l (yes q) = getD-set-other xs k j y 0 (omega arith) ∙ x .each j q
-    go j l (no q) =
-        let s : j ≡ k = omega arith in
-        subst (λ (z : ℕ). getD (set xs k y) z 0 ≡ share (countAt counts z True) t) (sym s) (getD-set-same xs k y 0 (omega (arith, x .size)) ∙ e)
 
 pub shares-all : (k n : ℕ) (r : JournalRecord) (xs : List ℕ) → k ≡ n → SharesTo k (r .counts) (r .rounds) xs → Shares n r xs
 shares-all k n r xs e x = record { size = x .size; each = λ j h. x .each j (omega arith); beyond = λ j h. x .beyond j (omega arith) }

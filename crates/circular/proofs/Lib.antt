@@ -3,7 +3,6 @@ pub mod Closure
 pub mod Decide
 pub mod Codes
 pub mod Rows
-pub mod Fill
 pub mod Pigeon
 pub mod Unique
 pub mod Sweep

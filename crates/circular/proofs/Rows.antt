@@ -1,6 +1,6 @@
 -- A table filled row by row. Assumes nothing.
 use mathlib.Core.Path.{_≡_, refl, sym, ap, ap₂, _∙_, subst}
-use Prim.Native.Nat.{ℕ, zero, suc, _+_, _*_, _≤_, _<_}
+use Prim.Native.Nat.{ℕ, _+_, _*_, _≤_, _<_}
 use mathlib.Core.List.{List}
 use native.Mathlib.Omega.{arith}
 use native.Mathlib.Decide.{decLt, ℕ-discrete}
@@ -8,6 +8,7 @@ use lib.ListN.{length, getD, set, replicate, length-set}
 use lib.Seq.{getD-set-same, getD-set-other}
 use borrow.Author.Tests.{le-ltb}
 use mathlib.Core.Bool.{Bool}
+use Rattle.words.proofs.ListLaws.{zeros, set-more-from}
 use Rattle.circular.specs.Table.{pickN, largerN, plusN, cellN, Small, Part, Tails, joinedN}
 use Rattle.circular.proofs.Codes.{loop-le}
 
@@ -17,11 +18,6 @@ small-set l i v h b s = record { size = length-set l i v ∙ s .size; small = λ
     go : (j : ℕ) → Dec (j ≡ i) → getD (set l i v) j 0 ≤ 4096
     go j (yes e) = rw (e, getD-set-same l i v 0 (omega (arith, s .size))) b
     go j (no e) = rw (getD-set-other l i j v 0 (λ q. e (omega arith))) (s .small j)
-
-zeros : (n i : ℕ) → getD (replicate {A = ℕ} n 0) i 0 ≡ 0
-zeros zero i = refl
-zeros (suc n) zero = refl
-zeros (suc n) (suc i) = zeros n i
 
 pub small-zeros : Small (replicate 64 0)
 small-zeros = record { size = refl; small = λ i. rw (zeros 64 i) (omega arith) }
@@ -34,16 +30,10 @@ module _ (from : ℕ) (f : ℕ → ℕ) (old : List ℕ) where
   pub part-more : (n v : ℕ) (new : List ℕ) → from + n < length new → v ≡ f n → Part from n f old new → Part from (n + 1) f old (set new (from + n) v)
   part-more n v new h e p =
       record {
-        part = λ q l. go q l (decLt q n);
+        part = set-more-from (λ q x. x ≡ f q) from new n v h e (p .part);
         below = λ i l. getD-set-other new (from + n) i v 0 (omega arith) ∙ p .below i l;
         above = λ i l. getD-set-other new (from + n) i v 0 (omega arith) ∙ p .above i (omega arith);
       }
-    where
-      go : (q : ℕ) → q < n + 1 → Dec (q < n) → getD (set new (from + n) v) (from + q) 0 ≡ f q
-      go q l (yes b) = getD-set-other new (from + n) (from + q) v 0 (omega arith) ∙ p .part q b
-      go q l (no b) =
-          let s : q ≡ n = omega arith in
-          subst (λ (z : ℕ). getD (set new (from + n) v) (from + z) 0 ≡ f z) (sym s) (getD-set-same new (from + n) v 0 h ∙ e)
 
 pub part-as : (from n : ℕ) (f g : ℕ → ℕ) (old new : List ℕ) → ((q : ℕ) → q < n → f q ≡ g q) → Part from n f old new → Part from n g old new
 part-as from n f g old new e p = record { part = λ q h. p .part q h ∙ e q h; below = p .below; above = p .above }

@@ -35,7 +35,7 @@ use Rattle.completions.proofs.Follow.{length-snoc}
 use Rattle.completions.proofs.Letters.{onLetter, onLetters}
 use Rattle.completions.proofs.Range.{wider}
 use Rattle.pairs.specs.Storage.{stored}
-use Rattle.pairs.proofs.Sets.{stored-same}
+use Rattle.pairs.proofs.Sets.{stored-eq}
 use Rattle.record.specs.Record.{Fresh, countAt, sumAt, addUp, recordOk, share}
 use Rattle.record.specs.declared.JournalRecord.{JournalRecord}
 use Rattle.record.proofs.Tallies.{record-is, record-more}
@@ -165,7 +165,7 @@ module _ (bs : List ℕ) (x : RuleSheet) (ok : SheetOk bs x) where
         let same : (a : ℕ) (c : Option ℕ) → a < w → Within w c → stored t 1028 a c ≡ S a c =
         λ a c ha hc. d .reached a c (omega (arith, w-small)) (wider w 256 w-small c hc) ∙ reached-below w S (stored (h .storage) 1028 a c) a c ha hc in
         let lives : (a : ℕ) (c : Option ℕ) → a < w → Within w c → stored t 0 a c ≡ L a c =
-        λ a c ha hc. stored-same (h .storage) t 0 a c (omega (arith, w-small)) (wider w 256 w-small c hc) (λ k l. d .live k l) in
+        λ a c ha hc. stored-eq (h .storage) t 0 0 a c (omega (arith, w-small)) (wider w 256 w-small c hc) (λ k l. d .live (0 + k) (omega arith)) in
         let live′ : Represents w (stored t 0) (Live x) = represents-as w L (stored t 0) (Live x) lives (tr .live) in
         let few : r .rounds < 1000000 = omega (arith, room x (length (b .rounds)) (b .shut) known val q, tr .matches .rounds) in
         record {

@@ -5,10 +5,11 @@ use mathlib.Core.List.{List}
 use Prim.Native.Nat.{ℕ, suc, _+_, _*_, _≤_, _<_}
 use native.Mathlib.Nat.{mul-le-mul-left}
 use native.Mathlib.Omega.{arith}
-use native.Mathlib.Decide.{ℕ-discrete, decLe}
+use native.Mathlib.Decide.{decLe}
 use borrow.Author.Tests.{le-leb, lt-leb}
 use lib.ListN.{length, getD, set, length-set}
-use lib.Seq.{getD-set-same, getD-set-other}
+use lib.Seq.{getD-set-other}
+use Rattle.words.proofs.ListLaws.{set-more, set-more-from}
 use Rattle.lanes.specs.Around.{Stored, room}
 
 -- the first n words fit, and the others are those of row
@@ -26,13 +27,9 @@ module _ (Fit : ℕ → ℕ → Type 0) (row : List ℕ) where
   writing-more row′ n x w h f = record {
     within = omega arith;
     size = length-set row′ n x ∙ w .size;
-    fit = λ j g. go j g (ℕ-discrete j n);
+    fit = set-more Fit row′ n x (omega (arith, w .size)) f (w .fit);
     rest = λ j g. getD-set-other row′ n j x 0 (omega arith) ∙ w .rest j (omega arith);
   }
-    where
-      go : (j : ℕ) → j < n + 1 → Dec (j ≡ n) → Fit j (getD (set row′ n x) j 0)
-      go j g (yes e) = rw (e, getD-set-same row′ n x 0 (omega (arith, w .size))) f
-      go j g (no d) = rw (getD-set-other row′ n j x 0 d) (w .fit j (omega arith))
 
   pub writing-all : (w : ℕ) (row′ : List ℕ) (n : ℕ) → Writing Fit row row′ n → w ≤ n → (j : ℕ) → j < w → Fit j (getD row′ j 0)
   writing-all w row′ n x h j g = x .fit j (omega arith)
@@ -59,13 +56,9 @@ module _ (w k : ℕ) (row t : List ℕ) where
   storing-more t′ n x h l = record {
     within = omega arith;
     size = length-set t′ (w * k + n) (getD row n 0) ∙ x .size;
-    words = λ j g. go j g (ℕ-discrete j n);
+    words = set-more-from (λ j v. v ≡ getD row j 0) (w * k) t′ n (getD row n 0) (omega (arith, x .size)) refl (x .words);
     others = λ i g. getD-set-other t′ (w * k + n) i (getD row n 0) 0 (omega arith) ∙ x .others i g;
   }
-    where
-      go : (j : ℕ) → j < n + 1 → Dec (j ≡ n) → getD (set t′ (w * k + n) (getD row n 0)) (w * k + j) 0 ≡ getD row j 0
-      go j g (yes e) = rw e (getD-set-same t′ (w * k + n) (getD row n 0) 0 (omega (arith, x .size)))
-      go j g (no d) = getD-set-other t′ (w * k + n) (w * k + j) (getD row n 0) 0 (omega arith) ∙ x .words j (omega arith)
 
   pub storing-all : (t′ : List ℕ) (n : ℕ) → Storing w k row t t′ n → w ≤ n → Stored w k row t t′
   storing-all t′ n x h = record { words = λ j g. x .words j (omega arith); others = x .others }

@@ -1,56 +1,47 @@
 -- Words written one by one.
-use mathlib.Core.Path.{_≡_, refl, sym, ap, _∙_}
+use mathlib.Core.Path.{_≡_, sym, ap, _∙_}
 use mathlib.Core.Bool.{Bool, false, cond}
 use mathlib.Core.List.{List}
 use mathlib.Core.Option.{Option, none, some}
 use Prim.Native.Nat.{ℕ, _+_, _*_, _/_, _%_, _≤_, _<_}
 use native.Mathlib.Omega.{arith}
-use native.Mathlib.Decide.{ℕ-discrete, decLt}
+use native.Mathlib.Decide.{decLt}
 use borrow.Author.Tests.{lt-ltb, le-ltb}
 use lib.Dec.{ltb}
-use lib.ListN.{length, getD, set, length-set}
-use lib.Seq.{getD-set-same, getD-set-other}
+use lib.ListN.{length, getD, set}
 use Rattle.words.specs.Bits.{bit}
 use Rattle.words.proofs.BitLaws.{bit-none}
+use Rattle.words.proofs.ListLaws.{set-more-from}
 use Rattle.completions.specs.Steps.{Within}
 use Rattle.pairs.specs.Storage.{place, slot, stored, used}
-use Rattle.pairs.specs.Changes.{Zeroed, RowsCleared}
+use Rattle.pairs.specs.Changes.{Framed, Zeroed, RowsCleared}
+use Rattle.pairs.proofs.Frames.{framed-none, framed-then, framed-wider, framed-set}
 
 -- of `size` words from `base` on, the first n are written with f
 pub record Filling (base size : ℕ) (f : ℕ → ℕ) (s t : List ℕ) (n : ℕ) : Type 0 where
   pub within : n ≤ size
-  pub same-length : length t ≡ length s
-  pub before : (k : ℕ) → k < base → getD t k 0 ≡ getD s k 0
-  pub beyond : (k : ℕ) → base + size ≤ k → getD t k 0 ≡ getD s k 0
+  pub frame : Framed base size s t
   pub done : (k : ℕ) → k < n → getD t (base + k) 0 ≡ f k
 
 module _ (base size : ℕ) (f : ℕ → ℕ) (s : List ℕ) where
   pub filling-none : Filling base size f s s 0
-  filling-none = record { within = omega arith; same-length = refl; before = λ k h. refl; beyond = λ k h. refl; done = λ k h. absurd (omega arith) }
+  filling-none = record { within = omega arith; frame = framed-none base size s; done = λ k h. absurd (omega arith) }
 
   pub filling-more : (t : List ℕ) (n x : ℕ) → n < size → base + size ≤ length s → Filling base size f s t n → x ≡ f n → Filling base size f s (set t (base + n) x) (n + 1)
   filling-more t n x h l p e = record {
     within = omega arith;
-    same-length = length-set t (base + n) x ∙ p .same-length;
-    before = λ k g. getD-set-other t (base + n) k x 0 (omega arith) ∙ p .before k g;
-    beyond = λ k g. getD-set-other t (base + n) k x 0 (omega arith) ∙ p .beyond k g;
-    done = λ k g. go k g (ℕ-discrete k n);
+    frame = framed-then (p .frame) (framed-set t (base + n) x (omega arith) (omega arith));
+    done = set-more-from (λ k v. v ≡ f k) base t n x (omega (arith, p .frame .same-length)) e (p .done);
   }
-    where
-      go : (k : ℕ) → k < n + 1 → Dec (k ≡ n) → getD (set t (base + n) x) (base + k) 0 ≡ f k
-      go k g (yes d) = ap (λ (u : ℕ). getD (set t (base + n) x) (base + u) 0) d ∙ getD-set-same t (base + n) x 0 (omega (arith, p .same-length)) ∙ e ∙ ap f (sym d)
-      go k g (no d) = getD-set-other t (base + n) (base + k) x 0 (omega arith) ∙ p .done k (omega arith)
 
 pub zeroed : (at n : ℕ) (s t : List ℕ) (k : ℕ) → n ≤ k → Filling at n (λ k. 0) s t k → Zeroed at n s t
-zeroed at n s t k h p = record { same-length = p .same-length; before = p .before; beyond = p .beyond; zero-now = λ i g. p .done i (omega arith) }
+zeroed at n s t k h p = record { frame = p .frame; zero-now = λ i g. p .done i (omega arith) }
 
 -- the rows below v, then the ends
 pub rows-cleared : (base v : ℕ) (s t u : List ℕ) → v ≤ 256 → Zeroed base (4 * v) s t → Zeroed (base + 1024) 4 t u → RowsCleared base v s u
 unfolding stored place slot used
 rows-cleared base v s t u h p q = record {
-  same-length = q .same-length ∙ p .same-length;
-  before = λ k g. q .before k (omega arith) ∙ p .before k g;
-  beyond = λ k g. q .beyond k (omega arith) ∙ p .beyond k (omega arith);
+  frame = framed-then (framed-wider (omega arith) (omega arith) (p .frame)) (framed-wider (omega arith) (omega arith) (q .frame));
   emptied = at;
 }
   where
@@ -65,10 +56,10 @@ rows-cleared base v s t u h p q = record {
 
         go : Dec (x < v) → bit (c % 64) (getD u k 0) ≡ cond (ltb x v) false (bit (c % 64) (getD s k 0))
         go (yes l) =
-            ap (bit (c % 64)) (q .before k (omega arith) ∙ p .zero-now (4 * x + c / 64) (omega arith))
+            ap (bit (c % 64)) (q .frame .before k (omega arith) ∙ p .zero-now (4 * x + c / 64) (omega arith))
             ∙ bit-none (c % 64)
             ∙ sym (ap (λ (z : Bool). cond z false (bit (c % 64) (getD s k 0))) (lt-ltb x v l))
         go (no n) =
             let g : v ≤ x = omega arith in
-            ap (bit (c % 64)) (q .before k (omega arith) ∙ p .beyond k (omega arith))
+            ap (bit (c % 64)) (q .frame .before k (omega arith) ∙ p .frame .beyond k (omega arith))
             ∙ sym (ap (λ (z : Bool). cond z false (bit (c % 64) (getD s k 0))) (le-ltb x v g))

@@ -1,3 +1,4 @@
+pub mod Frames
 pub mod Sets
 pub mod Fill
 pub mod BitSearch

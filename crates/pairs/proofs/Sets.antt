@@ -16,7 +16,8 @@ use Rattle.words.proofs.BitLaws.{bit-and, bit-or, bit-not, bit-shl, bit-none, b
 use Rattle.completions.specs.Live.{Pairs}
 use Rattle.completions.specs.Steps.{Within}
 use Rattle.pairs.specs.Storage.{place, slot, stored, used}
-use Rattle.pairs.specs.Changes.{eqNext, inWord, Adds, rowBit, Zeroed, RowsCleared, Cleared, RowTaken, Noted}
+use Rattle.pairs.specs.Changes.{eqNext, inWord, Framed, Adds, rowBit, Zeroed, RowTaken, Noted}
+use Rattle.pairs.proofs.Frames.{framed-none, framed-then, framed-wider, framed-set}
 
 pub place-lt : (x : ℕ) (y : Option ℕ) → x < 256 → Within 256 y → place x y < 1028
 unfolding place
@@ -66,9 +67,7 @@ pub inserted : (s : List ℕ) (base a : ℕ) (c : Option ℕ) → a < 256 → Wi
     → Adds base s (set s (base + place a c) (bitOr (getD s (base + place a c) 0) (1 * 2 ^ slot a c % 2 ^ 64))) (λ x y. eqb x a && eqNext y c)
 unfolding stored
 inserted s base a c ha hc l = record {
-  same-length = length-set s _ _;
-  before = λ k h. getD-set-other s _ k _ 0 (omega arith);
-  beyond = λ k h. getD-set-other s _ k _ 0 (let g : place a c < 1028 = place-lt a c ha hc in omega arith);
+  frame = framed-set s _ _ (omega arith) (omega (arith, place-lt a c ha hc));
   adds = λ x y hx hy. go x y hx hy (ℕ-discrete (place x y) (place a c));
 }
   where
@@ -93,35 +92,21 @@ inserted s base a c ha hc l = record {
 
 pub adds-none : (base : ℕ) (s : List ℕ) (P : Pairs) → ((x : ℕ) (y : Option ℕ) → P x y ≡ false) → Adds base s s P
 adds-none base s P f = record {
-  same-length = refl;
-  before = λ k h. refl;
-  beyond = λ k h. refl;
+  frame = framed-none base 1028 s;
   adds = λ x y hx hy. sym (ap (λ (u : Bool). stored s base x y || u) (f x y) ∙ or-false (stored s base x y));
 }
 
 pub adds-as : (base : ℕ) (s t : List ℕ) (P Q : Pairs) → Adds base s t P → ((x : ℕ) (y : Option ℕ) → x < 256 → Within 256 y → (stored s base x y || P x y) ≡ (stored s base x y || Q x y)) → Adds base s t Q
-adds-as base s t P Q p f = record {
-  same-length = p .same-length;
-  before = p .before;
-  beyond = p .beyond;
-  adds = λ x y hx hy. p .adds x y hx hy ∙ f x y hx hy;
-}
+adds-as base s t P Q p f = record { frame = p .frame; adds = λ x y hx hy. p .adds x y hx hy ∙ f x y hx hy }
 
 pub adds-then : (base : ℕ) (s t u : List ℕ) (P Q R : Pairs) → Adds base s t P → Adds base t u Q
     → ((x : ℕ) (y : Option ℕ) → x < 256 → Within 256 y → (P x y || Q x y) ≡ R x y) → Adds base s u R
 adds-then base s t u P Q R p q f = record {
-  same-length = q .same-length ∙ p .same-length;
-  before = λ k h. q .before k h ∙ p .before k h;
-  beyond = λ k h. q .beyond k h ∙ p .beyond k h;
+  frame = framed-then (p .frame) (q .frame);
   adds = λ x y hx hy.
       q .adds x y hx hy ∙ ap (λ (w : Bool). w || Q x y) (p .adds x y hx hy) ∙ or-assoc (stored s base x y) (P x y) (Q x y)
       ∙ ap (λ (w : Bool). stored s base x y || w) (f x y hx hy);
 }
-
--- a set before the one that gains is the same
-pub stored-same : (s t : List ℕ) (base : ℕ) (x : ℕ) (y : Option ℕ) → x < 256 → Within 256 y → ((k : ℕ) → k < base + 1028 → getD t k 0 ≡ getD s k 0) → stored t base x y ≡ stored s base x y
-unfolding stored
-stored-same s t base x y hx hy f = ap (bit (slot x y)) (f (base + place x y) (let g : place x y < 1028 = place-lt x y hx hy in omega arith))
 
 pub row-bit : (s : List ℕ) (base a x : ℕ) → rowBit s (base + 4 * a) x ≡ stored s base a (some x)
 unfolding rowBit stored place slot
@@ -135,27 +120,17 @@ pub stored-eq : (s t : List ℕ) (base base′ x : ℕ) (y : Option ℕ) → x <
 unfolding stored
 stored-eq s t base base′ x y hx hy f = ap (bit (slot x y)) (f (place x y) (place-lt x y hx hy))
 
-module _ (base : ℕ) (s t : List ℕ) (P : Pairs) (p : Adds base s t P) where
-  pub adds-before : (b x : ℕ) (y : Option ℕ) → x < 256 → Within 256 y → b + 1028 ≤ base → stored t b x y ≡ stored s b x y
-  adds-before b x y hx hy h = stored-eq s t b b x y hx hy (λ k g. p .before (b + k) (omega arith))
+module _ {at n : ℕ} {s t : List ℕ} (p : Framed at n s t) where
+  pub framed-before : (b x : ℕ) (y : Option ℕ) → x < 256 → Within 256 y → b + 1028 ≤ at → stored t b x y ≡ stored s b x y
+  framed-before b x y hx hy h = stored-eq s t b b x y hx hy (λ k g. p .before (b + k) (omega arith))
 
-  pub adds-beyond : (b x : ℕ) (y : Option ℕ) → x < 256 → Within 256 y → base + 1028 ≤ b → stored t b x y ≡ stored s b x y
-  adds-beyond b x y hx hy h = stored-eq s t b b x y hx hy (λ k g. p .beyond (b + k) (omega arith))
+  pub framed-beyond : (b x : ℕ) (y : Option ℕ) → x < 256 → Within 256 y → at + n ≤ b → stored t b x y ≡ stored s b x y
+  framed-beyond b x y hx hy h = stored-eq s t b b x y hx hy (λ k g. p .beyond (b + k) (omega arith))
 
-module _ (base : ℕ) (s t : List ℕ) (p : Cleared base s t) where
-  pub cleared-none : (x : ℕ) (y : Option ℕ) → x < 256 → Within 256 y → stored t base x y ≡ false
-  unfolding stored
-  cleared-none x y hx hy = ap (bit (slot x y)) (p .zero-now (place x y) (place-lt x y hx hy)) ∙ bit-none (slot x y)
-
-  pub cleared-before : (b x : ℕ) (y : Option ℕ) → x < 256 → Within 256 y → b + 1028 ≤ base → stored t b x y ≡ stored s b x y
-  cleared-before b x y hx hy h = stored-eq s t b b x y hx hy (λ k g. p .before (b + k) (omega arith))
-
-module _ (base v : ℕ) (s t : List ℕ) (p : RowsCleared base v s t) where
-  pub rows-before : (b x : ℕ) (y : Option ℕ) → x < 256 → Within 256 y → b + 1028 ≤ base → stored t b x y ≡ stored s b x y
-  rows-before b x y hx hy h = stored-eq s t b b x y hx hy (λ k g. p .before (b + k) (omega arith))
-
-  pub rows-beyond : (b x : ℕ) (y : Option ℕ) → x < 256 → Within 256 y → base + 1028 ≤ b → stored t b x y ≡ stored s b x y
-  rows-beyond b x y hx hy h = stored-eq s t b b x y hx hy (λ k g. p .beyond (b + k) (omega arith))
+-- a set whose words are 0 has no pair
+pub zeroed-none : (base : ℕ) (s t : List ℕ) → Zeroed base 1028 s t → (x : ℕ) (y : Option ℕ) → x < 256 → Within 256 y → stored t base x y ≡ false
+unfolding stored
+zeroed-none base s t p x y hx hy = ap (bit (slot x y)) (p .zero-now (place x y) (place-lt x y hx hy)) ∙ bit-none (slot x y)
 
 -- the words in use hold every pair of valuations below v
 pub used-below : (v x : ℕ) (y : Option ℕ) → x < v → used v x y ≡ true
@@ -200,9 +175,7 @@ pub word-inserted : (s : List ℕ) (base a j x : ℕ) → a < 256 → j < 4 → 
     → Adds base s (set s (base + (4 * a + j)) (bitOr (getD s (base + (4 * a + j)) 0) x)) (λ p y. eqb p a && inWord j x y)
 unfolding stored place slot inWord
 word-inserted s base a j x ha hj l = record {
-  same-length = length-set s _ _;
-  before = λ k h. getD-set-other s _ k _ 0 (omega arith);
-  beyond = λ k h. getD-set-other s _ k _ 0 (omega arith);
+  frame = framed-set s _ _ (omega arith) (omega arith);
   adds = at;
 }
   where
@@ -242,9 +215,7 @@ pub ends-inserted : (s : List ℕ) (base j x : ℕ) → j < 4 → base + 1028 �
     → Adds base s (set s (base + (1024 + j)) (bitOr (getD s (base + (1024 + j)) 0) x)) (λ a y. inWord j x (some a) && eqNext y none)
 unfolding stored place slot inWord eqNext
 ends-inserted s base j x hj l = record {
-  same-length = length-set s _ _;
-  before = λ k h. getD-set-other s _ k _ 0 (omega arith);
-  beyond = λ k h. getD-set-other s _ k _ 0 (omega arith);
+  frame = framed-set s _ _ (omega arith) (omega arith);
   adds = at;
 }
   where
@@ -280,9 +251,7 @@ pub row-taken : (base a : ℕ) (s t : List ℕ) → a < 256 → base + 1028 ≤ 
     → RowTaken base a s (set t (base + (1024 + a / 64)) (bitAnd (getD t (base + (1024 + a / 64)) 0) ((2 ^ 64 - 1) - 1 * 2 ^ (a % 64) % 2 ^ 64)))
 unfolding stored place slot
 row-taken base a s t ha l p = record {
-  same-length = length-set t _ _ ∙ p .same-length;
-  before = λ i h. getD-set-other t _ i _ 0 (omega arith) ∙ p .before i (omega arith);
-  beyond = λ i h. getD-set-other t _ i _ 0 (omega arith) ∙ p .beyond i (omega arith);
+  frame = framed-then (framed-wider (omega arith) (omega arith) (p .frame)) (framed-set t _ _ (omega arith) (omega arith));
   taken = at;
 }
   where
@@ -309,12 +278,12 @@ row-taken base a s t ha l p = record {
         go (yes d) =
             let q : e ≡ k = omega arith in
             ap (λ (i : ℕ). bit (x % 64) (getD (set t k v) i 0)) q
-            ∙ ap (bit (x % 64)) (getD-set-same t k v 0 (omega (arith, p .same-length)))
+            ∙ ap (bit (x % 64)) (getD-set-same t k v 0 (omega (arith, p .frame .same-length)))
             ∙ bit-and (x % 64) (getD t k 0) ((2 ^ 64 - 1) - m)
-            ∙ ap₂ _&&_ (ap (bit (x % 64)) (p .beyond k (omega arith)) ∙ ap (λ (i : ℕ). bit (x % 64) (getD s i 0)) (sym q))
+            ∙ ap₂ _&&_ (ap (bit (x % 64)) (p .frame .beyond k (omega arith)) ∙ ap (λ (i : ℕ). bit (x % 64) (getD s i 0)) (sym q))
             (bit-not 64 (x % 64) m (omega arith) (omega arith) ∙ ap not (bit-shl (x % 64) (a % 64) (omega arith) ∙ same-bit d (ℕ-discrete x a)))
         go (no d) =
-            ap (bit (x % 64)) (getD-set-other t k e v 0 (omega arith) ∙ p .beyond e (omega arith))
+            ap (bit (x % 64)) (getD-set-other t k e v 0 (omega arith) ∙ p .frame .beyond e (omega arith))
             ∙ sym (ap (λ (u : Bool). bit (x % 64) (getD s e 0) && not u) (ne-eqb x a (λ q. d (ap (λ (i : ℕ). i / 64) q))) ∙ and-true (bit (x % 64) (getD s e 0)))
     at x (some c) hx hy = go (ℕ-discrete x a)
       where
@@ -332,8 +301,8 @@ row-taken base a s t ha l p = record {
         go (no d) = ap (bit (c % 64)) (other ∙ outside (decLt x a)) ∙ sym (ap (λ (u : Bool). bit (c % 64) (getD s e 0) && not u) (ne-eqb x a d) ∙ and-true (bit (c % 64) (getD s e 0)))
           where
             outside : Dec (x < a) → getD t e 0 ≡ getD s e 0
-            outside (yes g) = p .before e (omega arith)
-            outside (no g) = p .beyond e (omega arith)
+            outside (yes g) = p .frame .before e (omega arith)
+            outside (no g) = p .frame .beyond e (omega arith)
 
 -- ---- a set is known by its pairs: two storages of 64-bit words with the same pairs in a set have the same words there
 

@@ -23,11 +23,15 @@ unfoldable pub inWord : ℕ → ℕ → Option ℕ → Bool
 inWord j x none = false
 inWord j x (some c) = eqb (c / 64) j && bit (c % 64) x
 
+-- no word outside the n words from `at` on is changed
+pub record Framed (at n : ℕ) (s t : List ℕ) : Type 0 where
+  pub same-length : length t ≡ length s
+  pub before : (k : ℕ) → k < at → getD t k 0 ≡ getD s k 0
+  pub beyond : (k : ℕ) → at + n ≤ k → getD t k 0 ≡ getD s k 0
+
 -- the set at `base` has gained the pairs P, and no other word is changed
 pub record Adds (base : ℕ) (s t : List ℕ) (P : Pairs) : Type 0 where
-  pub same-length : length t ≡ length s
-  pub before : (k : ℕ) → k < base → getD t k 0 ≡ getD s k 0
-  pub beyond : (k : ℕ) → base + 1028 ≤ k → getD t k 0 ≡ getD s k 0
+  pub frame : Framed base 1028 s t
   pub adds : (x : ℕ) (y : Option ℕ) → x < 256 → Within 256 y → stored t base x y ≡ (stored s base x y || P x y)
 
 -- bit x of the words from `at` on
@@ -55,28 +59,15 @@ pub record NextBit (s : List ℕ) (at w from r : ℕ) : Type 0 where
 
 -- n words from `at` on are 0, and no others are changed
 pub record Zeroed (at n : ℕ) (s t : List ℕ) : Type 0 where
-  pub same-length : length t ≡ length s
-  pub before : (k : ℕ) → k < at → getD t k 0 ≡ getD s k 0
-  pub beyond : (k : ℕ) → at + n ≤ k → getD t k 0 ≡ getD s k 0
+  pub frame : Framed at n s t
   pub zero-now : (k : ℕ) → k < n → getD t (at + k) 0 ≡ 0
 
 -- the words that v valuations use of the set at `base` are 0, and no others are changed
 pub record RowsCleared (base v : ℕ) (s t : List ℕ) : Type 0 where
-  pub same-length : length t ≡ length s
-  pub before : (k : ℕ) → k < base → getD t k 0 ≡ getD s k 0
-  pub beyond : (k : ℕ) → base + 1028 ≤ k → getD t k 0 ≡ getD s k 0
+  pub frame : Framed base 1028 s t
   pub emptied : (x : ℕ) (y : Option ℕ) → x < 256 → Within 256 y → stored t base x y ≡ cond (used v x y) false (stored s base x y)
-
--- the words of the set at `base` are 0, and no others are changed
-pub record Cleared (base : ℕ) (s t : List ℕ) : Type 0 where
-  pub same-length : length t ≡ length s
-  pub before : (k : ℕ) → k < base → getD t k 0 ≡ getD s k 0
-  pub beyond : (k : ℕ) → base + 1028 ≤ k → getD t k 0 ≡ getD s k 0
-  pub zero-now : (k : ℕ) → k < 1028 → getD t (base + k) 0 ≡ 0
 
 -- row a of the set at `base` has no pair, and all else is as it was
 pub record RowTaken (base a : ℕ) (s t : List ℕ) : Type 0 where
-  pub same-length : length t ≡ length s
-  pub before : (k : ℕ) → k < base → getD t k 0 ≡ getD s k 0
-  pub beyond : (k : ℕ) → base + 1028 ≤ k → getD t k 0 ≡ getD s k 0
+  pub frame : Framed base 1028 s t
   pub taken : (x : ℕ) (y : Option ℕ) → x < 256 → Within 256 y → stored t base x y ≡ (stored s base x y && not (eqb x a))

@@ -7,7 +7,7 @@ ghost use lib.ListN.{length};
 ghost use Prim.Native.Nat.{_+_, _*_, _<_, _≤_};
 ghost use Rattle.completions.specs.Live.{countPairs};
 ghost use Rattle.pairs.specs.Storage.{stored};
-ghost use Rattle.pairs.specs.Changes.{eqNext, inWord, Adds, NextWord, NextBit, Zeroed, RowsCleared, Cleared, RowTaken, Noted};
+ghost use Rattle.pairs.specs.Changes.{eqNext, inWord, Adds, NextWord, NextBit, Zeroed, RowsCleared, RowTaken, Noted};
 
 // Whether (a, b) is in the set at base.
 pub fn has(s: &[u64], base: usize, a: usize, b: usize) -> bool
@@ -119,7 +119,7 @@ fn clear_words(s: &mut [u64], at: usize, n: usize)
 // Empties the set at base.
 pub fn clear(s: &mut [u64], base: usize)
     requires { ⌜ (base ≤ 2056) × (3084 ≤ length (now s)) ⌝ }
-    ensures { λ r. ⌜ Cleared base (now (s .entry)) (now (s .exit)) ⌝ }
+    ensures { λ r. ⌜ Zeroed base 1028 (now (s .entry)) (now (s .exit)) ⌝ }
 {
     clear_words(s, base, 1028);
 }

@@ -21,8 +21,9 @@ use Rattle.words.proofs.BitLaws.{bit-none, Lowest, lowest, without, lane-off, l
 use Rattle.words.proofs.AnyLaws.{none-any}
 use Rattle.words.proofs.BelowLaws.{below-more, below-wider, below-none}
 use Rattle.pairs.specs.Storage.{stored}
-use Rattle.pairs.specs.Changes.{eqNext, Adds, rowBit, NextBit, RowTaken, Noted}
-use Rattle.pairs.proofs.Sets.{stored-eq, adds-before, adds-beyond}
+use Rattle.pairs.specs.Changes.{eqNext, Framed, Adds, rowBit, NextBit, RowTaken, Noted}
+use Rattle.pairs.proofs.Frames.{framed-none, framed-then, framed-wider}
+use Rattle.pairs.proofs.Sets.{stored-eq, framed-before, framed-beyond}
 use Rattle.unions.specs.Rows.{meets, Row}
 use Rattle.preparation.specs.Search.{joining, joinersAt, joiners, newcomers, newcomersIn, enders, Joins, Occupied, Apart, Swept}
 use Rattle.preparation.proofs.Layers.{joining-same}
@@ -31,18 +32,16 @@ use Rattle.preparation.proofs.Layers.{joining-same}
 
 pub joins-none : (base : ℕ) (s : List ℕ) (P : Pairs) → ((x : ℕ) (y : Option ℕ) → x < 256 → Within 256 y → P x y ≡ false) → Joins base s s P
 joins-none base s P f = record {
-  same-length = refl;
+  frame = framed-none 0 (base + 1028) s;
   between = λ k h g. refl;
-  beyond = λ k h. refl;
   live = λ x y hx hy. sym (ap (λ (u : Bool). stored s 0 x y || u) (f x y hx hy) ∙ or-false (stored s 0 x y));
   next = λ x y hx hy. sym (ap (λ (u : Bool). stored s base x y || u) (f x y hx hy) ∙ or-false (stored s base x y));
 }
 
 pub joins-then : (base : ℕ) (s t u : List ℕ) (P Q R : Pairs) → Joins base s t P → Joins base t u Q → ((x : ℕ) (y : Option ℕ) → x < 256 → Within 256 y → (P x y || Q x y) ≡ R x y) → Joins base s u R
 joins-then base s t u P Q R p q f = record {
-  same-length = q .same-length ∙ p .same-length;
+  frame = framed-then (p .frame) (q .frame);
   between = λ k h g. q .between k h g ∙ p .between k h g;
-  beyond = λ k h. q .beyond k h ∙ p .beyond k h;
   live = λ x y hx hy.
       q .live x y hx hy ∙ ap (λ (w : Bool). w || Q x y) (p .live x y hx hy) ∙ or-assoc (stored s 0 x y) (P x y) (Q x y)
       ∙ ap (λ (w : Bool). stored s 0 x y || w) (f x y hx hy);
@@ -53,9 +52,8 @@ joins-then base s t u P Q R p q f = record {
 
 pub joins-as : (base : ℕ) (s t : List ℕ) (P R : Pairs) → Joins base s t P → ((x : ℕ) (y : Option ℕ) → x < 256 → Within 256 y → P x y ≡ R x y) → Joins base s t R
 joins-as base s t P R p f = record {
-  same-length = p .same-length;
+  frame = p .frame;
   between = p .between;
-  beyond = p .beyond;
   live = λ x y hx hy. p .live x y hx hy ∙ ap (λ (w : Bool). stored s 0 x y || w) (f x y hx hy);
   next = λ x y hx hy. p .next x y hx hy ∙ ap (λ (w : Bool). stored s base x y || w) (f x y hx hy);
 }
@@ -63,13 +61,12 @@ joins-as base s t P R p f = record {
 -- both sets gain the same pairs
 pub joins-both : (base : ℕ) (s t u : List ℕ) (P R : Pairs) → 1028 ≤ base → Adds 0 s t P → Adds base t u P → ((x : ℕ) (y : Option ℕ) → x < 256 → Within 256 y → P x y ≡ R x y) → Joins base s u R
 joins-both base s t u P R l p q f = record {
-  same-length = q .same-length ∙ p .same-length;
-  between = λ k h g. q .before k g ∙ p .beyond k h;
-  beyond = λ k h. q .beyond k h ∙ p .beyond k (omega arith);
+  frame = framed-then (framed-wider (omega arith) (omega arith) (p .frame)) (framed-wider (omega arith) (omega arith) (q .frame));
+  between = λ k h g. q .frame .before k g ∙ p .frame .beyond k h;
   live = λ x y hx hy.
-      adds-before base t u P q 0 x y hx hy l ∙ p .adds x y hx hy ∙ ap (λ (w : Bool). stored s 0 x y || w) (f x y hx hy);
+      framed-before (q .frame) 0 x y hx hy l ∙ p .adds x y hx hy ∙ ap (λ (w : Bool). stored s 0 x y || w) (f x y hx hy);
   next = λ x y hx hy.
-      q .adds x y hx hy ∙ ap₂ _||_ (adds-beyond 0 s t P p base x y hx hy l) (f x y hx hy);
+      q .adds x y hx hy ∙ ap₂ _||_ (framed-beyond (p .frame) base x y hx hy l) (f x y hx hy);
 }
 
 -- ---- one pair
@@ -98,7 +95,7 @@ occupied-more w base rows rows′ s t u a b ha hw hb l p q n o = record {
     -- another row is as it was, in the set and among the rows
     kept : (x : ℕ) (y : Option ℕ) → x < 256 → Within 256 y → (x ≡ a → ⊥) → stored u base x y ≡ stored s base x y
     kept x y hx hy d =
-        q .adds x y hx hy ∙ ap₂ (λ (v w : Bool). v || (w && eqNext y (some b))) (adds-beyond 0 s t (λ x y. eqb x a && eqNext y (some b)) p base x y hx hy l) (ne-eqb x a d) ∙ or-false (stored s base x y)
+        q .adds x y hx hy ∙ ap₂ (λ (v w : Bool). v || (w && eqNext y (some b))) (framed-beyond (p .frame) base x y hx hy l) (ne-eqb x a d) ∙ or-false (stored s base x y)
 
     other : (x : ℕ) → x < 256 → (x ≡ a → ⊥) → rowBit rows′ 0 x ≡ rowBit rows 0 x
     other x hx d = n .gains x hx ∙ ap (λ (v : Bool). rowBit rows 0 x || v) (ne-eqb x a d) ∙ or-false (rowBit rows 0 x)
@@ -120,18 +117,15 @@ occupied-more w base rows rows′ s t u a b ha hw hb l p q n o = record {
         let y = o .some-there x h (sym (other x (omega arith) d) ∙ e) in
         (y .0, y .1, kept x (y .0) (omega arith) (y .1) d ∙ y .2)
 
--- a row taken out of one set leaves another as it was
-pub taken-beside : (layer next b : ℕ) (s t : List ℕ) → Apart layer next → RowTaken layer b s t → (x : ℕ) (y : Option ℕ) → x < 256 → Within 256 y → stored t next x y ≡ stored s next x y
-taken-beside layer next b s t d r x y hx hy = stored-eq s t next next x y hx hy (λ k h. go k h d)
-  where
-    go : (k : ℕ) → k < 1028 → Apart layer next → getD t (next + k) 0 ≡ getD s (next + k) 0
-    go k h (inl d) = r .beyond (next + k) (omega arith)
-    go k h (inr d) = r .before (next + k) (omega arith)
+-- what is done to one set leaves another as it was
+pub framed-beside : {layer next : ℕ} {s t : List ℕ} → Apart layer next → Framed layer 1028 s t → (x : ℕ) (y : Option ℕ) → x < 256 → Within 256 y → stored t next x y ≡ stored s next x y
+framed-beside {next = next} (inl d) f x y hx hy = framed-beyond f next x y hx hy d
+framed-beside {next = next} (inr d) f x y hx hy = framed-before f next x y hx hy d
 
 pub occupied-beside : (w layer next b : ℕ) (rows s t : List ℕ) → w ≤ 4 → Apart layer next → RowTaken layer b s t → Occupied w rows s next → Occupied w rows t next
 occupied-beside w layer next b rows s t hw d r o = record {
-  none-there = λ x y hx hy h. taken-beside layer next b s t d r x y hx hy ∙ o .none-there x y hx hy h;
-  some-there = λ x h e. let y = o .some-there x h e in (y .0, y .1, taken-beside layer next b s t d r x (y .0) (omega arith) (y .1) ∙ y .2);
+  none-there = λ x y hx hy h. framed-beside d (r .frame) x y hx hy ∙ o .none-there x y hx hy h;
+  some-there = λ x h e. let y = o .some-there x h e in (y .0, y .1, framed-beside d (r .frame) x (y .0) (omega arith) (y .1) ∙ y .2);
 }
 
 -- ---- the lanes of a word, one after the other
@@ -360,8 +354,7 @@ module _ (x : RuleSheet) (w layer next : ℕ) (hw : w ≤ 4) (occ s : List ℕ) 
   pub swept-first : (b : ℕ) → NextBit occ 0 w 0 b → Swept x (64 * w) b layer next s s
   unfolding joiners
   swept-first b n = record {
-    same-length = refl;
-    beyond = λ k h. refl;
+    frame = framed-none 0 3084 s;
     live = λ a y ha hy. sym (ap (λ (u : Bool). stored s 0 a y || u) (sym (joiners-skip 0 b n a y) ∙ none-yet a y) ∙ or-false (stored s 0 a y));
     gained = λ a y ha hy. sym (ap (λ (u : Bool). stored s next a y || u) (sym (joiners-skip 0 b n a y) ∙ none-yet a y) ∙ or-false (stored s next a y));
     left = λ a y ha hy. sym (sym (left-skip 0 b n a y hy) ∙ ap (λ (u : Bool). stored s layer a y && not u) (le-ltb a 0 (omega arith)) ∙ and-true (stored s layer a y));
@@ -378,7 +371,7 @@ module _ (x : RuleSheet) (w layer next : ℕ) (hw : w ≤ 4) (occ s : List ℕ) 
       where
         go : (k : ℕ) → k < 1028 → Apart layer next → getD u (layer + k) 0 ≡ getD t (layer + k) 0
         go k h (inl d) = q .between (layer + k) (omega arith) (omega arith)
-        go k h (inr d) = q .beyond (layer + k) (omega arith)
+        go k h (inr d) = q .frame .beyond (layer + k) (omega arith)
 
     -- the row is still as it was, and so are the pairs with b
     same : (a : ℕ) → a < 256 → joining x (64 * w) (stored t 0) (stored t layer) a b ≡ K a b
@@ -401,14 +394,13 @@ module _ (x : RuleSheet) (w layer next : ℕ) (hw : w ≤ 4) (occ s : List ℕ) 
 
     pub swept-more : Swept x (64 * w) b′ layer next s z
     swept-more = record {
-      same-length = r .same-length ∙ q .same-length ∙ p .same-length;
-      beyond = λ k h. r .beyond k (omega arith) ∙ q .beyond k (omega arith) ∙ p .beyond k h;
+      frame = framed-then (p .frame) (framed-then (framed-wider (omega arith) (omega arith) (q .frame)) (framed-wider (omega arith) (omega arith) (r .frame)));
       live = λ a y ha hy.
-          stored-eq u z 0 0 a y ha hy (λ k h. r .before (0 + k) (omega arith)) ∙ q .live a y ha hy
+          framed-before (r .frame) 0 a y ha hy (omega arith) ∙ q .live a y ha hy
           ∙ ap (λ (v : Bool). v || joinersAt x (64 * w) b (stored t 0) (stored t layer) a y) (p .live a y ha hy)
           ∙ or-assoc (stored s 0 a y) (J b a y) (joinersAt x (64 * w) b (stored t 0) (stored t layer) a y) ∙ ap (λ (v : Bool). stored s 0 a y || v) (more a y ha);
       gained = λ a y ha hy.
-          taken-beside layer next b u z apart r a y ha hy ∙ q .next a y ha hy ∙ ap (λ (v : Bool). v || joinersAt x (64 * w) b (stored t 0) (stored t layer) a y) (p .gained a y ha hy)
+          framed-beside apart (r .frame) a y ha hy ∙ q .next a y ha hy ∙ ap (λ (v : Bool). v || joinersAt x (64 * w) b (stored t 0) (stored t layer) a y) (p .gained a y ha hy)
           ∙ or-assoc (stored s next a y) (J b a y) (joinersAt x (64 * w) b (stored t 0) (stored t layer) a y) ∙ ap (λ (v : Bool). stored s next a y || v) (more a y ha);
       left = λ a y ha hy.
           r .taken a y ha hy ∙ ap (λ (v : Bool). v && not (eqb a b)) (layer-kept a y ha hy ∙ p .left a y ha hy) ∙ lost (stored s layer a y) (ltb a b) (eqb a b)

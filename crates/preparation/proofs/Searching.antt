@@ -9,7 +9,7 @@ use native.Mathlib.Omega.{arith}
 use native.Mathlib.Decide.{decLt}
 use borrow.Author.Tests.{lt-ltb, le-ltb}
 use lib.Dec.{T, ltb}
-use lib.ListN.{length, getD, replicate}
+use lib.ListN.{getD, replicate}
 use Rattle.sheet.specs.RuleSheet.{RuleSheet, streams}
 use Rattle.completions.specs.Live.{Pairs, Live, allowed, countPairs}
 use Rattle.completions.specs.Steps.{Within, Represents}
@@ -17,10 +17,11 @@ use Rattle.completions.proofs.Count.{pairs-lt, pairs-le}
 use Rattle.completions.proofs.Backward.{endSet, liveWithin, layer}
 use Rattle.completions.proofs.Range.{wider}
 use Rattle.pairs.specs.Storage.{slot, stored}
-use Rattle.pairs.specs.Changes.{rowBit, NextBit, Cleared}
+use Rattle.pairs.specs.Changes.{rowBit, Framed, NextBit, Zeroed}
 use Rattle.words.proofs.BitLaws.{bit-none}
 use Rattle.words.proofs.Tests.{and-left, and-right, of-true, or-left}
-use Rattle.pairs.proofs.Sets.{stored-eq, cleared-none, cleared-before, set-ext}
+use Rattle.pairs.proofs.Frames.{framed-none, framed-then, framed-wider}
+use Rattle.pairs.proofs.Sets.{framed-before, framed-beyond, zeroed-none, set-ext}
 use Rattle.preparation.specs.Prepared.{Prepared, Reach}
 use Rattle.unions.specs.Rows.{Row}
 use Rattle.preparation.specs.Search.{joiners, enders, Joins, Occupied, Apart, Started, Swept}
@@ -33,17 +34,17 @@ contrary e f = let z : _≡_ {A = ℕ} 0 1 = cc in absurd (omega arith)
 
 -- ---- the parts of the code
 
-pub started : (w : ℕ) (row s t u v z : List ℕ) → Cleared 0 s t → Cleared 1028 t u → Cleared 2056 u v → Joins 1028 v z (enders (64 * w) row) → Started w row s z
+pub started : (w : ℕ) (row s t u v z : List ℕ) → Zeroed 0 1028 s t → Zeroed 1028 1028 t u → Zeroed 2056 1028 u v → Joins 1028 v z (enders (64 * w) row) → Started w row s z
 started w row s t u v z c d e j = record {
-  same-length = j .same-length ∙ e .same-length ∙ d .same-length ∙ c .same-length;
-  beyond = λ k h. j .beyond k (omega arith) ∙ e .beyond k (omega arith) ∙ d .beyond k (omega arith) ∙ c .beyond k (omega arith);
+  frame = framed-then (framed-then (framed-wider (omega arith) (omega arith) (c .frame)) (framed-wider (omega arith) (omega arith) (d .frame)))
+      (framed-then (framed-wider (omega arith) (omega arith) (e .frame)) (framed-wider (omega arith) (omega arith) (j .frame)));
   live = λ x y hx hy.
       j .live x y hx hy
       ∙ ap (λ (b : Bool). b || enders (64 * w) row x y)
-      (cleared-before 2056 u v e 0 x y hx hy (omega arith) ∙ cleared-before 1028 t u d 0 x y hx hy (omega arith) ∙ cleared-none 0 s t c x y hx hy);
+      (framed-before (e .frame) 0 x y hx hy (omega arith) ∙ framed-before (d .frame) 0 x y hx hy (omega arith) ∙ zeroed-none 0 s t c x y hx hy);
   layer = λ x y hx hy.
-      j .next x y hx hy ∙ ap (λ (b : Bool). b || enders (64 * w) row x y) (cleared-before 2056 u v e 1028 x y hx hy (omega arith) ∙ cleared-none 1028 t u d x y hx hy);
-  next = λ x y hx hy. stored-eq v z 2056 2056 x y hx hy (λ k h. j .beyond (2056 + k) (omega arith)) ∙ cleared-none 2056 u v e x y hx hy;
+      j .next x y hx hy ∙ ap (λ (b : Bool). b || enders (64 * w) row x y) (framed-before (e .frame) 1028 x y hx hy (omega arith) ∙ zeroed-none 1028 t u d x y hx hy);
+  next = λ x y hx hy. framed-beyond (j .frame) 2056 x y hx hy (omega arith) ∙ zeroed-none 2056 u v e x y hx hy;
 }
 
 -- the rows of the first layer are those of its ends
@@ -79,8 +80,7 @@ module _ (x : RuleSheet) (n v : ℕ) (hn : n ≤ 256) where
 -- ---- the search after d layers
 
 pub record Searching (x : RuleSheet) (layer next : ℕ) (s₀ s : List ℕ) (d : ℕ) : Type 0 where
-  pub same-length : length s ≡ length s₀
-  pub beyond : (k : ℕ) → 3084 ≤ k → getD s k 0 ≡ getD s₀ k 0
+  pub frame : Framed 0 3084 s₀ s
   pub live : (a : ℕ) (y : Option ℕ) → a < 256 → Within 256 y → stored s 0 a y ≡ liveWithin x 256 d a y
   pub newest : (a : ℕ) (y : Option ℕ) → a < 256 → Within 256 y → stored s layer a y ≡ fresh x d a y
   pub free : (a : ℕ) (y : Option ℕ) → a < 256 → Within 256 y → stored s next a y ≡ false
@@ -101,8 +101,7 @@ module _ (x : RuleSheet) (w : ℕ) (low : 2 ^ streams x ≤ 64 * w) where
   pub search-start : (row s t : List ℕ) → Row w row (allowed x) → Started w row s t → Searching x 1028 2056 t t 0
   unfolding fresh liveWithin
   search-start row s t r p = record {
-    same-length = refl;
-    beyond = λ k h. refl;
+    frame = framed-none 0 3084 t;
     live = λ a y ha hy. p .live a y ha hy ∙ ends-set row r a y;
     newest = λ a y ha hy. p .layer a y ha hy ∙ ends-set row r a y;
     free = p .next;
@@ -156,8 +155,7 @@ module _ (x : RuleSheet) (w : ℕ) (low : 2 ^ streams x ≤ 64 * w) where
     search-more =
         let l : d < countPairs 256 (stored s 0) = p .grows r (pair .0) (omega arith) (pair .1) (pair .2) in
         record {
-          same-length = q .same-length ∙ p .same-length;
-          beyond = λ k h. q .beyond k h ∙ p .beyond k h;
+          frame = framed-then (p .frame) (q .frame);
           live = live-now;
           newest = newest-now;
           free = free-now;
@@ -229,8 +227,7 @@ module _ (x : RuleSheet) (small : 2 ^ streams x ≤ 256) (w layer next : ℕ) (s
         let e : d ≡ suc (d - 1) = omega (arith, some-layer) in
         let f : Represents 256 (stored s 0) (Live x) × Reach x (d - 1) = found (d - 1) e in (
           record {
-            same-length = p .same-length ∙ st .same-length;
-            beyond = λ i h. p .beyond i h ∙ st .beyond i h;
+            frame = framed-then (st .frame) (p .frame);
             live = f .0;
             cleared = λ i h l. wiped i h l places (decLt i 2056);
             counted = c;

@@ -8,12 +8,12 @@ use Rattle.sheet.specs.RuleSheet.{RuleSheet}
 use Rattle.completions.specs.Live.{Live, countPairs}
 use Rattle.completions.specs.Steps.{Represents}
 use Rattle.pairs.specs.Storage.{stored}
+use Rattle.pairs.specs.Changes.{Framed}
 
 -- From storage s preparation makes t, whatever s held: the live set is exactly the live pairs, the reached set and the scratch set are
 -- empty, the numbers past 3,084 are untouched. It returns the exact number of live pairs, at most 65,792.
 pub record Prepared (x : RuleSheet) (s t : List ℕ) (count : ℕ) : Type 0 where
-  pub same-length : length t ≡ length s
-  pub beyond : (k : ℕ) → 3084 ≤ k → getD t k 0 ≡ getD s k 0
+  pub frame : Framed 0 3084 s t
   pub live : Represents 256 (stored t 0) (Live x)
   pub cleared : (k : ℕ) → 1028 ≤ k → k < 3084 → getD t k 0 ≡ 0
   pub counted : count ≡ countPairs 256 (stored t 0)

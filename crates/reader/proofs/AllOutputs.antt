@@ -5,12 +5,13 @@ use native.Mathlib.Numerals.{add-one}
 use mathlib.Core.Path.{_≡_, refl, sym, ap, ap₂, _∙_, subst}
 use mathlib.Core.Bool.{Bool, true, false, cond, _&&_}
 use mathlib.Core.List.{List, [], _∷_, _++_, append-assoc, append-nil}
-use lib.ListN.{length, take, drop, getD, set, length-drop, length-set, drop-of-length-le}
-use lib.Seq.{drop-cons, drop-drop, getD-set-same, getD-set-other, length-take-le}
+use lib.ListN.{length, take, drop, set, length-drop, length-set, drop-of-length-le}
+use lib.Seq.{drop-cons, drop-drop, length-take-le}
 use lib.Dec.{leb}
 use borrow.Author.Tests.{leb-true}
 use borrow.Author.Count.{below-more}
 use Rattle.words.proofs.Bools.{and-split}
+use Rattle.words.proofs.ListLaws.{set-more}
 use Rattle.sheet.specs.Expression.{Expr, Parsed, tree, broken, parse}
 use Rattle.sheet.specs.RuleSheet.{Outputs, trees, breaks, lengthOk, after, andThen, readOutputs, requiredOf, withOutputs}
 use Rattle.reader.specs.Answer.{outputAt, outputOf, outputsBy, Put, Held}
@@ -126,10 +127,7 @@ module _ (bs : List ℕ) (s n : ℕ) (len code : List ℕ) (at k : ℕ) (kept : 
             record {
               sizes = length-set len k l ∙ z .sizes;
               room = put .size ∙ z .room;
-              small =
-                  below-more (λ (j : ℕ). getD (set len k l) j 0 ≤ 64) k
-                  (λ j b. rw (getD-set-other len k j l 0 (omega arith)) (z .small j b))
-                  (rw (getD-set-same len k l 0 (omega (arith, z .sizes))) (i .short));
+              small = set-more (λ j v. v ≤ 64) len k l (omega (arith, z .sizes)) (i .short) (z .small);
               parts =
                   below-more (λ (j : ℕ). Parses s (codeAt new (set len k l) j)) k
                   (λ j b. rw (same j b) (z .parts j b))

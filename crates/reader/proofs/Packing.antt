@@ -2,11 +2,11 @@
 use Prim.Native.Nat.{ℕ, _+_, _*_, _≤_, _<_}
 use native.Mathlib.Omega.{arith}
 use native.Mathlib.Nat.{zero-add}
-use native.Mathlib.Decide.{decLt}
-use mathlib.Core.Path.{_≡_, refl, sym, _∙_, subst}
+use mathlib.Core.Path.{_≡_, refl, sym, _∙_}
 use mathlib.Core.List.{List}
 use lib.ListN.{length, take, drop, getD, set, length-set, length-drop}
 use lib.Seq.{ext-getD, getD-take, getD-drop, getD-set-same, getD-set-other, length-take-le, take-all}
+use Rattle.words.proofs.ListLaws.{set-more-from}
 use Rattle.sheet.specs.Reading.{codeAt, Usable, Ranges, Below}
 use Rattle.reader.specs.Answer.{Put, Held}
 use Rattle.sheet.specs.declared.Assumed.{Assumed}
@@ -24,15 +24,9 @@ pub put-more : (from : ℕ) (e old new : List ℕ) (i : ℕ) → from + i < leng
 put-more from e old new i h x =
     record {
       size = length-set new (from + i) (getD e i 0) ∙ x .size;
-      part = λ j l. go j l (decLt j i);
+      part = set-more-from (λ j v. v ≡ getD e j 0) from new i (getD e i 0) h refl (x .part);
       below = λ j l. getD-set-other new (from + i) j (getD e i 0) 0 (omega arith) ∙ x .below j l;
     }
-  where
-    go : (j : ℕ) → j < i + 1 → Dec (j < i) → getD (set new (from + i) (getD e i 0)) (from + j) 0 ≡ getD e j 0
-    go j l (yes q) = getD-set-other new (from + i) (from + j) (getD e i 0) 0 (omega arith) ∙ x .part j q
-    go j l (no q) =
-        let s : j ≡ i = omega arith in
-        subst (λ (k : ℕ). getD (set new (from + i) (getD e i 0)) (from + k) 0 ≡ getD e k 0) (sym s) (getD-set-same new (from + i) (getD e i 0) 0 h)
 
 pub put-all : (from : ℕ) (e old new : List ℕ) (i : ℕ) → length e ≤ i → PutSoFar from e old new i → Put from e old new
 put-all from e old new i h x = record { size = x .size; part = λ j l. x .part j (omega arith); below = x .below }

@@ -18,7 +18,7 @@ use Rattle.lola.specs.Equations.{holds}
 use Rattle.completions.specs.Live.{Pairs}
 use Rattle.pairs.specs.Storage.{stored}
 use Rattle.pairs.specs.Changes.{eqNext, inWord, Adds}
-use Rattle.pairs.proofs.Sets.{adds-none, adds-as, adds-beyond, lane, lane-end}
+use Rattle.pairs.proofs.Sets.{adds-none, adds-as, framed-beyond, lane, lane-end}
 use Rattle.rounds.specs.Rows.{Wide, gains, NoEndNew, inRow}
 use Rattle.rounds.proofs.Bools.{merge-both}
 use Rattle.rounds.proofs.WordLaws.{low-lane}
@@ -122,7 +122,7 @@ module _ (x : RuleSheet) where
             (bit-and (b % 64) (getD t (1024 + j) 0) heard
             ∙ ap₂ _&&_ (end-at t 0 j (b % 64) (1024 + j) h (omega arith) ∙ ap (λ (i : ℕ). stored t 0 i none) q)
             (bit-and (b % 64) (getD t (2056 + (4 * g + j)) 0) low
-            ∙ ap₂ _&&_ (lane t 2056 g j (b % 64) h ∙ ap (λ (i : ℕ). stored t 2056 g (some i)) q ∙ adds-beyond 1028 s t (Upto j) f 2056 g (some b) hg hb (omega arith))
+            ∙ ap₂ _&&_ (lane t 2056 g j (b % 64) h ∙ ap (λ (i : ℕ). stored t 2056 g (some i)) q ∙ framed-beyond (f .frame) 2056 g (some b) hg hb (omega arith))
             (lows (b % 64) h ∙ low-lane v w j (b % 64) wide l h ∙ ap (λ (i : ℕ). ltb i v) q)))
             (holding (b % 64) h ∙ ap (λ (i : ℕ). holds x p i none) q)
 

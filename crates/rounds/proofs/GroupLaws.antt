@@ -9,20 +9,18 @@ use native.Mathlib.Decide.{ℕ-discrete, decLt}
 use borrow.Author.Tests.{eq-eqb, ne-eqb, lt-ltb, le-ltb}
 use lib.Bits.{bitAnd}
 use lib.Dec.{eqb, ltb}
-use lib.ListN.{length, getD}
 use Rattle.completions.specs.Live.{Pairs}
 use Rattle.completions.specs.Steps.{Within}
 use Rattle.pairs.specs.Storage.{stored, used}
-use Rattle.pairs.specs.Changes.{rowBit, Adds, NextBit, RowsCleared, RowTaken}
-use Rattle.pairs.proofs.Sets.{rows-beyond, adds-beyond}
+use Rattle.pairs.specs.Changes.{Framed, rowBit, Adds, NextBit, RowsCleared, RowTaken}
+use Rattle.pairs.proofs.Frames.{framed-none, framed-then}
+use Rattle.pairs.proofs.Sets.{framed-beyond}
 use Rattle.words.proofs.AnyLaws.{none-any}
 use Rattle.rounds.specs.Rows.{Sparse, NoEnds, grouped}
 
 -- of the scratch set, the groups below g and v are emptied
 pub record Emptying (groups : List ℕ) (v : ℕ) (s t : List ℕ) (g : ℕ) : Type 0 where
-  pub same-length : length t ≡ length s
-  pub before : (k : ℕ) → k < 2056 → getD t k 0 ≡ getD s k 0
-  pub beyond : (k : ℕ) → 2056 + 1028 ≤ k → getD t k 0 ≡ getD s k 0
+  pub frame : Framed 2056 1028 s t
   pub left : (x : ℕ) (y : Option ℕ) → x < 256 → Within 256 y → stored t 2056 x y ≡ (stored s 2056 x y && not (rowBit groups 0 x && ltb x (min g v)))
 
 module _ (groups : List ℕ) (v : ℕ) where
@@ -37,18 +35,14 @@ module _ (groups : List ℕ) (v : ℕ) where
 
   pub emptying-none : (s : List ℕ) (n g : ℕ) → NextBit groups 0 n 0 g → Emptying groups v s s g
   emptying-none s n g z = record {
-    same-length = refl;
-    before = λ k h. refl;
-    beyond = λ k h. refl;
+    frame = framed-none 2056 1028 s;
     left = λ x y hx hy. sym (kept x g (stored s 2056 x y) (λ h. z .skipped x (omega arith) (omega arith)));
   }
 
   pub emptying-more : (s t u : List ℕ) (n g g′ : ℕ) → g < v → rowBit groups 0 g ≡ true → Emptying groups v s t g → RowTaken 2056 g t u → NextBit groups 0 n (g + 1) g′
       → Emptying groups v s u g′
   emptying-more s t u n g g′ h noted e r z = record {
-    same-length = r .same-length ∙ e .same-length;
-    before = λ k l. r .before k l ∙ e .before k l;
-    beyond = λ k l. r .beyond k l ∙ e .beyond k l;
+    frame = framed-then (e .frame) (r .frame);
     left = λ x y hx hy. r .taken x y hx hy ∙ ap (λ (b : Bool). b && not (eqb x g)) (e .left x y hx hy) ∙ go (stored s 2056 x y) x (ℕ-discrete x g) (decLt x g);
   }
     where
@@ -75,12 +69,7 @@ module _ (groups : List ℕ) (v : ℕ) where
 
   pub emptying-all : (s t : List ℕ) (g : ℕ) → v ≤ g → v ≤ 256 → Sparse v groups (stored s 2056) → NoEnds (stored s 2056) → Emptying groups v s t g → RowsCleared 2056 v s t
   unfolding used
-  emptying-all s t g h hv sparse ends e = record {
-    same-length = e .same-length;
-    before = e .before;
-    beyond = e .beyond;
-    emptied = λ x y hx hy. e .left x y hx hy ∙ go x y hx hy;
-  }
+  emptying-all s t g h hv sparse ends e = record { frame = e .frame; emptied = λ x y hx hy. e .left x y hx hy ∙ go x y hx hy }
     where
       noted : (x b : ℕ) (u : Bool) → x < v → b < 256 → rowBit groups 0 x ≡ u → (stored s 2056 x (some b) && not (u && true)) ≡ false
       noted x b true l hb q = and-false (stored s 2056 x (some b))
@@ -102,14 +91,14 @@ module _ (groups : List ℕ) (v : ℕ) where
 
 -- changes of the reached set leave the scratch set sparse
 pub sparse-brought : (v : ℕ) (groups s t : List ℕ) (P : Pairs) → v ≤ 256 → Adds 1028 s t P → Sparse v groups (stored s 2056) → Sparse v groups (stored t 2056)
-sparse-brought v groups s t P hv d f g hg e k hk = adds-beyond 1028 s t P d 2056 g (some k) (omega arith) hk (omega arith) ∙ f g hg e k hk
+sparse-brought v groups s t P hv d f g hg e k hk = framed-beyond (d .frame) 2056 g (some k) (omega arith) hk (omega arith) ∙ f g hg e k hk
 
 -- a scratch set that was cleared and has the groups put into it has no ends, and changes of the reached set leave it so
 pub no-ends : (v : ℕ) (s s₁ s₂ s₃ s₄ : List ℕ) (S P : Pairs) (r : ℕ → Bool) (mask w : ℕ) → RowsCleared 2056 v s s₁ → Adds 2056 s₁ s₂ (grouped S r mask w v) → RowsCleared 1028 v s₂ s₃
     → Adds 1028 s₃ s₄ P → NoEnds (stored s₄ 2056)
 unfolding grouped used
 no-ends v s s₁ s₂ s₃ s₄ S P r mask w a b c d k h =
-    adds-beyond 1028 s₃ s₄ P d 2056 k none h tt (omega arith)
-    ∙ rows-beyond 1028 v s₂ s₃ c 2056 k none h tt (omega arith)
+    framed-beyond (d .frame) 2056 k none h tt (omega arith)
+    ∙ framed-beyond (c .frame) 2056 k none h tt (omega arith)
     ∙ b .adds k none h tt
     ∙ ap₂ _||_ (a .emptied k none h tt) (none-any v _ (λ i l. and-false (eqb k (bitAnd i mask))))

@@ -22,7 +22,8 @@ use Rattle.completions.specs.Live.{Pairs}
 use Rattle.completions.specs.Steps.{Within, startSet, stepSet, partBelow}
 use Rattle.pairs.specs.Storage.{stored, used}
 use Rattle.pairs.specs.Changes.{inWord, Adds, RowsCleared}
-use Rattle.pairs.proofs.Sets.{rows-before, rows-beyond, used-below, unused, adds-none, adds-then, adds-before, adds-beyond}
+use Rattle.pairs.proofs.Frames.{framed-then, framed-wider}
+use Rattle.pairs.proofs.Sets.{framed-before, framed-beyond, used-below, unused, adds-none, adds-then}
 use Rattle.rounds.specs.Rows.{among, Wide, cut, gains, inRow, heardFirst, brought, heardIn, grouped, Sparse}
 use Rattle.rounds.specs.Round.{Rounded}
 use Rattle.rounds.proofs.Bools.{merge-under}
@@ -66,12 +67,12 @@ module _ (w v : ℕ) (is : v ≡ w) (s s₁ s₂ s₃ s₄ s₅ : List ℕ) (G P
     (d : Adds 1028 s₃ s₄ P) (e : RowsCleared 2056 v s₄ s₅) where
   pub live-same : (k : ℕ) (y : Option ℕ) → k < 256 → Within 256 y → stored s₃ 0 k y ≡ stored s 0 k y
   live-same k y hk hy =
-      rows-before 1028 v s₂ s₃ c 0 k y hk hy (omega arith) ∙ adds-before 2056 s₁ s₂ G b 0 k y hk hy (omega arith) ∙ rows-before 2056 v s s₁ a 0 k y hk hy (omega arith)
+      framed-before (c .frame) 0 k y hk hy (omega arith) ∙ framed-before (b .frame) 0 k y hk hy (omega arith) ∙ framed-before (a .frame) 0 k y hk hy (omega arith)
 
   -- in the words in use, the scratch set is what was put there
   pub put-is : (g k : ℕ) → g < w → g < 256 → k < 256 → stored s₃ 2056 g (some k) ≡ G g (some k)
   put-is g k l hg hk =
-      rows-beyond 1028 v s₂ s₃ c 2056 g (some k) hg hk (omega arith)
+      framed-beyond (c .frame) 2056 g (some k) hg hk (omega arith)
       ∙ b .adds g (some k) hg hk
       ∙ ap (λ (u : Bool). u || G g (some k))
       (a .emptied g (some k) hg hk ∙ ap (λ (u : Bool). cond u false (stored s 2056 g (some k))) (used-below v g (some k) (omega arith)))
@@ -79,22 +80,22 @@ module _ (w v : ℕ) (is : v ≡ w) (s s₁ s₂ s₃ s₄ s₅ : List ℕ) (G P
   pub steps-rounded : ((k : ℕ) (y : Option ℕ) → v ≤ k → G k y ≡ false) → ((k : ℕ) (y : Option ℕ) → k < 256 → Within 256 y → P k y ≡ (ltb k w && (partBelow w y && R k y)))
       → Rounded w s s₅ R
   steps-rounded low brings = record {
-    same-length = e .same-length ∙ d .same-length ∙ c .same-length ∙ b .same-length ∙ a .same-length;
-    live = λ k h. e .before k (omega arith) ∙ d .before k h ∙ c .before k h ∙ b .before k (omega arith) ∙ a .before k (omega arith);
-    beyond = λ k h. e .beyond k h ∙ d .beyond k (omega arith) ∙ c .beyond k (omega arith) ∙ b .beyond k h ∙ a .beyond k h;
+    frame = framed-then
+        (framed-then (framed-wider (omega arith) (omega arith) (framed-then (a .frame) (b .frame))) (framed-wider (omega arith) (omega arith) (framed-then (c .frame) (d .frame))))
+        (framed-wider (omega arith) (omega arith) (e .frame));
     reached = λ k y hk hy.
-        rows-before 2056 v s₄ s₅ e 1028 k y hk hy (omega arith)
+        framed-before (e .frame) 1028 k y hk hy (omega arith)
         ∙ d .adds k y hk hy
         ∙ ap₂ _||_
         (c .emptied k y hk hy
-        ∙ ap₂ (λ (z : ℕ) (l : Bool). cond (used z k y) false l) is (adds-before 2056 s₁ s₂ G b 1028 k y hk hy (omega arith) ∙ rows-before 2056 v s s₁ a 1028 k y hk hy (omega arith)))
+        ∙ ap₂ (λ (z : ℕ) (l : Bool). cond (used z k y) false l) is (framed-before (b .frame) 1028 k y hk hy (omega arith) ∙ framed-before (a .frame) 1028 k y hk hy (omega arith)))
         (brings k y hk hy)
         ∙ gained (used w k y) (ltb k w && (partBelow w y && R k y)) (stored s 1028 k y) (λ q. ap (λ (u : Bool). u && (partBelow w y && R k y)) (unused w k y q));
     scratch = λ k y hk hy.
         e .emptied k y hk hy
         ∙ ap (cond (used v k y) false)
-        (adds-beyond 1028 s₃ s₄ P d 2056 k y hk hy (omega arith)
-        ∙ rows-beyond 1028 v s₂ s₃ c 2056 k y hk hy (omega arith)
+        (framed-beyond (d .frame) 2056 k y hk hy (omega arith)
+        ∙ framed-beyond (c .frame) 2056 k y hk hy (omega arith)
         ∙ b .adds k y hk hy
         ∙ ap (λ (l : Bool). l || G k y) (a .emptied k y hk hy))
         ∙ both-cleared (used v k y) (G k y) (stored s 2056 k y) (λ q. low k y (ltb-false k v (unused v k y q)))
@@ -233,7 +234,7 @@ cleared-sparse v groups s s₁ hv a g hg e k hk =
     a .emptied g (some k) (omega arith) hk ∙ ap (λ (u : Bool). cond u false (stored s 2056 g (some k))) (used-below v g (some k) hg)
 
 pub sparse-kept : (v w : ℕ) (groups s t : List ℕ) → v ≡ w → v ≤ 256 → RowsCleared 1028 v s t → Sparse v groups (stored s 2056) → Sparse w groups (stored t 2056)
-sparse-kept v w groups s t is hv c f g hg e k hk = rows-beyond 1028 v s t c 2056 g (some k) (omega arith) hk (omega arith) ∙ f g (omega arith) e k hk
+sparse-kept v w groups s t is hv c f g hg e k hk = framed-beyond (c .frame) 2056 g (some k) (omega arith) hk (omega arith) ∙ f g (omega arith) e k hk
 
 module _ (x : RuleSheet) (mask : ℕ) (blind : Blind x mask) (w n : ℕ) (r : ℕ → Bool) (hw : w ≤ 256) (hn : w ≤ 64 * n) where
   -- the storage: at first, cleared scratch, grouped, cleared reached, brought, cleared scratch
@@ -255,7 +256,7 @@ module _ (x : RuleSheet) (mask : ℕ) (blind : Blind x mask) (w n : ℕ) (r : �
         let hm : k < 64 * n = omega arith in
         put-is w v is s s₁ s₂ s₃ s₄ s₅ G₁ Brought Stepped a b c d e g k hg (omega arith) hk′
         ∙ any-cong v _ (λ i. eqb g (bitAnd i mask) && (stored s 1028 i (some k) && r k))
-        (λ i hi. ap₂ (λ (p q : Bool). eqb g (bitAnd i mask) && (p && (q && r k))) (lt-ltb k (64 * n) hm) (rows-before 2056 v s s₁ a 1028 i (some k) (omega arith) hk′ (omega arith)))
+        (λ i hi. ap₂ (λ (p q : Bool). eqb g (bitAnd i mask) && (p && (q && r k))) (lt-ltb k (64 * n) hm) (framed-before (a .frame) 1028 i (some k) (omega arith) hk′ (omega arith)))
         ∙ ap (λ (z : ℕ). anyBelow z (λ i. eqb g (bitAnd i mask) && (stored s 1028 i (some k) && r k))) is
 
     brought-is : (k : ℕ) (y : Option ℕ) → k < 256 → Within 256 y → Brought k y ≡ (ltb k w && (partBelow w y && Stepped k y))

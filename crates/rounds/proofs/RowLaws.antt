@@ -18,7 +18,7 @@ use Rattle.completions.specs.Steps.{Within, partBelow}
 use Rattle.pairs.specs.Storage.{stored}
 use Rattle.pairs.specs.Changes.{eqNext, Adds, rowBit, NextBit, Noted}
 use Rattle.pairs.proofs.BitSearch.{any-skip}
-use Rattle.pairs.proofs.Sets.{adds-none, adds-as, adds-then, adds-before, adds-beyond, row-bit}
+use Rattle.pairs.proofs.Sets.{adds-none, adds-as, adds-then, framed-before, framed-beyond, row-bit}
 use Rattle.rounds.specs.Rows.{cut, gains, inRow, brought, Sparse}
 use Rattle.rounds.proofs.Bools.{merge, merge-under, merge-both}
 
@@ -57,7 +57,7 @@ module _ (x : RuleSheet) where
       (λ b c hb hc.
       ap₂ _||_ (lump B C (stored s 0) p b c)
       (lump B′ C′ (stored t 0) p b c
-      ∙ ap (λ (l : Bool). (B′ b && C′ c) && (l && holds x p b c)) (adds-before 1028 s t (gains x B C (stored s 0) p) f 0 b c hb hc (omega arith)))
+      ∙ ap (λ (l : Bool). (B′ b && C′ c) && (l && holds x p b c)) (framed-before (f .frame) 0 b c hb hc (omega arith)))
       ∙ merge (B b && C c) (B′ b && C′ c) (B″ b && C″ c) (stored s 0 b c && holds x p b c) (e b c hb hc)
       ∙ sym (lump B″ C″ (stored s 0) p b c))
 
@@ -132,7 +132,7 @@ module _ (x : RuleSheet) where
     In = inRow (stored s 2056) w g
 
     row-same : (t : List ℕ) (P : Pairs) → Adds 1028 s t P → (a : ℕ) → a < 256 → rowBit t (2056 + 4 * g) a ≡ stored s 2056 g (some a)
-    row-same t P f a h = row-bit t 2056 g a ∙ adds-beyond 1028 s t P f 2056 g (some a) hg h (omega arith)
+    row-same t P f a h = row-bit t 2056 g a ∙ framed-beyond (f .frame) 2056 g (some a) hg h (omega arith)
 
     wider : (t : List ℕ) (b b′ : ℕ) → b ≤ b′ → ((a : ℕ) → a < 256 → b ≤ a → a < b′ → stored s 2056 g (some a) ≡ false) → Adds 1028 s t (Rows b In Cells s p) → Adds 1028 s t (Rows b′ In Cells s p)
     wider t b b′ l f a =
@@ -172,7 +172,7 @@ module _ (x : RuleSheet) where
         gains-join s t u In (inRow (stored t 2056) w g) In Cells (λ y. eqNext y none) (partBelow w) p f e (λ b c hb hc. go b hb c)
       where
         same : (b : ℕ) → b < 256 → inRow (stored t 2056) w g b ≡ In b
-        same b hb = ap (λ (u : Bool). ltb b w && u) (adds-beyond 1028 s t (gains x In Cells (stored s 0) p) f 2056 g (some b) hg hb (omega arith))
+        same b hb = ap (λ (u : Bool). ltb b w && u) (framed-beyond (f .frame) 2056 g (some b) hg hb (omega arith))
 
         go : (b : ℕ) → b < 256 → (c : Option ℕ) → ((In b && Cells c) || (inRow (stored t 2056) w g b && eqNext c none)) ≡ (In b && partBelow w c)
         go b hb none = ap₂ (λ (u v : Bool). u || (v && true)) (and-false (In b)) (same b hb)
@@ -193,8 +193,8 @@ module _ (x : RuleSheet) where
       or-comm (brought x (stored s 2056) w (stored s 0) g b c) _
       ∙ ap (λ (v : Bool). v || brought x (stored s 2056) w (stored s 0) g b c)
       (ap₂ (λ (k l : Bool). (ltb b w && k) && (partBelow w c && (l && holds x (some g) b c)))
-      (adds-beyond 1028 s t (brought x (stored s 2056) w (stored s 0) g) f 2056 g (some b) hg hb (omega arith))
-      (adds-before 1028 s t (brought x (stored s 2056) w (stored s 0) g) f 0 b c hb hc (omega arith)))
+      (framed-beyond (f .frame) 2056 g (some b) hg hb (omega arith))
+      (framed-before (f .frame) 0 b c hb hc (omega arith)))
       ∙ sym (any-one g (λ a. gains x (inRow (stored s 2056) w a) (partBelow w) (stored s 0) (some a) b c)))
 
   -- rows that are not among the groups bring nothing

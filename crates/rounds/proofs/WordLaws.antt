@@ -21,7 +21,7 @@ use Rattle.completions.specs.Live.{Pairs}
 use Rattle.completions.specs.Steps.{Within}
 use Rattle.pairs.specs.Storage.{stored}
 use Rattle.pairs.specs.Changes.{inWord, Adds}
-use Rattle.pairs.proofs.Sets.{adds-none, adds-as, adds-then, adds-before, lane}
+use Rattle.pairs.proofs.Sets.{adds-none, adds-as, adds-then, framed-before, lane}
 use Rattle.rounds.specs.Rows.{among, Wide, cut, gains, NoneNew, heardIn, grouped, Quiet}
 use Rattle.rounds.proofs.Bools.{turn, merge-under, nothing-new}
 
@@ -225,7 +225,7 @@ module _ (s : List ℕ) (letters a g : ℕ) (ha : a < 256) where
           let l : c % 64 < 64 = omega arith in
           ap (λ (b : Bool). eqb (c / 64) j && b)
           (bit-and (c % 64) (getD t (1028 + (4 * a + j)) 0) letters
-          ∙ ap₂ _&&_ (lane t 1028 a j (c % 64) l ∙ ap (λ (i : ℕ). stored t 1028 a (some i)) w ∙ adds-before 2056 s t (Joined s letters a g (64 * j)) f 1028 a (some c) ha hc (omega arith))
+          ∙ ap₂ _&&_ (lane t 1028 a j (c % 64) l ∙ ap (λ (i : ℕ). stored t 1028 a (some i)) w ∙ framed-before (f .frame) 1028 a (some c) ha hc (omega arith))
           (heard-lane letters j (c % 64) l ∙ ap (among letters) w))
       word c hc (no e) = rw (ne-eqb (c / 64) j e)
 
@@ -260,7 +260,7 @@ grouped-more s t u letters mask w a ha f q =
     go : (k : ℕ) (c : Option ℕ) → Within 256 c → Joined t letters a (bitAnd a mask) w k c ≡ (eqb k (bitAnd a mask) && heardIn (stored s 1028) r w a c)
     go k none hc = refl
     go k (some c) hc =
-        ap (λ (v : Bool). eqb k (bitAnd a mask) && (ltb c w && (v && among letters c))) (adds-before 2056 s t (grouped (stored s 1028) r mask w a) f 1028 a (some c) ha hc (omega arith))
+        ap (λ (v : Bool). eqb k (bitAnd a mask) && (ltb c w && (v && among letters c))) (framed-before (f .frame) 1028 a (some c) ha hc (omega arith))
 
 -- rows that have nothing bring nothing to a group
 grouped-quiet : (s t : List ℕ) (S : Pairs) (r : ℕ → Bool) (mask w a b : ℕ) → a ≤ b → Quiet S a b → Adds 2056 s t (grouped S r mask w a) → Adds 2056 s t (grouped S r mask w b)
@@ -299,7 +299,7 @@ module _ (s : List ℕ) (letters mask w v : ℕ) (hv : v ≤ 256) where
   pub upto-quiet : (t : List ℕ) (a : ℕ) → a < v → Adds 2056 s t (Upto a) → Quiet (stored t 1028) a (a + 4) → Adds 2056 s t (Upto (a + 4))
   upto-quiet t a h f q =
       grouped-quiet s t (stored s 1028) (among letters) mask w (min a v) (min (a + 4) v) (omega arith)
-      (λ x y l k hy. sym (adds-before 2056 s t (Upto a) f 1028 x (some y) (omega arith) hy (omega arith)) ∙ q x y (omega arith) (omega arith) hy) f
+      (λ x y l k hy. sym (framed-before (f .frame) 1028 x (some y) (omega arith) hy (omega arith)) ∙ q x y (omega arith) (omega arith) hy) f
 
   pub upto-all : (t : List ℕ) (a : ℕ) → v ≤ a → Adds 2056 s t (Upto a) → Adds 2056 s t (grouped (stored s 1028) (among letters) mask w v)
   upto-all t a h f = let e : min a v ≡ v = omega arith in subst (λ (k : ℕ). Adds 2056 s t (grouped (stored s 1028) (among letters) mask w k)) e f

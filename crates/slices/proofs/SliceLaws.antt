@@ -4,13 +4,13 @@ use mathlib.Core.Bool.{Bool, true, false, not}
 use mathlib.Core.List.{List, [], _∷_, append-nil}
 use Prim.Native.Nat.{ℕ, _+_, _≤_, _<_}
 use native.Mathlib.Omega.{arith}
-use native.Mathlib.Decide.{decLt}
 use native.Mathlib.Numerals.{add-one}
 use lib.Dec.{eqb, leb}
 use lib.ListN.{length, getD, set, take, drop, length-set, length-drop}
-use lib.Seq.{paste, paste-zero, paste-suc, getD-drop, getD-set-same, getD-set-other, ext-getD, take-all, drop-length}
+use lib.Seq.{paste, paste-zero, paste-suc, getD-drop, ext-getD, take-all, drop-length}
 use borrow.Author.Tests.{not-false, eqb-true, leb-true, eq-eqb, le-leb}
 use Rattle.words.proofs.Bools.{and-split}
+use Rattle.words.proofs.ListLaws.{set-more}
 use Rattle.slices.specs.Slices.{sized}
 
 -- the first k of xs stand in `new` from a place on
@@ -35,14 +35,8 @@ pub record TakenTo (k : ℕ) (ns counts : List ℕ) : Type 0 where
 pub taken-more : (k : ℕ) (ns counts : List ℕ) → k < 28 → TakenTo k ns counts → TakenTo (k + 1) ns (set counts k (getD ns (k + 2) 0))
 taken-more k ns counts h t = record {
   size = length-set counts k (getD ns (k + 2) 0) ∙ t .size;
-  each = λ i l. go i l (decLt i k);
+  each = set-more (λ i v. v ≡ getD ns (i + 2) 0) counts k (getD ns (k + 2) 0) (omega (arith, t .size)) refl (t .each);
 }
-  where
-    go : (i : ℕ) → i < k + 1 → Dec (i < k) → getD (set counts k (getD ns (k + 2) 0)) i 0 ≡ getD ns (i + 2) 0
-    go i l (yes n) = getD-set-other counts k i (getD ns (k + 2) 0) 0 (λ e. omega arith) ∙ t .each i n
-    go i l (no n) =
-        let e : i ≡ k = omega arith in
-        rw e (getD-set-same counts k (getD ns (k + 2) 0) 0 (omega (arith, t .size)))
 
 pub taken-all : (ns counts : List ℕ) → length ns ≡ 30 → TakenTo 28 ns counts → counts ≡ drop 2 ns
 taken-all ns counts e t =

@@ -8,7 +8,7 @@ use native.Mathlib.Omega.{arith}
 use native.Mathlib.Decide.{decLt}
 use lib.ListN.{length, getD, set, length-set}
 use lib.Seq.{getD-set-same, getD-set-other}
-use Rattle.circular.proofs.Fill.{fill-more}
+use Rattle.words.proofs.ListLaws.{set-more}
 use Rattle.trace.specs.Order.{Bounded, inSweep, RoundIn, Due, Listed, Ordered}
 
 -- the outputs s with 7 * place + s below i are listed
@@ -83,7 +83,7 @@ module _ (lead : List ℕ) (n i : ℕ) (outputs : List ℕ) (count : ℕ) (n-le 
       -- a fact of the entries before and of the new one
       each : (P : ℕ → Type 0) → ((p : ℕ) → p < count → P (getD outputs p 0)) → P (i % 7) → (p : ℕ) → p < count + 1 → P (getD new p 0)
       unfolding new
-      each P f x = fill-more (λ p s. P s) outputs count (i % 7) (omega (arith, l .few, l .room)) x f
+      each P f x = set-more (λ p s. P s) outputs count (i % 7) (omega (arith, l .few, l .room)) x f
 
       pub listing-push : Listing lead n (i + 1) (set outputs count (i % 7)) (count + 1)
       unfolding new

@@ -10,9 +10,10 @@ use lib.Bits.{bitAnd}
 use lib.Dec.{ltb}
 use lib.ListN.{length, getD, set, length-set}
 use lib.Pow.{pow-pos, pow-mono, pow-lt}
-use lib.Seq.{getD-set-same, getD-set-other}
+use lib.Seq.{getD-set-other}
 use Rattle.words.specs.Bits.{bit}
 use Rattle.words.proofs.BitLaws.{bit-and, bit-not, bit-none, one-shl, bit-shl}
+use Rattle.words.proofs.ListLaws.{set-more}
 use Rattle.sheet.specs.RuleSheet.{requiredOf}
 use Rattle.sheet.specs.Reading.{Below}
 use Rattle.sheet.specs.declared.OutputNo.{OutputNo}
@@ -88,15 +89,10 @@ module _ (old : List ℕ) (f : ℕ → Bool → Bool) where
       → ((i : ℕ) → i < 64 → bit i x ≡ f (64 * j + i) (bit i (getD new j 0))) → LanesTo old (set new j x) f (j + 1)
   lanes-more new j x h p e = record {
     same-length = length-set new j x ∙ p .same-length;
-    done = λ k i g l. go k i g l (ℕ-discrete k j);
+    done = λ k i g. set-more (λ k v. (i : ℕ) → i < 64 → bit i v ≡ f (64 * k + i) (bit i (getD old k 0))) new j x (omega (arith, p .same-length))
+        (λ i l. e i l ∙ ap (λ (u : ℕ). f (64 * j + i) (bit i u)) (p .kept j (omega arith))) (λ k g i. p .done k i g) k g i;
     kept = λ k g. getD-set-other new j k x 0 (omega arith) ∙ p .kept k (omega arith);
   }
-    where
-      go : (k i : ℕ) → k < j + 1 → i < 64 → Dec (k ≡ j) → bit i (getD (set new j x) k 0) ≡ f (64 * k + i) (bit i (getD old k 0))
-      go k i g l (yes d) =
-          ap (λ (u : ℕ). bit i (getD (set new j x) u 0)) d ∙ ap (bit i) (getD-set-same new j x 0 (omega (arith, p .same-length))) ∙ e i l
-          ∙ ap (λ (u : ℕ). f (64 * j + i) (bit i u)) (p .kept j (omega arith)) ∙ ap (λ (u : ℕ). f (64 * u + i) (bit i (getD old u 0))) (sym d)
-      go k i g l (no d) = ap (bit i) (getD-set-other new j k x 0 (omega arith)) ∙ p .done k i (omega arith) l
 
   pub lanes-all : (new : List ℕ) (j w a : ℕ) → w ≤ j → LanesTo old new f j → a < 64 * w → rowBit new 0 a ≡ f a (rowBit old 0 a)
   unfolding rowBit

@@ -11,14 +11,14 @@ use lib.Dec.{eqb, ltb}
 use lib.Count.{trailingZeros}
 use lib.Bits.{bitAnd, bitOr, and-lt}
 use lib.ListN.{length, getD, set, length-set, replicate}
-use lib.Seq.{getD-set-same, getD-set-other}
+use lib.Seq.{getD-set-other}
 use Rattle.words.specs.Bits.{bit}
 use Rattle.words.specs.Below.{anyBelow}
 use Rattle.words.proofs.BitLaws.{bit-and, bit-or, bit-shl, bit-none, Lowest, lowest, without, lane-off, lane-less}
 use Rattle.words.proofs.AnyLaws.{any-cong, any-add, any-groups, any-word, none-any, some-any, any-some}
 use Rattle.words.proofs.LaneLaws.{beq-true, beq-false}
 use Rattle.words.proofs.Bools.{iff, and-split}
-use Rattle.words.proofs.ListLaws.{zeros}
+use Rattle.words.proofs.ListLaws.{zeros, set-more}
 use Rattle.refusal.specs.declared.Verdict.{Verdict}
 use Rattle.refusal.specs.Numbers.{verdictNo, Verdicts}
 use Rattle.completions.specs.Live.{Pairs}
@@ -138,12 +138,11 @@ pub filling-none : (w : ℕ) (g : ℕ → Bool) (f : List ℕ) → length f ≡ 
 filling-none w g f l = record { within = omega arith; size = l; done = λ k i h. absurd (omega arith) }
 
 pub filling-more : (w : ℕ) (g : ℕ → Bool) (f : List ℕ) (j x : ℕ) → w ≤ 4 → j < w → Filling w g f j → ((i : ℕ) → i < 64 → bit i x ≡ g (64 * j + i)) → Filling w g (set f j x) (j + 1)
-filling-more w g f j x l h p e = record { within = omega arith; size = length-set f j x ∙ p .size; done = λ k i a b. go k i a b (ℕ-discrete k j) }
-  where
-    go : (k i : ℕ) → k < j + 1 → i < 64 → Dec (k ≡ j) → bit i (getD (set f j x) k 0) ≡ g (64 * k + i)
-    go k i a b (yes d) =
-        ap (λ (z : ℕ). bit i (getD (set f j x) z 0)) d ∙ ap (bit i) (getD-set-same f j x 0 (omega (arith, p .size))) ∙ e i b ∙ ap (λ (z : ℕ). g (64 * z + i)) (sym d)
-    go k i a b (no d) = ap (bit i) (getD-set-other f j k x 0 (omega arith)) ∙ p .done k i (omega arith) b
+filling-more w g f j x l h p e = record {
+  within = omega arith;
+  size = length-set f j x ∙ p .size;
+  done = λ k i a. set-more (λ k v. (i : ℕ) → i < 64 → bit i v ≡ g (64 * k + i)) f j x (omega (arith, p .size)) e (λ k a i. p .done k i a) k a i;
+}
 
 pub filling-all : (w : ℕ) (g : ℕ → Bool) (f : List ℕ) (j : ℕ) → w ≤ j → Filling w g f j → Words w f g
 unfolding rowBit
@@ -260,13 +259,9 @@ pub telling-more : (n : ℕ) (f : ℕ → Verdict) (vs : List ℕ) (k x : ℕ) �
 telling-more n f vs k x h l p e = record {
   within = omega arith;
   size = length-set vs k x ∙ p .size;
-  each = λ j g. go j g (ℕ-discrete j k);
+  each = set-more (λ j v. v ≡ verdictNo (f j)) vs k x (omega (arith, p .size)) e (p .each);
   beyond = λ j g. getD-set-other vs k j x 0 (omega arith) ∙ p .beyond j (omega arith);
 }
-  where
-    go : (j : ℕ) → j < k + 1 → Dec (j ≡ k) → getD (set vs k x) j 0 ≡ verdictNo (f j)
-    go j g (yes d) = ap (λ (z : ℕ). getD (set vs k x) z 0) d ∙ getD-set-same vs k x 0 (omega (arith, p .size)) ∙ e ∙ ap (λ (z : ℕ). verdictNo (f z)) (sym d)
-    go j g (no d) = getD-set-other vs k j x 0 (omega arith) ∙ p .each j (omega arith)
 
 pub telling-all : (n : ℕ) (f : ℕ → Verdict) (vs : List ℕ) (k : ℕ) → n ≤ k → Telling n f vs k → Verdicts n f vs
 telling-all n f vs k h p = record { size = p .size; each = λ j g. p .each j (omega arith); beyond = λ j g. p .beyond j (omega (arith, p .within)) }

@@ -38,7 +38,7 @@ bring-pairs-requires c κs =
     let grouped = cleared .before .before .before .before .before in
     let begun = grouped .before .before .before .before .before .before in
     let v = begun .before .before .before .valuations .ensures in
-    (begun .before .before .before .before .before .before .before .pre .0, (search needs, omega (arith, cleared .clear-rows2 .ensures .same-length, grouped .group-rows .ensures .0 .same-length, begun .clear-rows .ensures .same-length, begun .before .before .before .before .before .before .before .pre .1), sparse-kept _ _ _ _ _ (v .0) (v .1) (cleared .clear-rows2 .ensures) (grouped .group-rows .ensures .1 (cleared-sparse _ _ _ _ (v .1) (begun .clear-rows .ensures)))))
+    (begun .before .before .before .before .before .before .before .pre .0, (search needs, omega (arith, cleared .clear-rows2 .ensures .frame .same-length, grouped .group-rows .ensures .0 .frame .same-length, begun .clear-rows .ensures .frame .same-length, begun .before .before .before .before .before .before .before .pre .1), sparse-kept _ _ _ _ _ (v .0) (v .1) (cleared .clear-rows2 .ensures) (grouped .group-rows .ensures .1 (cleared-sparse _ _ _ _ (v .1) (begun .clear-rows .ensures)))))
 
 slice-aggregate-clear-groups : tie.Need-slice-aggregate-clear-groups
 slice-aggregate-clear-groups c = search needs
@@ -56,7 +56,7 @@ clear-groups-requires c κs =
       r .most,
       v .1,
       search needs,
-      omega (arith, brought .bring-pairs .ensures [] .same-length, cleared .clear-rows2 .ensures .same-length, grouped .group-rows .ensures .0 .same-length, begun .clear-rows .ensures .same-length, begun .before .before .before .before .before .before .before .pre .1),
+      omega (arith, brought .bring-pairs .ensures [] .frame .same-length, cleared .clear-rows2 .ensures .frame .same-length, grouped .group-rows .ensures .0 .frame .same-length, begun .clear-rows .ensures .frame .same-length, begun .before .before .before .before .before .before .before .pre .1),
       sparse-brought _ _ _ _ _ (v .1) (brought .bring-pairs .ensures []) (sparse-kept _ _ _ _ _ refl (v .1) (cleared .clear-rows2 .ensures) sparse),
       no-ends _ _ _ _ _ _ _ _ _ _ _ (begun .clear-rows .ensures) (grouped .group-rows .ensures .0) (cleared .clear-rows2 .ensures) (brought .bring-pairs .ensures []),
     )

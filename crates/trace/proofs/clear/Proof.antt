@@ -2,9 +2,8 @@
 use native.Mathlib.Omega.{arith}
 use Prim.Native.Nat.{ℕ, _-_, _≤_, _<_}
 use mathlib.Core.Path.{_≡_, refl, _∙_}
-use borrow.Author.Count.{below-more}
 use lib.ListN.{length, getD, set, length-set}
-use lib.Seq.{getD-set-same, getD-set-other}
+use Rattle.words.proofs.ListLaws.{set-more}
 use Rattle.trace.proofs.clear.Statement.{statement}
 use Rattle.trace.proofs.clear.Tie as tie
 
@@ -32,9 +31,7 @@ loop-again c =
     let z : length (set (l .buf) (l .i) 0) ≡ length (l .buf) = length-set (l .buf) (l .i) 0 in (
       omega arith,
       z ∙ l .inv .1,
-      below-more (λ (k : ℕ). getD (set (l .buf) (l .i) 0) k 0 ≡ 0) (l .i)
-          (λ k h. getD-set-other (l .buf) (l .i) k 0 0 (omega arith) ∙ l .inv .2 k h)
-          (getD-set-same (l .buf) (l .i) 0 0 (omega arith)),
+      set-more (λ k x. x ≡ 0) (l .buf) (l .i) 0 (omega arith) refl (l .inv .2),
     )
 
 same-length : tie.Need-same-length Inv-loop μ-loop

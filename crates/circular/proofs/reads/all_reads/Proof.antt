@@ -4,7 +4,7 @@ use native.Mathlib.Omega.{arith}
 use lib.ListN.{length, getD, length-set}
 use borrow.Author.Needs.{needs}
 use Rattle.circular.specs.Masks.{Marks, bytesOf}
-use Rattle.circular.proofs.Fill.{fill-more}
+use Rattle.words.proofs.ListLaws.{set-more}
 use Rattle.circular.proofs.reads.all_reads.Statement.{statement}
 use Rattle.circular.proofs.reads.all_reads.Tie as tie
 
@@ -38,7 +38,7 @@ loop-again c =
     let a = l .before .before .before in (
       omega arith,
       simp length-set (search needs),
-      fill-more (λ j x. Marks (bytesOf (a .args .code .now) (a .args .len .now) (a .args .n) j) x) (l .loop .words) (l .loop .s) (c .output-reads .result) (omega arith)
+      set-more (λ j x. Marks (bytesOf (a .args .code .now) (a .args .len .now) (a .args .n) j) x) (l .loop .words) (l .loop .s) (c .output-reads .result) (omega arith)
           (c .output-reads .ensures) (l .loop .inv .2),
     )
 

@@ -4,7 +4,7 @@ use native.Mathlib.Omega.{arith}
 use lib.ListN.{length, getD, length-set}
 use borrow.Author.Needs.{needs}
 use Rattle.circular.specs.Masks.{Mask}
-use Rattle.circular.proofs.Fill.{fill-more}
+use Rattle.words.proofs.ListLaws.{set-more}
 use Rattle.circular.proofs.reads.masks_of.Statement.{statement}
 use Rattle.circular.proofs.reads.masks_of.Tie as tie
 
@@ -46,7 +46,7 @@ loop-again c =
     let l = c .before .before .before .before in (
       omega arith,
       simp length-set (search needs),
-      fill-more (λ j x. Mask (getD (l .before .args .words .now) (j / 7) 0) (l .before .args .m + j % 7) x) (l .loop .masks) (l .loop .i) (c .mask-at .result) (omega arith)
+      set-more (λ j x. Mask (getD (l .before .args .words .now) (j / 7) 0) (l .before .args .m + j % 7) x) (l .loop .masks) (l .loop .i) (c .mask-at .result) (omega arith)
           (rw (c .before .stream-of .ensures) at (c .mask-at .ensures))
           (l .loop .inv .2),
     )

@@ -4,7 +4,7 @@ use mathlib.Core.Path.{_≡_, refl}
 use Prim.Native.Nat.{ℕ, _+_, _*_, _-_, _≤_, _<_}
 use lib.ListN.{length, getD, length-set}
 use Rattle.circular.specs.Table.{loopN}
-use Rattle.circular.proofs.Fill.{filled-more}
+use Rattle.words.proofs.ListLaws.{set-more}
 use Rattle.circular.proofs.table.tails.Statement.{statement}
 use Rattle.circular.proofs.table.tails.Tie as tie
 
@@ -62,8 +62,8 @@ loop-again c =
     let a = l .before .before .before in (
       omega arith,
       simp length-set (l .loop .inv .1),
-      filled-more (λ j. loopN _ (getD (a .args .t .now) (8 * a .args .k + j) 0)) (l .loop .new) (l .loop .q) (c .looped .result) (omega arith)
-          (c .looped .ensures) (l .loop .inv .2),
+      set-more (λ j x. x ≡ loopN (getD (a .args .t .now) (8 * a .args .k + a .args .k) 0) (getD (a .args .t .now) (8 * a .args .k + j) 0))
+          (l .loop .new) (l .loop .q) (c .looped .result) (omega arith) (c .looped .ensures) (l .loop .inv .2),
     )
 
 returns : tie.Need-returns Inv-loop μ-loop

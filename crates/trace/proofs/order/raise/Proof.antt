@@ -4,7 +4,7 @@ use Prim.Native.Nat.{ℕ, _-_, _≤_, _<_}
 use mathlib.Core.Path.{_≡_}
 use borrow.Author.Needs.{needs}
 use lib.ListN.{length, length-set, getD}
-use Rattle.circular.proofs.Fill.{fill-more}
+use Rattle.words.proofs.ListLaws.{set-more}
 use Rattle.trace.specs.Order.{Raised}
 use Rattle.trace.proofs.order.raise.Statement.{statement}
 use Rattle.trace.proofs.order.raise.Tie as tie
@@ -36,7 +36,7 @@ loop-again c =
     let a = c .before .before .before .args in (
       omega arith,
       simp length-set (search needs),
-      fill-more (λ i x. Raised (a .masks .now) (a .old .now) (a .n) (a .up) (a .settled) i x) (l .lead) (l .s) (c .raised .result) (omega arith) (c .raised .ensures) (l .inv .2),
+      set-more (λ i x. Raised (a .masks .now) (a .old .now) (a .n) (a .up) (a .settled) i x) (l .lead) (l .s) (c .raised .result) (omega arith) (c .raised .ensures) (l .inv .2),
     )
 
 returns : tie.Need-returns Inv-loop μ-loop

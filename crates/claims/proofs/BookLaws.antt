@@ -1,5 +1,5 @@
 -- The verdicts read off the reached set are the book's, and the book leaves nothing open.
-use mathlib.Core.Bool.{Bool, true, false, true≢false}
+use mathlib.Core.Bool.{Bool, true, false}
 use mathlib.Core.Path.{_≡_, refl, sym, ap, ap₂, subst, _∙_}
 use mathlib.Core.List.{List, [], _∷_, _++_, map, append-nil, append-assoc}
 use mathlib.Core.Option.{none, some}
@@ -7,6 +7,7 @@ use Prim.Native.Nat.{ℕ, zero, suc, _^_, _≤_}
 use native.Mathlib.Omega.{arith}
 use lib.Dec.{T}
 use lib.ListN.{length, getElem?, length-map}
+use Rattle.words.proofs.Options.{nothing, same-some}
 use Rattle.refusal.specs.declared.Verdict.{Verdict}
 use Rattle.refusal.specs.declared.Verdict.the-variants.{True}
 use Rattle.sheet.specs.RuleSheet.{RuleSheet, outputs, streams}
@@ -27,12 +28,6 @@ use Rattle.claims.specs.Further.{OneBook}
 -- ---- lists with an entry for each output
 
 module _ {A : Type 0} where
-  pub no-entry : {y : A} → none ≡ some y → ⊥
-  no-entry {y} e = true≢false cc
-
-  pub same-entry : {y z : A} → some y ≡ some z → y ≡ z
-  same-entry e = cc
-
   same-list : (xs ys : List A) → length xs ≡ length ys → ((k : ℕ) (y z : A) → getElem? xs k ≡ some y → getElem? ys k ≡ some z → y ≡ z) → xs ≡ ys
   same-list [] [] l h = refl
   same-list [] (z ∷ ys) l h = absurd (omega arith)
@@ -103,8 +98,8 @@ module _ (x : RuleSheet) (L : Pairs) (live : Represents (width x) L (Live x)) wh
   pub closing-right : (rs : List LetterSet) (S : Pairs) (shut : Bool) → refusal x (length rs) shut closing ≡ none → Reaches (onLetters x rs) S
       → (k : ℕ) → ClosingVerdict x rs k (endsVerdict w S (output x k))
   unfolding refusal
-  closing-right [] S true e h k = absurd (no-entry (sym e))
-  closing-right [] S false e h k = absurd (no-entry (sym e))
+  closing-right [] S true e h k = absurd (nothing (sym e))
+  closing-right [] S false e h k = absurd (nothing (sym e))
   closing-right (q ∷ qs) S shut e h k = reaches-closing q qs S h k
 
 -- ---- the book leaves nothing open: one answer and one book after each call
@@ -119,15 +114,15 @@ module _ (x : RuleSheet) (b : Book) where
   closing-unique rs k v w p q = one-verdict (Closing x rs) (λ ls c. inRound (length rs) (output x k) (c .complete .trace)) v w p q
 
   pub step-unique : {c : Call} {a₁ a₂ : Answer} {b₁ b₂ : Book} → BookStep x b c a₁ b₁ → BookStep x b c a₂ b₂ → (a₁ ≡ a₂) × (b₁ ≡ b₂)
-  step-unique (refuse p) (refuse q) = (ap refused (same-entry (sym p ∙ q)), refl)
-  step-unique (refuse p) (accept q each) = absurd (no-entry (sym q ∙ p))
-  step-unique (refuse p) (close q each shares) = absurd (no-entry (sym q ∙ p))
-  step-unique (accept p each) (refuse q) = absurd (no-entry (sym p ∙ q))
+  step-unique (refuse p) (refuse q) = (ap refused (same-some (sym p ∙ q)), refl)
+  step-unique (refuse p) (accept q each) = absurd (nothing (sym q ∙ p))
+  step-unique (refuse p) (close q each shares) = absurd (nothing (sym q ∙ p))
+  step-unique (accept p each) (refuse q) = absurd (nothing (sym p ∙ q))
   step-unique (accept {known = m} {val = v} {vs = us} p each) (accept {vs = ws} q each′) =
       let rs : List LetterSet = b .rounds ++ masked m v ∷ [] in
       let e : us ≡ ws = each-unique (outputs x) (RoundVerdict x rs) (round-unique rs) us ws each each′ in
       (ap verdicts e, λ i. record { rounds = rs; told = e i ∷ b .told; shut = b .shut })
-  step-unique (close p each shares) (refuse q) = absurd (no-entry (sym p ∙ q))
+  step-unique (close p each shares) (refuse q) = absurd (nothing (sym p ∙ q))
   step-unique (close {vs = us} {xs = xs} p each shares) (close {vs = ws} {xs = ys} q each′ shares′) =
       let e : us ≡ ws = each-unique (outputs x) (ClosingVerdict x (b .rounds)) (closing-unique (b .rounds)) us ws each each′ in
       let d : xs ≡ ys = each-unique (outputs x) (λ k s. s ≡ share (counted (b .told) k True) (length (b .rounds))) (λ k y z p q. p ∙ sym q) xs ys shares shares′ in

@@ -12,6 +12,7 @@ use lib.ListN.{length, getD, getElem?, length-map, replicate}
 use lib.Pow.{pow-mono}
 use Rattle.words.specs.Below.{one}
 use Rattle.words.proofs.ListLaws.{zeros}
+use Rattle.words.proofs.Options.{nothing, same-some}
 use Rattle.refusal.specs.declared.Refusal.{Refusal}
 use Rattle.refusal.specs.declared.Outcome.{Outcome}
 use Rattle.refusal.specs.declared.Outcome.the-variants.{Accepted, Refused}
@@ -50,7 +51,7 @@ use Rattle.claims.specs.Book.{Call, round, closing, Answer, refused, ver
 use Rattle.claims.specs.Book as book
 use Rattle.claims.specs.Session.{Held, numberList, roundSays, closingSays, handed, SessionStep, a-round, a-closing, Session, finish, next, Matches}
 use Rattle.claims.specs.Demands.{ThirdDemand, lent}
-use Rattle.claims.proofs.BookLaws.{no-entry, same-entry, map-snoc, Reaches, next-reaches, round-right, closing-right}
+use Rattle.claims.proofs.BookLaws.{map-snoc, Reaches, next-reaches, round-right, closing-right}
 use Rattle.claims.proofs.Refusals.{outcomeBy, SheetOk, round-decided, closing-decided, by-accepted, by-refused, room, front-holds, mem-map}
 
 -- ---- lists of verdicts and shares
@@ -65,7 +66,7 @@ list-at vs k (suc n) zero h = rw add-zero
 list-at vs k (suc n) (suc i) h = rw (add-suc, ← suc-add) (list-at vs (suc k) n i (omega arith))
 
 list-below : (vs : List ℕ) (k n i : ℕ) (v : Verdict) → getElem? (verdictList vs k n) i ≡ some v → i < n
-list-below vs k zero i v e = absurd (no-entry e)
+list-below vs k zero i v e = absurd (nothing e)
 list-below vs k (suc n) zero v e = omega arith
 list-below vs k (suc n) (suc i) v e = omega (arith, list-below vs (suc k) n i v e)
 
@@ -74,8 +75,8 @@ numbers-size vs k zero = refl
 numbers-size vs k (suc n) = ap suc (numbers-size vs (suc k) n)
 
 numbers-at : (vs : List ℕ) (k n i y : ℕ) → getElem? (numberList vs k n) i ≡ some y → (i < n) × (y ≡ getD vs (k + i) 0)
-numbers-at vs k zero i y e = absurd (no-entry e)
-numbers-at vs k (suc n) zero y e = (omega arith, sym (same-entry e) ∙ ap (λ (z : ℕ). getD vs z 0) (sym (add-zero k)))
+numbers-at vs k zero i y e = absurd (nothing e)
+numbers-at vs k (suc n) zero y e = (omega arith, sym (same-some e) ∙ ap (λ (z : ℕ). getD vs z 0) (sym (add-zero k)))
 numbers-at vs k (suc n) (suc i) y e =
     let r = numbers-at vs (suc k) n i y e in
     (omega (arith, r .0), r .1 ∙ ap (λ (z : ℕ). getD vs z 0) (omega arith))
@@ -86,7 +87,7 @@ each-verdict n m f vs R e x h = record {
   size = list-size vs 0 m ∙ sym e;
   right = λ k v g.
       let lt = list-below vs 0 m k v g in
-      let s : verdictAt (getD vs k 0) ≡ v = ap (λ (z : ℕ). verdictAt (getD vs z 0)) (sym (zero-add k)) ∙ same-entry (sym (list-at vs 0 m k lt) ∙ g) in
+      let s : verdictAt (getD vs k 0) ≡ v = ap (λ (z : ℕ). verdictAt (getD vs z 0)) (sym (zero-add k)) ∙ same-some (sym (list-at vs 0 m k lt) ∙ g) in
       subst (R k) (sym (verdict-back (f k)) ∙ ap verdictAt (sym (x .each k (omega arith))) ∙ s) (h k);
 }
 

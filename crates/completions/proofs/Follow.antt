@@ -1,22 +1,16 @@
 -- What `Follows` and `Agrees` say at a place of the list, and lists put together at a place.
 use mathlib.Core.Path.{_≡_, refl, sym, ap}
 use mathlib.Core.List.{List, [], _∷_, _++_}
-use mathlib.Core.Option.{Option, none, some}
-use mathlib.Core.Bool.{true≢false}
+use mathlib.Core.Option.{Option, some}
 use Prim.Native.Nat.{ℕ, zero, suc, _≤_}
 use lib.Dec.{T}
 use lib.ListN.{length, getElem?, take}
 use native.Mathlib.Omega.{arith}
+use Rattle.words.proofs.Options.{nothing, same-some}
 use Rattle.sheet.specs.RuleSheet.{RuleSheet}
 use Rattle.lola.specs.Equations.{holds, first}
 use Rattle.completions.specs.Live.{Follows, Live}
 use Rattle.completions.proofs.Runs.{Round, Agrees}
-
-pub nothing : {b : ℕ} → none ≡ some b → ⊥
-nothing {b} e = true≢false cc
-
-pub same-some : {a b : ℕ} → some a ≡ some b → a ≡ b
-same-some e = cc
 
 pub first-is : (vs : List ℕ) → getElem? vs zero ≡ first vs
 first-is [] = refl

@@ -11,12 +11,13 @@ use Rattle.sheet.specs.RuleSheet.{RuleSheet, streams}
 use Rattle.completions.proofs.Runs.{Round, Agrees, Run, Reached, EndedRun}
 use Rattle.words.specs.Below.{anyBelow}
 use Rattle.words.proofs.Tests.{either, not-both, not-fails, and-left, and-right, and-both}
+use Rattle.words.proofs.Options.{nothing, same-some}
 use Rattle.completions.specs.Steps.{anyPair, Within, Represents, verdictOf, pairsVerdict, endsVerdict}
 use Rattle.completions.specs.Live.{Pairs}
 use Rattle.refusal.specs.declared.Verdict.{Verdict}
 use Rattle.refusal.specs.declared.Verdict.the-variants.{False, True, Open, Broken}
 use Rattle.completions.specs.Judged.{Judged, inRound}
-use Rattle.completions.proofs.Follow.{nothing, same-some, last-there}
+use Rattle.completions.proofs.Follow.{last-there}
 use Rattle.completions.proofs.Range.{live-within}
 use Rattle.completions.proofs.Reach.{reached-live}
 use Rattle.completions.proofs.Search.{any-found, any-from, pair-found, pair-from}

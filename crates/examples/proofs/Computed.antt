@@ -1,5 +1,5 @@
 -- The marked examples hold, by one computed test over the table.
-use mathlib.Core.Bool.{Bool, true, false, not, _&&_, true≢false}
+use mathlib.Core.Bool.{Bool, true, false, not, _&&_}
 use mathlib.Core.Path.{_≡_, refl, sym, ap, subst, _∙_}
 use mathlib.Core.List.{List, [], _∷_}
 use mathlib.Core.Option.{Option, none, some}
@@ -12,6 +12,7 @@ use borrow.Author.Tests.{leb-true}
 use Rattle.words.specs.Bits.{bit, digit}
 use Rattle.words.specs.Below.{anyBelow, sumBelow, countBelow}
 use Rattle.words.proofs.Tests.{and-left, and-right, true-of}
+use Rattle.words.proofs.Options.{nothing, same-some}
 use Rattle.refusal.specs.declared.Verdict.{Verdict}
 use Rattle.refusal.specs.Numbers.{verdictNo, verdictAt}
 use Rattle.refusal.proofs.NumberLaws.{verdict-back}
@@ -87,12 +88,6 @@ allWork (c ∷ cs) = works c && allWork cs
 
 verdict-same : (v w : Verdict) → T (eqb (verdictNo v) (verdictNo w)) → v ≡ w
 verdict-same v w t = sym (verdict-back v) ∙ ap verdictAt (eqb→eq (verdictNo v) (verdictNo w) t) ∙ verdict-back w
-
-nothing : {A : Type 0} {a : A} → none ≡ some a → ⊥
-nothing {A} {a} p = true≢false cc
-
-same-some : {A : Type 0} {a b : A} → some a ≡ some b → a ≡ b
-same-some p = cc
 
 gives-at : (f : ℕ → Verdict) (k : ℕ) (vs : List Verdict) (i : ℕ) (v : Verdict) → T (gives f k vs) → getElem? vs i ≡ some v → f (k + i) ≡ v
 unfolding gives

@@ -1,6 +1,6 @@
 -- The search for the next bit that is set.
 use mathlib.Core.Path.{_≡_, sym, ap, ap₂, _∙_, subst}
-use mathlib.Core.Bool.{Bool, true, false, _||_}
+use mathlib.Core.Bool.{Bool, false, _||_}
 use mathlib.Core.List.{List}
 use Prim.Native.Nat.{ℕ, _+_, _-_, _*_, _/_, _%_, _^_, _≤_, _<_}
 use native.Mathlib.Omega.{arith}
@@ -12,10 +12,8 @@ use Rattle.words.specs.Bits.{bit}
 use Rattle.words.specs.Below.{anyBelow}
 use Rattle.words.proofs.AnyLaws.{any-add, none-any}
 use Rattle.words.proofs.BitLaws.{bit-shr, bit-high, bit-none, Lowest, lowest}
+use Rattle.words.proofs.Bools.{contrary}
 use Rattle.pairs.specs.Changes.{rowBit, NextWord, NextBit}
-
-true-false : (u : Bool) → u ≡ true → u ≡ false → ⊥
-true-false u e f = let z : _≡_ {A = ℕ} 0 1 = cc in omega arith
 
 module _ (s : List ℕ) (at n : ℕ) where
   -- bit b + i of the row is bit i of the word shifted
@@ -40,8 +38,8 @@ module _ (s : List ℕ) (at n : ℕ) where
         go : Dec (b % 64 + t < 64) → b % 64 + t < 64
         go (yes d) = d
         go (no d) =
-            absurd (true-false (bit (b % 64 + t) (getD s (at + b / 64) 0)) (sym (bit-shr t (b % 64) (getD s (at + b / 64) 0)) ∙ r .is-set)
-            (bit-high 64 (b % 64 + t) (getD s (at + b / 64) 0) fit (omega arith)))
+            contrary (sym (bit-shr t (b % 64) (getD s (at + b / 64) 0)) ∙ r .is-set)
+            (bit-high 64 (b % 64 + t) (getD s (at + b / 64) 0) fit (omega arith))
 
     found-at : (w ≡ 0 → ⊥) → NextBit s at n from (b + trailingZeros 64 w)
     found-at n =

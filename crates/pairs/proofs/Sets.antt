@@ -1,6 +1,6 @@
 -- Laws of the sets in the storage.
 use mathlib.Core.Path.{_≡_, refl, sym, ap, ap₂, _∙_}
-use mathlib.Core.Bool.{Bool, true, false, not, _&&_, _||_, and-true, and-false, or-false, or-assoc}
+use mathlib.Core.Bool.{Bool, true, false, not, _&&_, _||_, and-true, and-false, or-false, or-assoc, true≢false}
 use mathlib.Core.List.{List}
 use mathlib.Core.Option.{Option, none, some}
 use Prim.Native.Nat.{ℕ, _+_, _-_, _*_, _/_, _%_, _^_, _≤_, _<_}
@@ -140,7 +140,7 @@ used-below v x (some c) h = lt-ltb x v h
 
 pub unused : (v x : ℕ) (y : Option ℕ) → used v x y ≡ false → ltb x v ≡ false
 unfolding used
-unused v x none e = absurd (let z : _≡_ {A = ℕ} 0 1 = cc in omega arith)
+unused v x none e = absurd (true≢false cc)
 unused v x (some c) e = e
 
 -- ---- the code's tests of one bit

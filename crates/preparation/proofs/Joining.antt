@@ -1,7 +1,7 @@
 -- What the live set and the next layer gain together.
 use mathlib.Core.Path.{_≡_, refl, sym, ap, ap₂, _∙_}
 use mathlib.Core.Logic.{inl, inr}
-use mathlib.Core.Bool.{Bool, true, false, not, _&&_, _||_, and-true, and-false, or-false, or-assoc, or-true, and-comm}
+use mathlib.Core.Bool.{Bool, true, false, not, _&&_, _||_, and-true, and-false, or-false, or-assoc, or-true, and-comm, true≢false}
 use mathlib.Core.List.{List}
 use mathlib.Core.Option.{Option, none, some}
 use Prim.Native.Nat.{ℕ, _+_, _*_, _/_, _%_, _^_, _≤_, _<_}
@@ -104,7 +104,7 @@ occupied-more w base rows rows′ s t u a b ha hw hb l p q n o = record {
     absent x y hx hy f (yes d) =
         let e : rowBit rows′ 0 x ≡ true = n .gains x hx ∙ ap (λ (v : Bool). rowBit rows 0 x || v) (eq-eqb x a d) ∙ or-true (rowBit rows 0 x) in
         let g : rowBit rows′ 0 x ≡ false = f (omega arith) in
-        let z : _≡_ {A = ℕ} 0 1 = cc in absurd (omega arith)
+        absurd (true≢false cc)
     absent x y hx hy f (no d) = kept x y hx hy d ∙ o .none-there x y hx hy (λ h. sym (other x hx d) ∙ f h)
 
     present : (x : ℕ) → x < 64 * w → rowBit rows′ 0 x ≡ true → Dec (x ≡ a) → (y : Option ℕ) × Within 256 y × (stored u base x y ≡ true)

@@ -20,6 +20,7 @@ use Rattle.pairs.specs.Storage.{slot, stored}
 use Rattle.pairs.specs.Changes.{rowBit, Framed, NextBit, Zeroed}
 use Rattle.words.proofs.BitLaws.{bit-none}
 use Rattle.words.proofs.Tests.{and-left, and-right, of-true, or-left}
+use Rattle.words.proofs.Bools.{contrary}
 use Rattle.pairs.proofs.Frames.{framed-none, framed-then, framed-wider}
 use Rattle.pairs.proofs.Sets.{framed-before, framed-beyond, zeroed-none, set-ext}
 use Rattle.preparation.specs.Prepared.{Prepared, Reach}
@@ -28,9 +29,6 @@ use Rattle.preparation.specs.Search.{joiners, enders, Joins, Occupied, A
 use Rattle.preparation.proofs.Layers.{fresh, joining-same, within-next, fresh-next, all-found, reach-is}
 use Rattle.preparation.proofs.Joining.{beyond-none}
 use Rattle.unions.proofs.Uniting.{empty-row}
-
-contrary : {A : Type 0} {u : Bool} → u ≡ true → u ≡ false → A
-contrary e f = let z : _≡_ {A = ℕ} 0 1 = cc in absurd (omega arith)
 
 -- ---- the parts of the code
 
@@ -191,7 +189,7 @@ module _ (x : RuleSheet) (small : 2 ^ streams x ≤ 256) (w layer next : ℕ) (s
   some-layer = go d refl
     where
       go : (k : ℕ) → d ≡ k → 1 ≤ d
-      go zero e = contrary {u = allowed x a₀} ok (ap (λ (k : ℕ). fresh x k a₀ none) (sym e) ∙ empty a₀ none ha₀ tt)
+      go zero e = contrary {a = allowed x a₀} ok (ap (λ (k : ℕ). fresh x k a₀ none) (sym e) ∙ empty a₀ none ha₀ tt)
       go (suc k) e = omega arith
 
   -- the layer before the empty one

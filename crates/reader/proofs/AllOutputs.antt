@@ -3,7 +3,7 @@ use Prim.Native.Nat.{ℕ, zero, suc, _+_, _*_, _-_, _≤_, _<_}
 use native.Mathlib.Omega.{arith}
 use native.Mathlib.Numerals.{add-one}
 use mathlib.Core.Path.{_≡_, refl, sym, ap, ap₂, _∙_, subst}
-use mathlib.Core.Bool.{Bool, true, false, cond, _&&_}
+use mathlib.Core.Bool.{Bool, true, false, cond, _&&_, true≢false}
 use mathlib.Core.List.{List, [], _∷_, _++_, append-assoc, append-nil}
 use lib.ListN.{length, take, drop, set, length-drop, length-set, drop-of-length-le}
 use lib.Seq.{drop-cons, drop-drop, length-take-le}
@@ -38,7 +38,7 @@ pub record Step (s r : ℕ) (xs : List ℕ) (l : ℕ) : Type 0 where
 
 pub read-step : (s r : ℕ) (xs : List ℕ) (l : ℕ) → outputAt s xs ≡ Bytes l → Step s r xs l
 unfolding outputAt readOutputs
-read-step s r [] l h = absurd (let y : _≡_ {A = ℕ} 0 1 = cc in omega arith)
+read-step s r [] l h = absurd (true≢false cc)
 read-step s r (x ∷ ys) l h = go (lengthOk x ys) refl (parse s [] (take x ys)) refl h
   where
     go : (b : Bool) → lengthOk x ys ≡ b → (p : Parsed) → parse s [] (take x ys) ≡ p → cond b (outputOf x p) (Refused Length) ≡ Bytes l → Step s r (x ∷ ys) l
@@ -57,8 +57,8 @@ read-step s r (x ∷ ys) l h = go (lengthOk x ys) refl (parse s [] (take x ys)) 
           parsed = q;
           reads = rw (e, q);
         })
-    go true e (broken p) q k = absurd (let y : _≡_ {A = ℕ} 0 1 = cc in omega arith)
-    go false e p q k = absurd (let y : _≡_ {A = ℕ} 0 1 = cc in omega arith)
+    go true e (broken p) q k = absurd (true≢false cc)
+    go false e p q k = absurd (true≢false cc)
 
 pub read-stop : (s k : ℕ) (xs : List ℕ) (r : Refusal) → outputAt s xs ≡ Refused r → readOutputs s (suc k) xs ≡ breaks r
 unfolding outputAt readOutputs
@@ -66,7 +66,7 @@ read-stop s k [] r h = cc
 read-stop s k (x ∷ ys) r h = go (lengthOk x ys) (parse s [] (take x ys)) h
   where
     go : (b : Bool) (p : Parsed) → cond b (outputOf x p) (Refused Length) ≡ Refused r → cond b (andThen p (readOutputs s k (drop x ys))) (breaks Length) ≡ breaks r
-    go true (tree t) h = absurd (let y : _≡_ {A = ℕ} 0 1 = cc in omega arith)
+    go true (tree t) h = absurd (true≢false cc)
     go true (broken p) h = cc
     go false p h = cc
 

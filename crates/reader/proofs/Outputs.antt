@@ -1,9 +1,8 @@
 -- One output at a place of the sheet. Assumes nothing.
 use Prim.Native.Nat.{ℕ, _+_, _-_, _≤_, _<_}
-use native.Mathlib.Omega.{arith}
 use native.Mathlib.Numerals.{add-one}
 use mathlib.Core.Path.{_≡_, refl, sym, ap, _∙_}
-use mathlib.Core.Bool.{and-false}
+use mathlib.Core.Bool.{and-false, true≢false}
 use mathlib.Core.List.{List, [], _∷_}
 use lib.ListN.{length, take, drop, getD, length-drop, drop-of-length-le}
 use lib.Seq.{drop-cons}
@@ -42,8 +41,8 @@ module _ (s at : ℕ) (bs : List ℕ) (h : at < length bs) where
 
 pub is-accepted : (l : ℕ) (p : Parsed) → Accepted ≡ outcomeOf p → outputOf l p ≡ Bytes l
 is-accepted l (tree t) e = refl
-is-accepted l (broken r) e = absurd (let y : _≡_ {A = ℕ} 0 1 = cc in omega arith)
+is-accepted l (broken r) e = absurd (true≢false cc)
 
 pub is-refused : (l : ℕ) (r : Refusal) (p : Parsed) → outcome.Refused r ≡ outcomeOf p → outputOf l p ≡ Refused r
-is-refused l r (tree t) e = absurd (let y : _≡_ {A = ℕ} 0 1 = cc in omega arith)
+is-refused l r (tree t) e = absurd (true≢false cc)
 is-refused l r (broken q) e = cc

@@ -1,6 +1,6 @@
 -- The ends of the valuations that a row of the scratch set names. Assumes nothing.
 use mathlib.Core.Path.{_≡_, refl, sym, ap, ap₂, _∙_}
-use mathlib.Core.Bool.{Bool, true, false, not, _&&_, _||_, and-true, and-false, or-false, and-assoc}
+use mathlib.Core.Bool.{Bool, true, false, not, _&&_, _||_, and-true, and-false, or-false, and-assoc, true≢false}
 use mathlib.Core.List.{List}
 use mathlib.Core.Option.{Option, none, some}
 use Prim.Native.Nat.{ℕ, _+_, _-_, _*_, _/_, _%_, _^_, _≤_, _<_}
@@ -54,7 +54,7 @@ there : (u g l h : Bool) → ((g && l) && not u) ≡ false → u ≡ (u || (g &&
 there true g l h e = refl
 there false false l h e = refl
 there false true false h e = refl
-there false true true h e = absurd (let z : _≡_ {A = ℕ} 0 1 = cc in omega arith)
+there false true true h e = absurd (true≢false cc)
 
 among-three : (l g b h : Bool) → (((l && (g && b)) && h) && true) ≡ ((b && g) && (true && (l && h)))
 among-three true true true h = and-true h

@@ -11,6 +11,7 @@ use lib.Dec.{eqb, ltb}
 use Rattle.words.specs.Below.{anyBelow}
 use Rattle.words.proofs.AnyLaws.{any-one}
 use Rattle.words.proofs.BelowLaws.{below-one, words-one, below-none, below-within, below-wider}
+use Rattle.words.proofs.Bools.{or-none}
 use Rattle.sheet.specs.RuleSheet.{RuleSheet}
 use Rattle.lola.specs.Equations.{holds}
 use Rattle.completions.specs.Live.{Pairs}
@@ -29,10 +30,6 @@ sparse-noted s t P g groups groups′ a n v hv f h hh e b hb =
     let hh′ : h < 256 = omega arith in
     let o = or-none (rowBit groups 0 h) (eqb h g) (sym (n .gains h hh′) ∙ e) in
     a .adds h (some b) hh′ hb ∙ ap₂ (λ (u w : Bool). u || (w && P (some b))) (f h hh (o .0) b hb) (o .1)
-  where
-    or-none : (u w : Bool) → (u || w) ≡ false → (u ≡ false) × (w ≡ false)
-    or-none false w p = (refl, p)
-    or-none true w p = absurd (let z : _≡_ {A = ℕ} 0 1 = cc in omega arith)
 
 module _ (x : RuleSheet) where
   lump : (B : ℕ → Bool) (C : Option ℕ → Bool) (L : Pairs) (p : Option ℕ) (b : ℕ) (c : Option ℕ) → gains x B C L p b c ≡ ((B b && C c) && (L b c && holds x p b c))

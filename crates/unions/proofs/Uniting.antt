@@ -1,6 +1,6 @@
 -- The valuations before a round, gathered over the pairs of a layer.
 use mathlib.Core.Path.{_≡_, refl, sym, ap, ap₂, _∙_}
-use mathlib.Core.Bool.{Bool, true, false, _&&_, _||_, and-false, or-false, or-assoc, or-comm, and-or-distrib-left}
+use mathlib.Core.Bool.{Bool, true, false, _&&_, _||_, and-false, or-false, or-assoc, or-comm, and-or-distrib-left, true≢false}
 use mathlib.Core.List.{List}
 use mathlib.Core.Option.{none, some}
 use Prim.Native.Nat.{ℕ, _+_, _*_, _/_, _%_, _≤_, _<_}
@@ -35,7 +35,7 @@ united-old w s o f h = record { same-length = refl; gains = λ a l. go (rowBit s
     go false true f g = let e : false ≡ true = g refl in ap (λ (u : Bool). u) e ∙ false-all e
       where
         false-all : {u : Bool} → false ≡ true → true ≡ u
-        false-all {u} e = let z : _≡_ {A = ℕ} 0 1 = cc in absurd (omega arith)
+        false-all {u} e = absurd (true≢false cc)
     go false false f g = refl
 
 pub united-then : (w : ℕ) (s t u : List ℕ) (f g h : ℕ → Bool) → United w s t f → United w t u g → ((a : ℕ) → a < 64 * w → (f a || g a) ≡ h a) → United w s u h

@@ -1,6 +1,6 @@
 -- Valuations as the bits of words, and the verdicts read off them. Assumes nothing.
 use mathlib.Core.Path.{_≡_, refl, sym, ap, ap₂, _∙_, subst}
-use mathlib.Core.Bool.{Bool, true, false, not, _&&_, _||_, Bool·beq, and-true, and-false, or-false, and-assoc, and-comm}
+use mathlib.Core.Bool.{Bool, true, false, not, _&&_, _||_, Bool·beq, and-true, and-false, or-false, and-assoc, and-comm, true≢false}
 use mathlib.Core.List.{List}
 use mathlib.Core.Option.{Option, none, some}
 use Prim.Native.Nat.{ℕ, _+_, _-_, _*_, _/_, _%_, _^_, _≤_, _<_}
@@ -106,7 +106,7 @@ looking-more g all word rest i word′ v l o e f p = record {
     taken : (y z u t : Bool) → z ≡ true → u ≡ t → ((y || u) || ((z && false) && t)) ≡ (y || (z && t))
     taken true z u t a b = refl
     taken false true u t a b = or-false u ∙ b
-    taken false false u t a b = absurd (let z : _≡_ {A = ℕ} 0 1 = cc in omega arith)
+    taken false false u t a b = absurd (true≢false cc)
 
     left : (y z t : Bool) → ((y || false) || ((z && true) && t)) ≡ (y || (z && t))
     left y z t = ap₂ (λ (a b : Bool). a || (b && t)) (or-false y) (and-true z)

@@ -1,6 +1,6 @@
 -- Tests as equations: what follows from a conjunction, a disjunction or a comparison of tests, and what makes one true. Those that rewrite
 -- one test into another are the library's. Assumes nothing.
-use mathlib.Core.Path.{_≡_, refl, sym}
+use mathlib.Core.Path.{_≡_, refl, sym, _∙_}
 use mathlib.Core.Bool.{Bool, true, false, _&&_, _||_, Bool·beq, true≢false, false≢true}
 
 pub and-split : (a b : Bool) → (a && b) ≡ true → (a ≡ true) × (b ≡ true)
@@ -42,3 +42,7 @@ pub iff : (a b : Bool) → (a ≡ true → b ≡ true) → (b ≡ true → a ≡
 iff true b f g = sym (f refl)
 iff false true f g = g refl
 iff false false f g = refl
+
+-- no test passes and fails
+pub contrary : {A : Type 0} {a : Bool} → a ≡ true → a ≡ false → A
+contrary e f = absurd (true≢false (sym e ∙ f))

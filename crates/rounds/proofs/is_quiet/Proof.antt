@@ -1,8 +1,8 @@
 -- `rounds::is_quiet` meets its contract: if the words below k joined give nothing, they are 0. Assumes nothing.
 use native.Mathlib.Omega.{arith}
 use borrow.Author.Needs.{needs}
-use mathlib.Core.Path.{_≡_}
-use Prim.Native.Nat.{ℕ, _+_, _-_, _*_, _≤_}
+use mathlib.Core.Bool.{true≢false}
+use Prim.Native.Nat.{_+_, _-_, _*_, _≤_}
 use borrow.Author.Tests.{eqb-true}
 use Rattle.rounds.proofs.WordLaws.{Joining, joining-none, joining-more, joining-quiet}
 use Rattle.rounds.proofs.is_quiet.Statement.{statement}
@@ -15,7 +15,7 @@ abbrev μ-loop : tie.MeasureT-loop
 μ-loop s a at any₀ k₀ any k = 16 - k
 
 returns : tie.Need-returns Inv-loop μ-loop
-returns c = λ e. absurd (let z : _≡_ {A = ℕ} 0 1 = cc in omega arith)
+returns c = λ e. absurd (true≢false cc)
 
 mul-at : tie.Need-mul-at Inv-loop μ-loop
 mul-at c = search needs

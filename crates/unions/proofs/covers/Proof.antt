@@ -1,6 +1,6 @@
 use native.Mathlib.Omega.{arith}
-use Prim.Native.Nat.{ℕ, _-_, _≤_}
-use mathlib.Core.Path.{_≡_}
+use Prim.Native.Nat.{_-_, _≤_}
+use mathlib.Core.Bool.{true≢false}
 use Rattle.unions.proofs.Rows.{Covering, covering-more, covered}
 use borrow.Author.Needs.{needs}
 use Rattle.unions.proofs.covers.Statement.{statement}
@@ -28,7 +28,7 @@ shared-slice-read-if1-2 : tie.Need-shared-slice-read-if1-2 Inv-loop μ-loop
 shared-slice-read-if1-2 c = search needs
 
 returns : tie.Need-returns Inv-loop μ-loop
-returns c = λ e. let z : _≡_ {A = ℕ} 0 1 = cc in absurd (omega arith)
+returns c = λ e. absurd (true≢false cc)
 
 add-j : tie.Need-add-j Inv-loop μ-loop
 add-j c = search needs

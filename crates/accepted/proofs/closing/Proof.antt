@@ -23,7 +23,8 @@ shares-requires c κs = search needs
 
 returns : tie.Need-returns
 returns c =
-    (refl, closing-done (c .before .before .before .before .before .before .args .x) (c .before .before .before .before .before .before .pre .0) (now (c .before .before .before .before .before .before .args .storage)) (c .before .before .before .before .before .before .args .r) _ (c .before .before .closing-verdicts .ensures) (c .before .shares .ensures) refl refl refl)
+    let start = c .before .before .before .before .before .before in
+    (refl, closing-done (start .args .x) (start .pre .0) (now (start .args .storage)) (start .args .r) _ (c .before .before .closing-verdicts .ensures) (c .before .shares .ensures) refl refl refl)
 
 pub closing-spec : {M : Type 1} → statement M
 closing-spec =

@@ -50,7 +50,9 @@ loop-less : tie.Need-loop-less Inv-loop μ-loop
 loop-less c = omega arith
 
 loop-again : tie.Need-loop-again Inv-loop μ-loop
-loop-again c = (omega arith, shares-more (c .before .before .loop .k) (c .before .before .before .before .args .r .counts) (c .before .before .before .before .args .r .rounds) (c .before .before .loop .out) (c .share-of .result) (omega arith) (c .share-of .ensures ∙ ap (λ (z : ℕ). share (getD (c .before .before .before .before .args .r .counts) z 0) (c .before .before .before .before .args .r .rounds)) (omega arith)) (c .before .before .loop .inv .1))
+loop-again c =
+    let start = c .before .before .before .before in
+    (omega arith, shares-more (c .before .before .loop .k) (start .args .r .counts) (start .args .r .rounds) (c .before .before .loop .out) (c .share-of .result) (omega arith) (c .share-of .ensures ∙ ap (λ (z : ℕ). share (getD (start .args .r .counts) z 0) (start .args .r .rounds)) (omega arith)) (c .before .before .loop .inv .1))
 
 returns : tie.Need-returns Inv-loop μ-loop
 returns c = shares-all (c .before .loop .k) (c .before .before .before .args .n) (c .before .before .before .args .r) _ (omega arith) (c .before .loop .inv .1)

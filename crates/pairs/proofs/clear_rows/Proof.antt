@@ -19,7 +19,10 @@ same-length : tie.Need-same-length
 same-length c = search needs
 
 returns : tie.Need-returns
-returns c = rows-cleared _ _ _ _ _ (c .before .before .before .before .before .before .before .before .before .pre .0) (c .before .before .before .before .before .before .clear-words .ensures) (c .before .before .clear-words2 .ensures)
+returns c =
+    let after-clear-words = c .before .before .before .before .before .before in
+    let start = after-clear-words .before .before .before in
+    rows-cleared _ _ _ _ _ (start .pre .0) (after-clear-words .clear-words .ensures) (c .before .before .clear-words2 .ensures)
 
 pub clear-rows-spec : {M : Type 1} → statement M
 clear-rows-spec =

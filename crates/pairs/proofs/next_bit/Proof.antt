@@ -26,13 +26,19 @@ shr-x : tie.Need-shr-x
 shr-x c = search needs
 
 cast-result : tie.Need-cast-result
-cast-result c = omega (arith, trailing-le 64 (getD (c .before .before .before .before .args .s .now) (c .before .before .before .before .args .at + c .before .before .before .before .args .from / 64) 0 / 2 ^ (c .before .before .before .before .args .from % 64)))
+cast-result c =
+    let start = c .before .before .before .before in
+    omega (arith, trailing-le 64 (getD (start .args .s .now) (start .args .at + start .args .from / 64) 0 / 2 ^ (start .args .from % 64)))
 
 add-result : tie.Need-add-result
-add-result c = omega (arith, (found-here (c .before .before .before .before .args .s .now) (c .before .before .before .before .args .at) (c .before .before .before .before .args .w) (c .before .before .before .before .args .from) (omega arith) (c .before .shared-slice-known2 .given _ .fits) (c .if2 .taken)) .inside)
+add-result c =
+    let start = c .before .before .before .before in
+    omega (arith, (found-here (start .args .s .now) (start .args .at) (start .args .w) (start .args .from) (omega arith) (c .before .shared-slice-known2 .given _ .fits) (c .if2 .taken)) .inside)
 
 returns-2 : tie.Need-returns-2
-returns-2 c = found-here (c .before .before .before .before .args .s .now) (c .before .before .before .before .args .at) (c .before .before .before .before .args .w) (c .before .before .before .before .args .from) (omega arith) (c .before .shared-slice-known2 .given _ .fits) (c .if2 .taken)
+returns-2 c =
+    let start = c .before .before .before .before in
+    found-here (start .args .s .now) (start .args .at) (start .args .w) (start .args .from) (omega arith) (c .before .shared-slice-known2 .given _ .fits) (c .if2 .taken)
 
 add-next-word : tie.Need-add-next-word
 add-next-word c = search needs
@@ -44,7 +50,10 @@ mul-result : tie.Need-mul-result
 mul-result c = search needs
 
 returns-3 : tie.Need-returns-3
-returns-3 c = row-spent (c .before .before .before .before .before .before .args .s .now) (c .before .before .before .before .before .before .args .at) (c .before .before .before .before .before .before .args .w) (c .before .before .before .before .before .before .args .from) (c .before .next-word .result) (omega arith) (c .before .before .before .shared-slice-known2 .given _ .fits) (c .before .before .if2 .left) (c .before .next-word .ensures) (c .if3 .taken)
+returns-3 c =
+    let after-shared-slice-known2 = c .before .before .before in
+    let start = after-shared-slice-known2 .before .before .before in
+    row-spent (start .args .s .now) (start .args .at) (start .args .w) (start .args .from) (c .before .next-word .result) (omega arith) (after-shared-slice-known2 .shared-slice-known2 .given _ .fits) (c .before .before .if2 .left) (c .before .next-word .ensures) (c .if3 .taken)
 
 mul-result-2 : tie.Need-mul-result-2
 mul-result-2 c = search needs
@@ -59,13 +68,23 @@ shared-slice-read-result : tie.Need-shared-slice-read-result
 shared-slice-read-result c = search needs
 
 cast-result-2 : tie.Need-cast-result-2
-cast-result-2 c = omega (arith, trailing-le 64 (getD (c .before .before .before .before .before .before .before .args .s .now) (c .before .before .before .before .before .before .before .args .at + c .before .before .next-word .result) 0))
+cast-result-2 c =
+    let start = c .before .before .before .before .before .before .before in
+    omega (arith, trailing-le 64 (getD (start .args .s .now) (start .args .at + c .before .before .next-word .result) 0))
 
 add-result-3 : tie.Need-add-result-3
-add-result-3 c = omega (arith, (row-found (c .before .before .before .before .before .before .before .args .s .now) (c .before .before .before .before .before .before .before .args .at) (c .before .before .before .before .before .before .before .args .w) (c .before .before .before .before .before .before .before .args .from) (c .before .before .next-word .result) (omega arith) (c .before .before .before .before .shared-slice-known2 .given _ .fits) (c .before .before .before .if2 .left) (c .before .before .next-word .ensures) (c .before .if3 .left) (c .shared-slice-known3 .given _ .fits)) .inside)
+add-result-3 c =
+    let after-if2 = c .before .before .before in
+    let after-shared-slice-known2 = after-if2 .before in
+    let start = after-shared-slice-known2 .before .before .before in
+    omega (arith, (row-found (start .args .s .now) (start .args .at) (start .args .w) (start .args .from) (c .before .before .next-word .result) (omega arith) (after-shared-slice-known2 .shared-slice-known2 .given _ .fits) (after-if2 .if2 .left) (c .before .before .next-word .ensures) (c .before .if3 .left) (c .shared-slice-known3 .given _ .fits)) .inside)
 
 returns-4 : tie.Need-returns-4
-returns-4 c = row-found (c .before .before .before .before .before .before .before .args .s .now) (c .before .before .before .before .before .before .before .args .at) (c .before .before .before .before .before .before .before .args .w) (c .before .before .before .before .before .before .before .args .from) (c .before .before .next-word .result) (omega arith) (c .before .before .before .before .shared-slice-known2 .given _ .fits) (c .before .before .before .if2 .left) (c .before .before .next-word .ensures) (c .before .if3 .left) (c .shared-slice-known3 .given _ .fits)
+returns-4 c =
+    let after-if2 = c .before .before .before in
+    let after-shared-slice-known2 = after-if2 .before in
+    let start = after-shared-slice-known2 .before .before .before in
+    row-found (start .args .s .now) (start .args .at) (start .args .w) (start .args .from) (c .before .before .next-word .result) (omega arith) (after-shared-slice-known2 .shared-slice-known2 .given _ .fits) (after-if2 .if2 .left) (c .before .before .next-word .ensures) (c .before .if3 .left) (c .shared-slice-known3 .given _ .fits)
 
 pub next-bit-spec : {M : Type 1} → statement M
 next-bit-spec =

@@ -35,7 +35,10 @@ loop-less : tie.Need-loop-less Inv-loop μ-loop
 loop-less c = search needs
 
 loop-again : tie.Need-loop-again Inv-loop μ-loop
-loop-again c = (omega arith, omega arith, words-more (c .before .before .before .before .args .s .now) (c .before .before .before .before .args .at) (c .before .before .before .before .args .j) (c .before .before .before .loop .i) (c .before .before .before .loop .inv .2) (c .if1 .left))
+loop-again c =
+    let turn = c .before .before .before in
+    let start = turn .before in
+    (omega arith, omega arith, words-more (start .args .s .now) (start .args .at) (start .args .j) (turn .loop .i) (turn .loop .inv .2) (c .if1 .left))
 
 returns-2 : tie.Need-returns-2 Inv-loop μ-loop
 returns-2 c = record { onward = c .before .before .pre .0; inside = omega arith; skipped = λ x l h. c .before .loop .inv .2 x l (omega arith); found = λ h. absurd (omega arith) }

@@ -30,10 +30,12 @@ same-length-3 c = search needs
 
 returns-2 : tie.Need-returns-2
 returns-2 c =
-    let p = c .before .before .before .before .before .before .before .before .before .before .before .before .before .before .before .before .before .pre in
+    let after-if1 = c .before .before .before .before .before .before .before .before .before .before .before .before in
+    let after-has = after-if1 .before in
+    let p = after-has .before .before .before .before .pre in
     let e = c .before .before .before .before .before .before .before .before .before .before .insert .ensures in
     let f = c .before .before .before .before .before .before .insert2 .ensures in
-    (joined-both _ _ _ _ _ _ (p .2) (sym (c .before .before .before .before .before .before .before .before .before .before .before .before .before .has .ensures) ∙ c .before .before .before .before .before .before .before .before .before .before .before .before .if1 .left) e f, λ w hw ha. occupied-more w _ _ _ _ _ _ _ _ ha hw (p .1) (p .2) e f (c .before .before .note .ensures))
+    (joined-both _ _ _ _ _ _ (p .2) (sym (after-has .has .ensures) ∙ after-if1 .if1 .left) e f, λ w hw ha. occupied-more w _ _ _ _ _ _ _ _ ha hw (p .1) (p .2) e f (c .before .before .note .ensures))
 
 pub join-spec : {M : Type 1} → statement M
 join-spec =

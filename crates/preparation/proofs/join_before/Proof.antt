@@ -27,12 +27,15 @@ same-length-3 : tie.Need-same-length-3
 same-length-3 c = search needs
 
 returns : tie.Need-returns
-returns c = (
-  λ ks r.
-      column-joins _ _ (streams-low _ _ _ _ ks _ (c .before .before .before .before .before .before .before .before .before .before .before .before .before .before .before .before .before .before .before .before .before .pre .1 .1)) _ _ _ _ _ _ (row-from _ _ _ _ _ _ (λ a l. empty-row 4 a) r (c .before .before .before .before .before .before .before .before .before .before .before .unite-row .ensures ks))
-      (c .before .before .before .before .join-row .ensures .0),
-  c .before .before .before .before .join-row .ensures .1,
-)
+returns c =
+    let after-join-row = c .before .before .before .before in
+    let after-unite-row = after-join-row .before .before .before .before .before .before .before in
+    let start = after-unite-row .before .before .before .before .before .before .before .before .before .before in (
+      λ ks r.
+          column-joins _ _ (streams-low _ _ _ _ ks _ (start .pre .1 .1)) _ _ _ _ _ _ (row-from _ _ _ _ _ _ (λ a l. empty-row 4 a) r (after-unite-row .unite-row .ensures ks))
+          (after-join-row .join-row .ensures .0),
+      after-join-row .join-row .ensures .1,
+    )
 
 pub join-before-spec : {M : Type 1} → statement M
 join-before-spec =

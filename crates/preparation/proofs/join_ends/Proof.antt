@@ -35,7 +35,11 @@ loop-less : tie.Need-loop-less Inv-loop μ-loop
 loop-less c = omega (arith, c .next-bit2 .ensures .onward)
 
 loop-again : tie.Need-loop-again Inv-loop μ-loop
-loop-again c = (omega arith, ends-more _ _ _ _ _ _ _ _ (c .before .before .before .before .before .loop-test .taken) (c .before .before .before .before .before .before .loop .inv .1) (c .before .before .before .join-end .ensures) (c .next-bit2 .ensures))
+loop-again c =
+    let after-join-end = c .before .before .before in
+    let tested = after-join-end .before .before in
+    let turn = tested .before in
+    (omega arith, ends-more _ _ _ _ _ _ _ _ (tested .loop-test .taken) (turn .loop .inv .1) (after-join-end .join-end .ensures) (c .next-bit2 .ensures))
 
 same-length : tie.Need-same-length Inv-loop μ-loop
 same-length c = search needs

@@ -36,9 +36,11 @@ loop-less c = search needs
 
 loop-again : tie.Need-loop-again Inv-loop μ-loop
 loop-again c =
-    let i = c .before .before .before .before .before .before .before .before .before .loop .inv in
+    let tested = c .before .before .before .before .before .before .before .before in
+    let start = tested .before .before .before .before .before in
+    let i = tested .before .loop .inv in
     let j = c .before .before .before .before .join-word .ensures in
-    (omega arith, omega arith, omega arith, words-more _ _ _ _ _ _ _ (i .3) (j .0), λ o. j .1 _ (c .before .before .before .before .before .before .before .before .before .before .before .before .before .pre .0) (c .before .before .before .before .before .before .before .before .loop-test .taken) (i .4 o))
+    (omega arith, omega arith, omega arith, words-more _ _ _ _ _ _ _ (i .3) (j .0), λ o. j .1 _ (start .pre .0) (tested .loop-test .taken) (i .4 o))
 
 same-length : tie.Need-same-length Inv-loop μ-loop
 same-length c = search needs

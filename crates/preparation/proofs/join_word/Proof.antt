@@ -35,10 +35,16 @@ join-requires c κs =
     (omega (arith, l .under-k), omega arith, omega arith, omega arith, omega arith, omega arith)
 
 shl-rest : tie.Need-shl-rest Inv-loop μ-loop
-shl-rest c = let l = lanes-next _ _ _ _ _ _ _ (c .before .before .before .before .before .before .before .before .loop .inv .2) (c .before .before .before .before .before .before .before .loop-test .taken) in l .under-k
+shl-rest c =
+    let tested = c .before .before .before .before .before .before .before in
+    let turn = tested .before in
+    let l = lanes-next _ _ _ _ _ _ _ (turn .loop .inv .2) (tested .loop-test .taken) in l .under-k
 
 loop-less : tie.Need-loop-less Inv-loop μ-loop
-loop-less c = let l = lanes-next _ _ _ _ _ _ _ (c .before .before .before .before .before .before .before .before .loop .inv .2) (c .before .before .before .before .before .before .before .loop-test .taken) in lane-less _ _ (l .under-k) (l .is-set)
+loop-less c =
+    let tested = c .before .before .before .before .before .before .before in
+    let turn = tested .before in
+    let l = lanes-next _ _ _ _ _ _ _ (turn .loop .inv .2) (tested .loop-test .taken) in lane-less _ _ (l .under-k) (l .is-set)
 
 loop-again : tie.Need-loop-again Inv-loop μ-loop
 loop-again c =

@@ -112,7 +112,9 @@ loop-less c =
 
 loop-again : tie.Need-loop-again Inv-loop μ-loop
 loop-again c =
-    let h = c .before .before .before .before .before .before .before .before .before .before .before .before .before in
+    let after-if1 = c .before .before .before .before .before .before .before .before .before .before in
+    let after-next-bit = after-if1 .before in
+    let h = after-next-bit .before .before in
     let e = h .before .before .before .before .before .before .before .before .before .before .before .before in
     let i = h .loop .inv in
     let q = i .12 (requiredOf (e .args .assumed)) (h .before .before .before .before .before .before .before .fill-allowed .ensures _ _) in
@@ -130,7 +132,7 @@ loop-again c =
       λ k. c .before .before .slice-known3 .given k .fits,
       w .1 (rows-none _ _ _ (q .free)),
       λ ks r.
-          search-step _ _ _ _ (e .pre .0 .ranges .streams) _ _ (i .0) (i .1) (i .2) ks _ _ _ _ _ _ _ _ (i .12 ks r) (i .11) (c .before .before .before .before .before .before .before .before .before .before .before .next-bit .ensures) (c .before .before .before .before .before .before .before .before .before .before .if1 .taken) (w .0 ks r),
+          search-step _ _ _ _ (e .pre .0 .ranges .streams) _ _ (i .0) (i .1) (i .2) ks _ _ _ _ _ _ _ _ (i .12 ks r) (i .11) (after-next-bit .next-bit .ensures) (after-if1 .if1 .taken) (w .0 ks r),
     )
 
 count-requires : tie.Need-count-requires Inv-loop μ-loop

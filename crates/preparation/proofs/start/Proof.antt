@@ -19,7 +19,11 @@ same-length : tie.Need-same-length
 same-length c = search needs
 
 returns : tie.Need-returns
-returns c = started _ _ _ _ _ _ _ (c .before .before .before .before .before .before .before .before .before .before .before .before .before .before .clear .ensures) (c .before .before .before .before .before .before .before .before .before .before .clear2 .ensures) (c .before .before .before .before .before .before .clear3 .ensures) (c .before .before .join-ends .ensures)
+returns c =
+    let after-clear3 = c .before .before .before .before .before .before in
+    let after-clear2 = after-clear3 .before .before .before .before in
+    let after-clear = after-clear2 .before .before .before .before in
+    started _ _ _ _ _ _ _ (after-clear .clear .ensures) (after-clear2 .clear2 .ensures) (after-clear3 .clear3 .ensures) (c .before .before .join-ends .ensures)
 
 pub start-spec : {M : Type 1} → statement M
 start-spec =

@@ -25,7 +25,9 @@ next-bit-requires : tie.Need-next-bit-requires Inv-loop μ-loop
 next-bit-requires c κs = search needs
 
 loop-holds : tie.Need-loop-holds Inv-loop μ-loop
-loop-holds c = (c .next-bit .ensures .inside, refl, refl, refl, λ ks r. swept-first _ _ _ _ (c .before .before .before .before .before .before .before .before .pre .1 .0 .0) _ _ (c .before .before .before .before .before .before .before .before .pre .1 .1 .1) _ (c .next-bit .ensures), λ o. o)
+loop-holds c =
+    let start = c .before .before .before .before .before .before .before .before in
+    (c .next-bit .ensures .inside, refl, refl, refl, λ ks r. swept-first _ _ _ _ (start .pre .1 .0 .0) _ _ (start .pre .1 .1 .1) _ (c .next-bit .ensures), λ o. o)
 
 mul-loop : tie.Need-mul-loop Inv-loop μ-loop
 mul-loop c = search needs

@@ -14,9 +14,11 @@ slice-aggregate-bring-rows c = search needs
 
 bring-rows-requires : tie.Need-bring-rows-requires
 bring-rows-requires c κs =
-    let a = c .before .before .before .before .before .before .before .before .args in
-    let h : (2 ^ (a .m + a .n) + 63) / 64 ≤ 2 = omega (arith, c .before .before .before .valuations .ensures .0) in
-    (c .before .before .before .before .before .before .before .before .pre .0, (omega (arith, room-two _ h), c .before .before .before .before .before .before .before .before .pre .1 .0, c .before .before .before .before .before .before .before .before .pre .1 .1, c .before .before .before .before .before .before .before .before .pre .1 .2))
+    let after-valuations = c .before .before .before in
+    let start = after-valuations .before .before .before .before .before in
+    let a = start .args in
+    let h : (2 ^ (a .m + a .n) + 63) / 64 ≤ 2 = omega (arith, after-valuations .valuations .ensures .0) in
+    (start .pre .0, (omega (arith, room-two _ h), start .pre .1 .0, start .pre .1 .1, start .pre .1 .2))
 
 same-length : tie.Need-same-length
 same-length c = search needs
@@ -29,9 +31,11 @@ slice-aggregate-bring-rows-2 c = search needs
 
 bring-rows-requires-2 : tie.Need-bring-rows-requires-2
 bring-rows-requires-2 c κs =
-    let a = c .before .before .before .before .before .before .before .before .args in
-    let h : 2 < (2 ^ (a .m + a .n) + 63) / 64 = omega (arith, c .before .before .before .valuations .ensures .0) in
-    (c .before .before .before .before .before .before .before .before .pre .0, (omega (arith, room-four _ h), c .before .before .before .before .before .before .before .before .pre .1 .0, c .before .before .before .before .before .before .before .before .pre .1 .1, c .before .before .before .before .before .before .before .before .pre .1 .2))
+    let after-valuations = c .before .before .before in
+    let start = after-valuations .before .before .before .before .before in
+    let a = start .args in
+    let h : 2 < (2 ^ (a .m + a .n) + 63) / 64 = omega (arith, after-valuations .valuations .ensures .0) in
+    (start .pre .0, (omega (arith, room-four _ h), start .pre .1 .0, start .pre .1 .1, start .pre .1 .2))
 
 same-length-2 : tie.Need-same-length-2
 same-length-2 c = search needs

@@ -67,13 +67,18 @@ loop-less c = omega (arith, c .next-bit2 .ensures .onward)
 
 loop-again : tie.Need-loop-again Inv-loop μ-loop
 loop-again c =
-    let v = c .before .before .before .before .before .before .before .before .before .before .before .before .before .before .before .valuations .ensures in (
+    let after-gain-row = c .before .before .before .before .before .before in
+    let after-seen = after-gain-row .before .before .before in
+    let turn = after-seen .before .before in
+    let after-row-words = turn .before .before .before in
+    let start = after-row-words .before .before .before .before .before .before in
+    let v = after-row-words .before .valuations .ensures in (
       c .next-bit2 .ensures .inside,
       omega arith,
       omega arith,
       λ p r ks.
-          bring-more _ _ _ _ p (omega (arith, v)) (c .before .before .before .before .before .before .before .before .before .before .before .before .before .before .before .before .before .before .before .before .pre .1 .2) _ _ _ _ _ (c .before .before .before .before .before .before .before .before .before .before .before .before .before .before .row-words .ensures .under) (omega (arith, v)) (c .before .before .before .before .before .before .before .before .before .before .before .loop .inv .3 p r ks)
-          (c .before .before .before .before .before .before .gain-row .ensures p (c .before .before .before .before .before .before .before .before .before .seen .ensures p r) ks) (c .next-bit2 .ensures),
+          bring-more _ _ _ _ p (omega (arith, v)) (start .pre .1 .2) _ _ _ _ _ (after-row-words .row-words .ensures .under) (omega (arith, v)) (turn .loop .inv .3 p r ks)
+          (after-gain-row .gain-row .ensures p (after-seen .seen .ensures p r) ks) (c .next-bit2 .ensures),
     )
 
 gain-ends-requires : tie.Need-gain-ends-requires Inv-loop μ-loop
@@ -89,10 +94,14 @@ same-length-2 : tie.Need-same-length-2 Inv-loop μ-loop
 same-length-2 c = search needs
 
 returns : tie.Need-returns Inv-loop μ-loop
-returns c = λ p r ks.
-    let v = c .before .before .before .before .before .before .before .before .before .before .before .before .valuations .ensures in
-    rows-end _ _ _ _ p (omega (arith, v)) (c .before .before .before .before .before .before .before .before .before .before .before .before .before .before .before .before .before .pre .1 .2) _ _ (bring-all _ _ _ _ p (omega (arith, v)) (c .before .before .before .before .before .before .before .before .before .before .before .before .before .before .before .before .before .pre .1 .2) _ _ (omega (arith, v)) (c .before .before .before .before .before .before .before .before .loop .inv .3 p r ks))
-    (c .before .before .before .before .gain-ends .ensures p r ks)
+returns c =
+    let after-gain-ends = c .before .before .before .before in
+    let turn = after-gain-ends .before .before .before .before in
+    let start = turn .before .before .before .before .before .before .before .before .before in
+    λ p r ks.
+    let v = turn .before .before .before .before .valuations .ensures in
+    rows-end _ _ _ _ p (omega (arith, v)) (start .pre .1 .2) _ _ (bring-all _ _ _ _ p (omega (arith, v)) (start .pre .1 .2) _ _ (omega (arith, v)) (turn .loop .inv .3 p r ks))
+    (after-gain-ends .gain-ends .ensures p r ks)
 
 pub bring-row-spec : {M : Type 1} → statement M
 bring-row-spec =

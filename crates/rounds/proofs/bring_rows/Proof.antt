@@ -49,22 +49,31 @@ before-requires c κs = search needs
 bring-row-requires : tie.Need-bring-row-requires Inv-loop μ-loop
 unfolding unless
 bring-row-requires c κs =
-    let p = c .before .before .before .before .before .before .before .before .before .before .before .before .before .pre in
-    let l = c .before .before .before .before .loop .inv in
-    (p .0, (omega (arith, l .2, p .1 .0), omega (arith, l .1, p .1 .2), omega (arith, c .before .before .before .before .before .before .before .valuations .ensures), record { round = some (c .before .before .before .before .loop .g); reads = c .before2 .ensures }))
+    let turn = c .before .before .before .before in
+    let after-valuations = turn .before .before .before in
+    let p = after-valuations .before .before .before .before .before .before .pre in
+    let l = turn .loop .inv in
+    (p .0, (omega (arith, l .2, p .1 .0), omega (arith, l .1, p .1 .2), omega (arith, after-valuations .valuations .ensures), record { round = some (turn .loop .g); reads = c .before2 .ensures }))
 
 add-next-bit : tie.Need-add-next-bit Inv-loop μ-loop
 add-next-bit c = omega (arith, c .before .before .before .before .before .before .before .before .before .before .before .row-words .ensures .most)
 
 next-bit-requires-2 : tie.Need-next-bit-requires-2 Inv-loop μ-loop
-next-bit-requires-2 c κs = let r = c .before .before .before .before .before .before .before .before .before .before .before .row-words .ensures in (omega (arith, r .under, c .before .before .before .before .before .before .before .before .before .before .before .before .valuations .ensures), r .most, omega arith, omega (arith, r .most, c .before .before .before .before .before .before .before .before .before .before .before .before .before .before .before .before .before .before .pre .1 .1))
+next-bit-requires-2 c κs =
+    let after-valuations = c .before .before .before .before .before .before .before .before .before .before .before .before in
+    let start = after-valuations .before .before .before .before .before .before in
+    let r = c .before .before .before .before .before .before .before .before .before .before .before .row-words .ensures in (omega (arith, r .under, after-valuations .valuations .ensures), r .most, omega arith, omega (arith, r .most, start .pre .1 .1))
 
 loop-less : tie.Need-loop-less Inv-loop μ-loop
 loop-less c = omega (arith, c .next-bit2 .ensures .onward, c .next-bit2 .ensures .inside)
 
 loop-again : tie.Need-loop-again Inv-loop μ-loop
 unfolding unless
-loop-again c = let r = c .before .before .before .before .before .before .before .before .before .before .before .before .before .valuations .ensures in (c .next-bit2 .ensures .inside, omega arith, omega arith, λ ks. groups-more _ _ _ (omega (arith, r)) _ (c .before .before .before .before .before .before .before .before .before .before .before .before .before .before .before .before .before .before .before .pre .1 .3) _ _ _ _ _ (omega (arith, r)) (c .before .before .before .before .before .before .before .before .before .before .loop .inv .3 ks) (c .before .before .before .before .before .bring-row .ensures (some _) (c .before .before .before .before .before .before .before2 .ensures) ks) (c .next-bit2 .ensures))
+loop-again c =
+    let after-bring-row = c .before .before .before .before .before in
+    let turn = after-bring-row .before .before .before .before .before in
+    let start = turn .before .before .before .before .before .before .before .before .before in
+    let r = turn .before .before .before .valuations .ensures in (c .next-bit2 .ensures .inside, omega arith, omega arith, λ ks. groups-more _ _ _ (omega (arith, r)) _ (start .pre .1 .3) _ _ _ _ _ (omega (arith, r)) (turn .loop .inv .3 ks) (after-bring-row .bring-row .ensures (some _) (after-bring-row .before .before2 .ensures) ks) (c .next-bit2 .ensures))
 
 same-length : tie.Need-same-length Inv-loop μ-loop
 same-length c = search needs

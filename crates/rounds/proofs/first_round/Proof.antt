@@ -38,10 +38,17 @@ same-length : tie.Need-same-length
 same-length c = search needs
 
 returns : tie.Need-returns
-returns c = λ ks.
-    let v = c .before .before .before .before .before .before .before .before .before .before .before .before .before .before .before .before .before .before .before .before .before .valuations .ensures in
-    rounded-first _ _ _ _ (pow-pos (c .before .before .before .before .before .before .before .before .before .before .before .before .before .before .before .before .before .before .before .before .before .before .before .before .before .args .m + c .before .before .before .before .before .before .before .before .before .before .before .before .before .before .before .before .before .before .before .before .before .before .before .before .before .args .n)) (c .before .before .before .before .before .before .before .before .before .before .before .before .before .before .before .row-words .ensures .under) _ (v .0) _ _ _ _ _ _ (c .before .before .before .before .before .before .before .before .before .before .before .before .before .before .before .before .before .before .before .clear-rows .ensures) (c .before .before .before .before .before .before .before .before .before .before .before .before .before .before .hear .ensures) (c .before .before .before .before .before .before .before .before .before .before .clear-rows2 .ensures)
-    (c .before .before .before .before .before .before .bring-first .ensures ks) (c .before .before .clear-rows3 .ensures)
+returns c =
+    let after-bring-first = c .before .before .before .before .before .before in
+    let after-clear-rows2 = after-bring-first .before .before .before .before in
+    let after-hear = after-clear-rows2 .before .before .before .before in
+    let after-row-words = after-hear .before in
+    let after-clear-rows = after-row-words .before .before .before .before in
+    let start = after-clear-rows .before .before .before .before .before .before in
+    λ ks.
+    let v = after-clear-rows .before .before .valuations .ensures in
+    rounded-first _ _ _ _ (pow-pos (start .args .m + start .args .n)) (after-row-words .row-words .ensures .under) _ (v .0) _ _ _ _ _ _ (after-clear-rows .clear-rows .ensures) (after-hear .hear .ensures) (after-clear-rows2 .clear-rows2 .ensures)
+    (after-bring-first .bring-first .ensures ks) (c .before .before .clear-rows3 .ensures)
 
 pub first-round-spec : {M : Type 1} → statement M
 first-round-spec =

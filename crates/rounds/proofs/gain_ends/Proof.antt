@@ -59,12 +59,16 @@ slice-aggregate-enders c = search needs
 
 enders-requires : tie.Need-enders-requires Inv-loop μ-loop
 enders-requires c κs =
-    let q = c .before .before .before .before .before .before .before .before .before .before .before .before .pre in
+    let after-row-words = c .before .before .before .before .before .before .before in
+    let q = after-row-words .before .before .before .before .before .pre in
     let z = q .1 .3 .reads in
-    (q .0, (c .before .before .before .before .before .before .before .row-words .ensures .most, refl, omega (arith, ap room (c .before .before .before .before .before .before .before .row-words .ensures .count)), omega (arith, z .place, z .beside .small)))
+    (q .0, (after-row-words .row-words .ensures .most, refl, omega (arith, ap room (after-row-words .row-words .ensures .count)), omega (arith, z .place, z .beside .small)))
 
 loop-holds : tie.Need-loop-holds Inv-loop μ-loop
-loop-holds c = (omega arith, refl, λ p h ks. ends-none _ _ _ _ _ p (c .before .before .before .before .before .before .before .before .before .before .before .row-words .ensures) (c .before .before .before .before .before .before .before .before .before .before .before .before .before .before .before .before .pre .1 .2))
+loop-holds c =
+    let after-row-words = c .before .before .before .before .before .before .before .before .before .before .before in
+    let start = after-row-words .before .before .before .before .before in
+    (omega arith, refl, λ p h ks. ends-none _ _ _ _ _ p (after-row-words .row-words .ensures) (start .pre .1 .2))
 
 add-live : tie.Need-add-live Inv-loop μ-loop
 add-live c = search needs
@@ -106,14 +110,21 @@ loop-less : tie.Need-loop-less Inv-loop μ-loop
 loop-less c = search needs
 
 loop-again : tie.Need-loop-again Inv-loop μ-loop
-loop-again c = (
-  omega arith,
-  omega arith,
-  λ p h ks.
-      ends-more _ _ _ _ _ p (c .before .before .before .before .before .before .before .before .before .before .before .before .before .before .before .before .before .before .before .row-words .ensures) (c .before .before .before .before .before .before .before .before .before .before .before .before .before .before .before .before .before .before .before .before .before .before .before .before .pre .1 .2) _ _ _ _ _ (c .before .before .before .before .before .before .loop-test .taken) (c .before .before .before .before .before .before .before .loop .inv .2 p h ks)
-      (λ i g. c .before .before .before .before .before .before .before .before .before .before .before .before .before .before .lanes-below .ensures i g ∙ ap (ltb (64 * 0 + i)) (c .before .before .before .before .before .before .before .before .before .before .before .before .before .before .before .valuations .ensures .0)) (λ i g. c .before .before .before .before .before .before .before .before .before .before .before .enders .ensures p h ks (c .before .before .before .before .before .before .before .loop .j) i (c .before .before .before .before .before .before .loop-test .taken) g)
-      (c .before .before .insert-ends .ensures),
-)
+loop-again c =
+    let tested = c .before .before .before .before .before .before in
+    let turn = tested .before in
+    let after-enders = turn .before .before .before .before in
+    let after-lanes-below = after-enders .before .before .before in
+    let after-valuations = after-lanes-below .before in
+    let after-row-words = after-valuations .before .before .before .before in
+    let start = after-row-words .before .before .before .before .before in (
+      omega arith,
+      omega arith,
+      λ p h ks.
+          ends-more _ _ _ _ _ p (after-row-words .row-words .ensures) (start .pre .1 .2) _ _ _ _ _ (tested .loop-test .taken) (turn .loop .inv .2 p h ks)
+          (λ i g. after-lanes-below .lanes-below .ensures i g ∙ ap (ltb (64 * 0 + i)) (after-valuations .valuations .ensures .0)) (λ i g. after-enders .enders .ensures p h ks (turn .loop .j) i (tested .loop-test .taken) g)
+          (c .before .before .insert-ends .ensures),
+    )
 
 same-length-2 : tie.Need-same-length-2 Inv-loop μ-loop
 same-length-2 c = search needs
@@ -122,7 +133,10 @@ same-length-3 : tie.Need-same-length-3 Inv-loop μ-loop
 same-length-3 c = search needs
 
 returns-2 : tie.Need-returns-2 Inv-loop μ-loop
-returns-2 c = λ p h ks. ends-all _ _ _ _ _ p (c .before .before .before .before .before .before .before .before .before .before .before .before .before .row-words .ensures) (c .before .before .before .before .before .before .before .before .before .before .before .before .before .before .before .before .before .before .pre .1 .2) _ _ (omega (arith, c .before .before .before .before .before .before .before .before .before .before .before .before .before .row-words .ensures .under)) (c .before .loop .inv .2 p h ks)
+returns-2 c =
+    let after-row-words = c .before .before .before .before .before .before .before .before .before .before .before .before .before in
+    let start = after-row-words .before .before .before .before .before in
+    λ p h ks. ends-all _ _ _ _ _ p (after-row-words .row-words .ensures) (start .pre .1 .2) _ _ (omega (arith, after-row-words .row-words .ensures .under)) (c .before .loop .inv .2 p h ks)
 
 pub gain-ends-spec : {M : Type 1} → statement M
 gain-ends-spec =

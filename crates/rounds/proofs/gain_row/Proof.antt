@@ -61,8 +61,9 @@ slice-aggregate-successors c = search needs
 
 successors-requires : tie.Need-successors-requires Inv-loop μ-loop
 successors-requires c κs =
-    let q = c .before .before .before .before .before .before .before .before .before .before .before .before .pre in
-    (q .0, (c .before .before .before .before .before .before .before .row-words .ensures .most, refl, omega (arith, ap room (c .before .before .before .before .before .before .before .row-words .ensures .count))))
+    let after-row-words = c .before .before .before .before .before .before .before in
+    let q = after-row-words .before .before .before .before .before .pre in
+    (q .0, (after-row-words .row-words .ensures .most, refl, omega (arith, ap room (after-row-words .row-words .ensures .count))))
 
 loop-holds : tie.Need-loop-holds Inv-loop μ-loop
 loop-holds c = (omega arith, refl, λ p seen ks. row-none _ _ _ _ p)
@@ -95,14 +96,20 @@ loop-less : tie.Need-loop-less Inv-loop μ-loop
 loop-less c = search needs
 
 loop-again : tie.Need-loop-again Inv-loop μ-loop
-loop-again c = (
-  omega arith,
-  omega arith,
-  λ p seen ks.
-      row-more _ _ _ _ _ _ _ p (c .before .before .before .before .before .before .loop .inv .2 p seen ks)
-      (word-gained _ _ _ _ _ (live-masked _ _ _ _ _ _ (c .before .before .before .before .before .before .before .before .before .before .before .before .before .before .before .before .before .before .row-words .ensures) (c .before .before .before .before .before .loop-test .taken) (λ i h. c .before .before .before .before .before .before .before .before .before .before .before .before .before .lanes-below .ensures i h ∙ ap (ltb (64 * 0 + i)) (c .before .before .before .before .before .before .before .before .before .before .before .before .before .before .valuations .ensures .0)))
-      _ p _ _ (λ i h. c .before .before .before .before .before .before .before .before .before .before .successors .ensures p seen ks (c .before .before .before .before .before .before .loop .j) i (c .before .before .before .before .before .loop-test .taken) h) (c .before .before .insert-word .ensures)),
-)
+loop-again c =
+    let tested = c .before .before .before .before .before in
+    let turn = tested .before in
+    let after-successors = turn .before .before .before .before in
+    let after-lanes-below = after-successors .before .before .before in
+    let after-valuations = after-lanes-below .before in
+    let after-row-words = after-valuations .before .before .before .before in (
+      omega arith,
+      omega arith,
+      λ p seen ks.
+          row-more _ _ _ _ _ _ _ p (turn .loop .inv .2 p seen ks)
+          (word-gained _ _ _ _ _ (live-masked _ _ _ _ _ _ (after-row-words .row-words .ensures) (tested .loop-test .taken) (λ i h. after-lanes-below .lanes-below .ensures i h ∙ ap (ltb (64 * 0 + i)) (after-valuations .valuations .ensures .0)))
+          _ p _ _ (λ i h. after-successors .successors .ensures p seen ks (turn .loop .j) i (tested .loop-test .taken) h) (c .before .before .insert-word .ensures)),
+    )
 
 same-length-2 : tie.Need-same-length-2 Inv-loop μ-loop
 same-length-2 c = search needs

@@ -33,7 +33,9 @@ same-length-3 : tie.Need-same-length-3
 same-length-3 c = search needs
 
 returns-2 : tie.Need-returns-2
-returns-2 c = (c .before .before .before .before .before .before .join-row .ensures, sparse-noted _ _ _ _ _ _ (c .before .before .before .before .before .before .join-row .ensures) (c .before .before .note .ensures))
+returns-2 c =
+    let after-join-row = c .before .before .before .before .before .before in
+    (after-join-row .join-row .ensures, sparse-noted _ _ _ _ _ _ (after-join-row .join-row .ensures) (c .before .before .note .ensures))
 
 pub group-row-spec : {M : Type 1} → statement M
 group-row-spec =

@@ -39,7 +39,10 @@ loop-again c =
     (omega arith, l .1, l .2, upto-quiet _ _ _ _ _ (c .before .before .before .before .before .before .before .pre .0) _ _ (c .before .before .before .loop-test .taken) (l .3) (c .before .is-quiet .ensures (c .if1 .taken)), l .4)
 
 group-row-requires : tie.Need-group-row-requires Inv-loop μ-loop
-group-row-requires c κs = let p = c .before .before .before .before .before .before .before .before .before .pre in (p .1, p .2, p .3, omega arith, omega (arith, and-le-l (c .before .before .before .before .before .before .loop .a) (c .before .before .before .before .before .before .before .before .before .args .mask)), omega arith, omega arith)
+group-row-requires c κs =
+    let turn = c .before .before .before .before .before .before in
+    let start = turn .before .before .before in
+    let p = start .pre in (p .1, p .2, p .3, omega arith, omega (arith, and-le-l (turn .loop .a) (start .args .mask)), omega arith, omega arith)
 
 add-a-2 : tie.Need-add-a-2 Inv-loop μ-loop
 add-a-2 c = search needs

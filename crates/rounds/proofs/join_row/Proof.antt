@@ -43,7 +43,10 @@ loop-less : tie.Need-loop-less Inv-loop μ-loop
 loop-less c = search needs
 
 loop-again : tie.Need-loop-again Inv-loop μ-loop
-loop-again c = (omega arith, omega arith, joined-more _ _ _ _ (c .before .before .before .before .before .before .before .before .pre .1) _ _ _ (omega arith) (c .before .before .before .before .before .before .loop .inv .2) (c .before .before .insert-word .ensures))
+loop-again c =
+    let turn = c .before .before .before .before .before .before in
+    let start = turn .before .before in
+    (omega arith, omega arith, joined-more _ _ _ _ (start .pre .1) _ _ _ (omega arith) (turn .loop .inv .2) (c .before .before .insert-word .ensures))
 
 same-length : tie.Need-same-length Inv-loop μ-loop
 same-length c = search needs

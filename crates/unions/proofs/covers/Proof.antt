@@ -38,7 +38,9 @@ loop-less c = search needs
 
 loop-again : tie.Need-loop-again Inv-loop μ-loop
 loop-again c =
-    (omega arith, covering-more (c .before .before .before .before .before .args .row .now) (c .before .before .before .before .before .args .ok .now) (c .before .before .before .before .loop .j) (c .before .shared-slice-known2 .given (c .before .before .before .before .loop .j) .fits) (c .before .before .before .before .loop .inv .1) (c .if1 .left))
+    let turn = c .before .before .before .before in
+    let start = turn .before in
+    (omega arith, covering-more (start .args .row .now) (start .args .ok .now) (turn .loop .j) (c .before .shared-slice-known2 .given (turn .loop .j) .fits) (turn .loop .inv .1) (c .if1 .left))
 
 returns-2 : tie.Need-returns-2 Inv-loop μ-loop
 returns-2 c = λ e a l f. covered _ _ _ _ a (c .loop-test .left) (c .before .loop .inv .1) l f

@@ -54,16 +54,18 @@ loop-less : tie.Need-loop-less Inv-loop μ-loop
 loop-less c = search needs
 
 loop-again : tie.Need-loop-again Inv-loop μ-loop
-loop-again c = (
-  omega arith,
-  simp length-set (c .before .before .before .before .loop .inv .1),
-  gains-more _ _ _ _ _ _ (omega arith) (c .before .before .before .before .loop .inv .2)
-      (λ i h.
-      bit-or i _ (bitAnd (getD (c .before .before .before .before .before .args .ok .now) (c .before .before .before .before .loop .j) 0) (getD (c .before .before .before .before .before .args .x .now) (c .before .before .before .before .loop .j) 0))
-      ∙ ap (λ (u : Bool). bit i (getD (c .before .before .before .before .loop .row) (c .before .before .before .before .loop .j) 0) || u)
-      (bit-and i (getD (c .before .before .before .before .before .args .ok .now) (c .before .before .before .before .loop .j) 0) (getD (c .before .before .before .before .before .args .x .now) (c .before .before .before .before .loop .j) 0)
-      ∙ ap (λ (u : Bool). bit i (getD (c .before .before .before .before .before .args .ok .now) (c .before .before .before .before .loop .j) 0) && u) (row-lane (c .before .before .before .before .before .args .x .now) (c .before .before .before .before .loop .j) i h))),
-)
+loop-again c =
+    let turn = c .before .before .before .before in
+    let start = turn .before in (
+      omega arith,
+      simp length-set (turn .loop .inv .1),
+      gains-more _ _ _ _ _ _ (omega arith) (turn .loop .inv .2)
+          (λ i h.
+          bit-or i _ (bitAnd (getD (start .args .ok .now) (turn .loop .j) 0) (getD (start .args .x .now) (turn .loop .j) 0))
+          ∙ ap (λ (u : Bool). bit i (getD (turn .loop .row) (turn .loop .j) 0) || u)
+          (bit-and i (getD (start .args .ok .now) (turn .loop .j) 0) (getD (start .args .x .now) (turn .loop .j) 0)
+          ∙ ap (λ (u : Bool). bit i (getD (start .args .ok .now) (turn .loop .j) 0) && u) (row-lane (start .args .x .now) (turn .loop .j) i h))),
+    )
 
 same-length : tie.Need-same-length Inv-loop μ-loop
 same-length c = search needs

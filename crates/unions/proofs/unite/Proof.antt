@@ -53,11 +53,13 @@ same-length-3 c = search needs
 
 returns-2 : tie.Need-returns-2
 returns-2 c =
+    let after-predecessors = c .before .before .before .before .before .before .before .before in
+    let after-ahead = after-predecessors .before .before .before in
     λ ks.
-    let q = c .before .before .before .before .before .before .before .before .before .before .before .before .before .before .before .before .before .before .before .before .args in
+    let q = after-ahead .before .before .before .before .before .before .before .before .before .args in
     united-as _ _ _ _ _ (c .before .before .gain .ensures)
     (λ a l. ap (λ (u : Bool). rowBit (q .ok .now) 0 a && u)
-    (lanes-row _ _ (λ a. holds (sheetOf (q .m) (q .n) (q .code .now) (q .len .now) ks) (some a) (q .b) (unless (q .last) (q .c))) (c .before .before .before .before .before .before .before .before .predecessors .ensures _ (c .before .before .before .before .before .before .before .before .before .before .before .ahead .ensures) ks) a l))
+    (lanes-row _ _ (λ a. holds (sheetOf (q .m) (q .n) (q .code .now) (q .len .now) ks) (some a) (q .b) (unless (q .last) (q .c))) (after-predecessors .predecessors .ensures _ (after-ahead .ahead .ensures) ks) a l))
 
 pub unite-spec : {M : Type 1} → statement M
 unite-spec =

@@ -26,14 +26,21 @@ returns : tie.Need-returns
 returns c = λ ks. united-no-end _ _ _ _ _ _ _ _ (sym (c .before .has-end .ensures) ∙ not-true _ (c .if1 .taken)) (c .before .before .before .before .before .before .unite-valuations .ensures ks)
 
 unite-requires : tie.Need-unite-requires
-unite-requires c κs = (c .before .before .before .before .before .before .before .before .before .before .before .before .before .before .before .before .before .pre .0, (c .before .before .before .before .before .before .before .before .before .before .before .before .before .before .before .before .before .pre .1 .0, omega arith, c .before .before .before .before .before .before .before .before .before .before .before .before .before .before .before .before .before .pre .1 .2, omega arith, omega arith, omega arith))
+unite-requires c κs =
+    let start = c .before .before .before .before .before .before .before .before .before .before .before .before .before .before .before .before .before in
+    (start .pre .0, (start .pre .1 .0, omega arith, start .pre .1 .2, omega arith, omega arith, omega arith))
 
 same-length-4 : tie.Need-same-length-4
 same-length-4 c = search needs
 
 returns-2 : tie.Need-returns-2
 unfolding unless
-returns-2 c = λ ks. united-end _ _ _ _ _ _ _ _ _ (sym (c .before .before .before .before .before .before .before .before .has-end .ensures) ∙ not-false _ (c .before .before .before .before .before .before .before .if1 .left)) (c .before .before .before .before .before .before .before .before .before .before .before .before .before .unite-valuations .ensures ks) (c .before .before .before .before .unite .ensures ks)
+returns-2 c =
+    let after-unite = c .before .before .before .before in
+    let after-if1 = after-unite .before .before .before in
+    let after-has-end = after-if1 .before in
+    let after-unite-valuations = after-has-end .before .before .before .before .before in
+    λ ks. united-end _ _ _ _ _ _ _ _ _ (sym (after-has-end .has-end .ensures) ∙ not-false _ (after-if1 .if1 .left)) (after-unite-valuations .unite-valuations .ensures ks) (after-unite .unite .ensures ks)
 
 pub unite-row-spec : {M : Type 1} → statement M
 unite-row-spec =

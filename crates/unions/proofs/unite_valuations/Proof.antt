@@ -34,7 +34,9 @@ mul-loop : tie.Need-mul-loop Inv-loop μ-loop
 mul-loop c = search needs
 
 unite-requires : tie.Need-unite-requires Inv-loop μ-loop
-unite-requires c κs = (c .before .before .before .before .before .before .before .before .before .before .before .pre .0, (c .before .before .before .before .before .before .before .before .before .before .before .pre .1 .0, omega arith, c .before .before .before .before .before .before .before .before .before .before .before .pre .1 .2, omega arith, omega arith, omega arith))
+unite-requires c κs =
+    let start = c .before .before .before .before .before .before .before .before .before .before .before in
+    (start .pre .0, (start .pre .1 .0, omega arith, start .pre .1 .2, omega arith, omega arith, omega arith))
 
 add-next-bit : tie.Need-add-next-bit Inv-loop μ-loop
 add-next-bit c = search needs
@@ -47,13 +49,16 @@ loop-less c = omega (arith, c .next-bit2 .ensures .onward)
 
 loop-again : tie.Need-loop-again Inv-loop μ-loop
 unfolding unless
-loop-again c = (
-  refl,
-  c .next-bit2 .ensures .inside,
-  omega arith,
-  omega arith,
-  λ ks. uniting-more _ _ _ _ _ _ _ _ _ _ _ (c .before .before .before .before .before .before .before .before .loop-test .taken) (c .before .before .before .before .before .before .before .before .before .loop .inv .4 ks) (c .before .before .before .before .before .unite .ensures ks) (c .next-bit2 .ensures),
-)
+loop-again c =
+    let after-unite = c .before .before .before .before .before in
+    let tested = after-unite .before .before .before in
+    let turn = tested .before in (
+      refl,
+      c .next-bit2 .ensures .inside,
+      omega arith,
+      omega arith,
+      λ ks. uniting-more _ _ _ _ _ _ _ _ _ _ _ (tested .loop-test .taken) (turn .loop .inv .4 ks) (after-unite .unite .ensures ks) (c .next-bit2 .ensures),
+    )
 
 same-length : tie.Need-same-length Inv-loop μ-loop
 same-length c = search needs

@@ -29,7 +29,10 @@ enum-told-2 : tie.Need-enum-told-2
 enum-told-2 c = search needs
 
 play-requires : tie.Need-play-requires
-play-requires c κs = ((rw (c .before .before .before .before .enum-told2 .given .1) at (c .before .before .before .before .before .before .before .before .before .before .start .ensures .0)) .0, omega arith)
+play-requires c κs =
+    let after-enum-told2 = c .before .before .before .before in
+    let after-start = after-enum-told2 .before .before .before .before .before .before in
+    ((rw (after-enum-told2 .enum-told2 .given .1) at (after-start .start .ensures .0)) .0, omega arith)
 
 same-length : tie.Need-same-length
 same-length c = search needs

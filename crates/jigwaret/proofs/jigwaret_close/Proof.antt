@@ -93,11 +93,12 @@ slice-aggregate-put-numbers c = search (needs, seven-shares (c .before .before .
 
 put-numbers-requires : tie.Need-put-numbers-requires
 put-numbers-requires c κs =
-    let t = c .before .before .before .before .before .before .before .before .before .before .before .before .before .before in
-    let d = c .before .before .before .before .before .before .before .before .before .before .before .before .before .before .before .before .before .before .before in
+    let after-put-bytes = c .before .before .before .before .before in
+    let t = after-put-bytes .before .before .before .before .before .before .before .before .before in
+    let d = after-put-bytes .before .before .before .before .before .before .before .before .before .before .before .before .before .before in
     let a = entry d .args in
     let p = t .before .before in
-    let put = c .before .before .before .before .before .put-bytes in
+    let put = after-put-bytes .put-bytes in
     let same = front-size (outputsOf (now (a .sheet))) (now (a .answer)) (put .last .0) (p .close .result .verdicts) (omega (arith, few t, fits d .room)) (omega (arith, few t, seven-verdicts p)) (put .ensures) in
     (omega (arith, few t, seven-shares p), omega (arith, few t, fits d .room, same))
 
@@ -129,19 +130,24 @@ same-length-3 c = search needs
 
 returns-3 : tie.Need-returns-3
 returns-3 c =
-    let d = c .before .before .before .before .before .before .before .before .before .before .before .before .before .before .before .before .before .before .before .before .before .before in
+    let after-put-bytes = c .before .before .before .before .before .before .before .before in
+    let after-store = after-put-bytes .before .before .before .before .before .before .before in
+    let after-enum-told = after-store .before .before in
+    let after-close = after-enum-told .before .before in
+    let after-load = after-close .before in
+    let d = after-load .before .before in
     let a = entry d .args in
-    let p = c .before .before .before .before .before .before .before .before .before .before .before .before .before .before .before .before .before .before .before .close in
-    let e = c .before .before .before .before .before .before .before .before .before .before .before .before .before .before .before .before .before .enum-told .given .1 in
+    let p = after-close .close in
+    let e = after-enum-told .enum-told .given .1 in
     let n = outputsOf (now (a .sheet)) in
-    let stored = c .before .before .before .before .before .before .before .before .before .before .before .before .before .before .before .store in
-    let front = c .before .before .before .before .before .before .before .before .put-bytes in
+    let stored = after-store .store in
+    let front = after-put-bytes .put-bytes in
     let put = c .before .before .put-numbers in
     let z = slices (now (a .journal)) (stored .last .0) (now (a .answer)) (put .last .0) in
     sizes-right (ClosingNumbered (now (a .sheet)) (now (a .storage)) z 0) (now (a .storage)) (now (a .storage)) z 0 (fits d)
     (record {
       answer = p .result;
-      result = subst (λ (b : JournalRecord). ClosingBytes (now (a .sheet)) (now (a .storage)) b (p .result)) (c .before .before .before .before .before .before .before .before .before .before .before .before .before .before .before .before .before .before .before .before .load .ensures) (p .ensures);
+      result = subst (λ (b : JournalRecord). ClosingBytes (now (a .sheet)) (now (a .storage)) b (p .result)) (after-load .load .ensures) (p .ensures);
       number = sym (ap outcomeNo e);
       written = written (numbersOf (p .result .record)) (paste (paste (now (a .answer)) 0 (p .result .verdicts) n) n (p .result .shares) n) z (p .result .outcome) e (stored .ensures)
           (put-behind n (now (a .answer)) (front .last .0) (put .last .0) (p .result .verdicts) (p .result .shares) (front .ensures) (put .ensures));

@@ -81,12 +81,14 @@ same-length-4 c = search needs
 
 returns-3 : tie.Need-returns-3
 returns-3 c =
-    let d = c .before .before .before .before .before .before .before .before .before .before in
+    let after-enum-told = c .before .before .before .before in
+    let after-prepare = after-enum-told .before .before .before .before in
+    let d = after-prepare .before .before in
     let a = entry d .args in
-    let p = c .before .before .before .before .before .before .before .before .prepare in
+    let p = after-prepare .prepare in
     let n = c .before .before .store .last .0 in
     let z = slices (now (a .journal)) n (now (a .answer)) (set (now (a .answer)) 0 (p .result .live)) in
-    let e = c .before .before .before .before .enum-told .given .1 in
+    let e = after-enum-told .enum-told .given .1 in
     sizes-right (PreparationNumbered (now (a .sheet)) (now (a .storage)) (p .last .1 .0) z 0) (now (a .storage)) (p .last .1 .0) z 0 (fits d)
     (record {
       answer = p .result;

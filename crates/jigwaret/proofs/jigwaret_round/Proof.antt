@@ -94,16 +94,18 @@ same-length-2 c = search needs
 
 returns-2 : tie.Need-returns-2
 returns-2 c =
-    let d = c .before .before .before .before .before .before .before .before .before .before in
+    let after-round = c .before .before .before .before .before .before in
+    let after-load = after-round .before .before in
+    let d = after-load .before .before in
     let a = entry d .args in
-    let p = c .before .before .before .before .before .before .round in
+    let p = after-round .round in
     let z = slices (now (a .journal)) (now (a .journal)) (now (a .answer)) (now (a .answer)) in
     let e = c .before .before .outcome .given .1 in
     let r = c .refusal-number .result in
     sizes-right (RoundNumbered (now (a .sheet)) (now (a .storage)) (p .last .1 .0) (a .known) (a .value) z r) (now (a .storage)) (p .last .1 .0) z r (fits d)
     (record {
       answer = p .result;
-      result = subst (λ (b : JournalRecord). RoundBytes (now (a .sheet)) (now (a .storage)) (p .last .1 .0) b (a .known) (a .value) (p .result)) (c .before .before .before .before .before .before .before .before .load .ensures) (p .ensures);
+      result = subst (λ (b : JournalRecord). RoundBytes (now (a .sheet)) (now (a .storage)) (p .last .1 .0) b (a .known) (a .value) (p .result)) (after-load .load .ensures) (p .ensures);
       number = number-of (p .result .outcome) _ r e (c .refusal-number .ensures);
       written = not-written (numbersOf (p .result .record)) (paste (now (a .answer)) 0 (p .result .verdicts) (outputsOf (now (a .sheet)))) z (p .result .outcome) _ e refl refl;
     })
@@ -119,17 +121,21 @@ same-length-5 c = search needs
 
 returns-3 : tie.Need-returns-3
 returns-3 c =
-    let d = c .before .before .before .before .before .before .before .before .before .before .before .before .before .before .before .before .before .before .before in
+    let after-store = c .before .before .before .before .before .before .before .before .before in
+    let after-enum-told = after-store .before .before in
+    let after-round = after-enum-told .before .before .before .before in
+    let after-load = after-round .before .before in
+    let d = after-load .before .before in
     let a = entry d .args in
-    let p = c .before .before .before .before .before .before .before .before .before .before .before .before .before .before .before .round in
-    let e = c .before .before .before .before .before .before .before .before .before .before .before .enum-told .given .1 in
-    let stored = c .before .before .before .before .before .before .before .before .before .store in
+    let p = after-round .round in
+    let e = after-enum-told .enum-told .given .1 in
+    let stored = after-store .store in
     let put = c .before .before .put-bytes in
     let z = slices (now (a .journal)) (stored .last .0) (now (a .answer)) (put .last .0) in
     sizes-right (RoundNumbered (now (a .sheet)) (now (a .storage)) (p .last .1 .0) (a .known) (a .value) z 0) (now (a .storage)) (p .last .1 .0) z 0 (fits d)
     (record {
       answer = p .result;
-      result = subst (λ (b : JournalRecord). RoundBytes (now (a .sheet)) (now (a .storage)) (p .last .1 .0) b (a .known) (a .value) (p .result)) (c .before .before .before .before .before .before .before .before .before .before .before .before .before .before .before .before .before .load .ensures) (p .ensures);
+      result = subst (λ (b : JournalRecord). RoundBytes (now (a .sheet)) (now (a .storage)) (p .last .1 .0) b (a .known) (a .value) (p .result)) (after-load .load .ensures) (p .ensures);
       number = sym (ap outcomeNo e);
       written = written (numbersOf (p .result .record)) (paste (now (a .answer)) 0 (p .result .verdicts) (outputsOf (now (a .sheet)))) z (p .result .outcome) e (stored .ensures) (put .ensures);
     })

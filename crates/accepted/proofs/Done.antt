@@ -7,31 +7,31 @@ use Prim.Native.Nat.{ℕ, _+_, _^_, _<_, _≤_}
 use native.Mathlib.Omega.{arith}
 use lib.ListN.{length}
 use lib.Pow.{pow-mono}
-use Rattle.words.specs.Bits.{bit}
-use Rattle.refusal.specs.declared.Verdict.{Verdict}
 use Rattle.refusal.specs.Numbers.{verdictNo, Verdicts}
+use Rattle.refusal.specs.declared.Verdict.{Verdict}
 use Rattle.refusal.proofs.NumberLaws.{verdict-small}
+use Rattle.words.specs.Bits.{bit}
 use Rattle.sheet.specs.RuleSheet.{RuleSheet, outputs, streams}
 use Rattle.sheet.specs.Reading.{ruleSheet, Usable}
 use Rattle.sheet.specs.declared.Sheet.{Sheet}
 use Rattle.sheet.proofs.Sheets.{length-trees}
 use Rattle.lola.specs.Equations.{output}
-use Rattle.lanes.specs.Coded.{sheetOf}
+use Rattle.record.specs.Record.{Counted}
+use Rattle.record.specs.Columns.{AreVerdicts}
+use Rattle.record.specs.declared.JournalRecord.{JournalRecord}
 use Rattle.completions.specs.Live.{Pairs}
 use Rattle.completions.specs.Completion.{masked}
 use Rattle.completions.specs.Steps.{Within, stepSet, pairsVerdict, endsVerdict, pairsWithin}
 use Rattle.completions.proofs.Range.{wider}
 use Rattle.letters.specs.Matching.{matches}
 use Rattle.pairs.specs.Storage.{stored, used}
-use Rattle.record.specs.Record.{Counted}
-use Rattle.record.specs.Columns.{AreVerdicts}
-use Rattle.record.specs.declared.JournalRecord.{JournalRecord}
+use Rattle.lanes.specs.Coded.{sheetOf}
 use Rattle.rounds.specs.Rows.{among}
 use Rattle.rounds.specs.Round.{Rounded}
 use Rattle.verdicts.specs.Firsts.{Passing}
 use Rattle.checks.specs.Checks.{given}
-use Rattle.accepted.specs.Results.{width, heard, nextSet, RoundDone, ClosingDone}
 use Rattle.checks.specs.Ready.{RoundReady}
+use Rattle.accepted.specs.Results.{width, heard, nextSet, RoundDone, ClosingDone}
 use Rattle.accepted.specs.Shares.{Shares}
 use Rattle.accepted.specs.declared.RoundAnswer.{RoundAnswer}
 use Rattle.accepted.specs.declared.ClosingAnswer.{ClosingAnswer}

@@ -73,7 +73,7 @@ pairs-verdict-as w S R g e =
     (pair-cong w (λ b c. S b c && not (g b)) (λ b c. R b c && not (g b)) (λ b c h k. ap (λ (z : Bool). z && not (g b)) (e b c h k)))
 
 -- a set cut down to the valuations below w is the same there
-pub within-same : (w : ℕ) (S : Pairs) (b : ℕ) (c : Option ℕ) → b < w → Within w c → pairsWithin w S b c ≡ S b c
+within-same : (w : ℕ) (S : Pairs) (b : ℕ) (c : Option ℕ) → b < w → Within w c → pairsWithin w S b c ≡ S b c
 within-same w S b none h i = rw (lt-ltb b w h)
 within-same w S b (some c) h i = rw (lt-ltb b w h, lt-ltb c w i)
 

@@ -5,8 +5,8 @@ use Prim.Native.Nat.{ℕ, _+_, _<_, _≤_}
 use native.Mathlib.Omega.{arith}
 use lib.ListN.{length, getD, set, length-set, replicate}
 use lib.Seq.{getD-set-other}
-use Rattle.words.proofs.ListLaws.{zeros, set-more}
 use Rattle.refusal.specs.declared.Verdict.the-variants.{True}
+use Rattle.words.proofs.ListLaws.{zeros, set-more}
 use Rattle.record.specs.Record.{countAt, share}
 use Rattle.record.specs.declared.JournalRecord.{JournalRecord}
 use Rattle.accepted.specs.Shares.{Shares}

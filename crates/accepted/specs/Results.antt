@@ -7,16 +7,16 @@ use mathlib.Core.List.{List}
 use mathlib.Core.Option.{Option}
 use Prim.Native.Nat.{ℕ, zero, suc, _+_, _^_, _<_, _≤_}
 use lib.ListN.{length, getD}
-use Rattle.refusal.specs.declared.Verdict.the-variants.{True}
 use Rattle.refusal.specs.Numbers.{Verdicts}
+use Rattle.refusal.specs.declared.Verdict.the-variants.{True}
 use Rattle.sheet.specs.RuleSheet.{RuleSheet, outputs, streams}
 use Rattle.lola.specs.Equations.{output, letter}
+use Rattle.record.specs.Record.{Fresh, Counted, countAt, share}
+use Rattle.record.specs.declared.JournalRecord.{JournalRecord}
 use Rattle.completions.specs.Live.{Pairs, Live, countPairs}
 use Rattle.completions.specs.Completion.{LetterSet, masked}
 use Rattle.completions.specs.Steps.{Within, Represents, startSet, stepSet, pairsVerdict, endsVerdict, pairsWithin}
 use Rattle.pairs.specs.Storage.{stored, used}
-use Rattle.record.specs.Record.{Fresh, Counted, countAt, share}
-use Rattle.record.specs.declared.JournalRecord.{JournalRecord}
 use Rattle.accepted.specs.declared.PrepareAnswer.{PrepareAnswer}
 use Rattle.accepted.specs.declared.RoundAnswer.{RoundAnswer}
 use Rattle.accepted.specs.declared.ClosingAnswer.{ClosingAnswer}

@@ -12,11 +12,11 @@ use Rattle.refusal.specs.declared.Verdict.{Verdict}
 use Rattle.sheet.specs.RuleSheet.{RuleSheet, outputs}
 use Rattle.record.specs.Record.{countAt}
 use Rattle.record.specs.declared.JournalRecord.{JournalRecord}
-use Rattle.claims.specs.Book.{Call, closing, refused, verdicts, closed, Book, counted}
-use Rattle.claims.specs.Session.{Held, numberList}
 use Rattle.text.specs.Text.{verdictLine, tallyLines, closingText, lineRefusal}
 use Rattle.text.specs.Wrote.{Wrote}
 use Rattle.text.proofs.TallyLaws.{tally-lines-same}
+use Rattle.claims.specs.Book.{Call, closing, refused, verdicts, closed, Book, counted}
+use Rattle.claims.specs.Session.{Held, numberList}
 use Rattle.pending.specs.Lines.{calls, malformed, readLine}
 use Rattle.answers.specs.Printed.{nextLine, malformedRule, passed, rounded, shut, turnedDown, unread}
 use Rattle.answers.specs.LineEnd.{held, Serves, Answered, LineEnded, room, due}

@@ -4,26 +4,26 @@ use mathlib.Core.Bool.{Bool, true, false, true≢false}
 use mathlib.Core.List.{List, [], _∷_, List·Memᴰ·head, List·Memᴰ·tail}
 use Prim.Native.Nat.{ℕ, _≤_}
 use lib.ListN.{length}
+use Rattle.refusal.specs.Decided.{Decided}
 use Rattle.refusal.specs.declared.Outcome.{Outcome}
 use Rattle.refusal.specs.declared.Outcome.the-variants.{Accepted, Refused}
-use Rattle.refusal.specs.Decided.{Decided}
 use Rattle.refusal.proofs.Decisions.{decided-once}
 use Rattle.sheet.specs.RuleSheet.{RuleSheet, outputs, accepted, readSheet}
 use Rattle.sheet.specs.Checks.{outputsOf}
 use Rattle.sheet.specs.Reading.{ruleSheet, Usable, whenAccepted}
 use Rattle.sheet.specs.declared.Sheet.{Sheet}
 use Rattle.sheet.proofs.Formed.{counts-of}
-use Rattle.record.specs.declared.JournalRecord.{JournalRecord}
 use Rattle.form.specs.Form.{formOf}
 use Rattle.form.proofs.FormLaws.{usable-form}
+use Rattle.record.specs.declared.JournalRecord.{JournalRecord}
 use Rattle.checks.specs.Checks.{given, Given, callRule, CallBroken, closed, closingChecks, prepareChecks, Broken, rule, entryChecks}
+use Rattle.checks.proofs.Checking.{past-storage, none-left}
 use Rattle.accepted.specs.Results.{Prepared, RoundDone, ClosingDone}
-use Rattle.monitor.specs.Entries.{OfSheet, AfterForm, PrepareResult, RoundResult, ClosingResult}
 use Rattle.accepted.specs.declared.PrepareAnswer.{PrepareAnswer}
 use Rattle.accepted.specs.declared.RoundAnswer.{RoundAnswer}
 use Rattle.accepted.specs.declared.ClosingAnswer.{ClosingAnswer}
 use Rattle.accepted.proofs.Rounding.{sheet-outputs}
-use Rattle.checks.proofs.Checking.{past-storage, none-left}
+use Rattle.monitor.specs.Entries.{OfSheet, AfterForm, PrepareResult, RoundResult, ClosingResult}
 use Rattle.monitor.proofs.Entries.{sheet-accepted}
 use Rattle.claims.specs.Book.{Call, round, closing, Answer, Book, emptyBook, BookStep, BookRun}
 use Rattle.claims.specs.Book as book

@@ -4,9 +4,9 @@ use mathlib.Core.List.{List, _∷_, _++_}
 use Prim.Native.Nat.{ℕ}
 use Rattle.sheet.specs.RuleSheet.{RuleSheet}
 use Rattle.record.specs.declared.JournalRecord.{JournalRecord}
+use Rattle.text.specs.Wrote.{Wrote}
 use Rattle.claims.specs.Book.{Call, Answer, Book, BookStep, BookRun}
 use Rattle.claims.specs.Session.{Held, Session, Matches}
-use Rattle.text.specs.Wrote.{Wrote}
 use Rattle.answers.specs.Printed.{Written}
 use Rattle.answers.specs.declared.Ended.{Ended}
 

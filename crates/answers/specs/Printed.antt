@@ -5,15 +5,15 @@ use mathlib.Core.Bool.{cond}
 use mathlib.Core.List.{List, [], _∷_, _++_}
 use Prim.Native.Nat.{ℕ, _+_}
 use lib.Dec.{ltb}
+use Rattle.refusal.specs.Decided.{Decided}
 use Rattle.refusal.specs.declared.Refusal.{Refusal}
 use Rattle.refusal.specs.declared.Refusal.the-variants.{Closed, Line}
 use Rattle.refusal.specs.declared.Outcome.the-variants.{Accepted, Refused}
 use Rattle.refusal.specs.declared.Verdict.{Verdict}
-use Rattle.refusal.specs.Decided.{Decided}
 use Rattle.sheet.specs.RuleSheet.{RuleSheet, outputs, accepted, readSheet}
 use Rattle.circular.specs.Checks as sheets
-use Rattle.claims.specs.Book.{Call, refused, verdicts, closed, Book, emptyBook, counted, BookStep}
 use Rattle.text.specs.Text.{verdictLine, closingText, lineRefusal, sheetRefusal}
+use Rattle.claims.specs.Book.{Call, refused, verdicts, closed, Book, emptyBook, counted, BookStep}
 use Rattle.pending.specs.Lines.{calls, malformed, readLine, linesOf}
 
 -- the number of the line after line l: a number of 64 bits, which stays at its largest

@@ -6,27 +6,27 @@ use Prim.Native.Nat.{ℕ, _+_, _≤_}
 use native.Mathlib.Omega.{arith}
 use lib.ListN.{length, take, drop, length-replicate}
 use lib.Seq.{paste}
-use Rattle.refusal.specs.declared.Outcome.{Outcome}
-use Rattle.refusal.specs.declared.Outcome.the-variants.{Accepted, Refused}
 use Rattle.refusal.specs.Numbers.{outcomeNo}
 use Rattle.refusal.specs.Decided.{Decided}
+use Rattle.refusal.specs.declared.Outcome.{Outcome}
+use Rattle.refusal.specs.declared.Outcome.the-variants.{Accepted, Refused}
 use Rattle.sheet.specs.RuleSheet.{RuleSheet, outputs, accepted, readSheet}
 use Rattle.sheet.specs.Checks.{outputsOf}
 use Rattle.sheet.proofs.Formed.{counts-of}
 use Rattle.record.specs.declared.JournalRecord.{JournalRecord}
+use Rattle.slices.specs.Slices.{recordOf, numbersOf, sized}
+use Rattle.slices.proofs.SliceLaws.{right-sizes}
 use Rattle.checks.specs.Checks as checks
 use Rattle.accepted.specs.Results.{Prepared, RoundDone, ClosingDone}
-use Rattle.monitor.specs.Entries.{OfSheet, PrepareResult, RoundResult, ClosingResult}
 use Rattle.accepted.specs.declared.PrepareAnswer.{PrepareAnswer}
 use Rattle.accepted.specs.declared.RoundAnswer.{RoundAnswer}
 use Rattle.accepted.specs.declared.ClosingAnswer.{ClosingAnswer}
+use Rattle.monitor.specs.Entries.{OfSheet, PrepareResult, RoundResult, ClosingResult}
 use Rattle.claims.specs.Book.{Call, round, closing, Answer}
 use Rattle.claims.specs.Session.{Held, roundSays, closingSays, SessionStep, a-round, a-closing, Session}
 use Rattle.claims.specs.Session as session
 use Rattle.claims.specs.Demands.{lent}
 use Rattle.claims.proofs.ThirdDemand.{third-demand}
-use Rattle.slices.specs.Slices.{recordOf, numbersOf, sized}
-use Rattle.slices.proofs.SliceLaws.{right-sizes}
 use Rattle.jigwaret.specs.Journal.{Slices, SlicesAfter, BySizes, PreparationNumbered, RoundNumbered, ClosingNumbered}
 use Rattle.jigwaret.proofs.JournalLaws.{few-outputs}
 use Rattle.calls.specs.Calls.{HeldSlices, Reply, slicesOf, ExportedStep, ExportedRun, finish, next, Shows, AllShow, empty, more, ExportedCalls}

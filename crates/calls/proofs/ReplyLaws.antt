@@ -7,16 +7,16 @@ use native.Mathlib.Omega.{arith}
 use native.Mathlib.Nat.{zero-add}
 use lib.ListN.{length, getD, take, drop}
 use lib.Seq.{paste, length-paste, take-paste, drop-paste, take-at, drop-at, drop-cons, drop-drop, length-take-le}
+use Rattle.refusal.specs.Numbers.{refusalNo, outcomeNo, verdictNo, verdictAt, verdictList, Verdicts}
 use Rattle.refusal.specs.declared.Refusal.{Refusal}
 use Rattle.refusal.specs.declared.Refusal.the-variants.{Short, Mark, Version, Counts, Assumption, Length, Byte, Values, Leftover, Circular, Letter, Closed, Full, NoRound, Storage, Extent, Line, Record}
 use Rattle.refusal.specs.declared.Outcome.{Outcome}
 use Rattle.refusal.specs.declared.Outcome.the-variants.{Accepted, Refused}
 use Rattle.refusal.specs.declared.Verdict.{Verdict}
-use Rattle.refusal.specs.Numbers.{refusalNo, outcomeNo, verdictNo, verdictAt, verdictList, Verdicts}
 use Rattle.refusal.proofs.NumberLaws.{verdict-back}
 use Rattle.record.specs.declared.JournalRecord.{JournalRecord}
-use Rattle.claims.specs.Session.{numberList}
 use Rattle.slices.specs.Slices.{recordOf, numbersOf}
+use Rattle.claims.specs.Session.{numberList}
 
 -- ---- numbers of outcomes
 

@@ -8,9 +8,9 @@ use lib.ListN.{length, take, drop}
 use Rattle.refusal.specs.Numbers.{refusalNo, verdictNo}
 use Rattle.sheet.specs.RuleSheet.{RuleSheet, outputs, accepted, readSheet}
 use Rattle.record.specs.declared.JournalRecord.{JournalRecord}
+use Rattle.slices.specs.Slices.{numbersOf}
 use Rattle.claims.specs.Book.{Call, round, closing, Answer, refused, verdicts, closed, Book, emptyBook, BookRun}
 use Rattle.claims.specs.Session.{Matches}
-use Rattle.slices.specs.Slices.{numbersOf}
 use Rattle.jigwaret.specs.Journal.{Slices, slices, PreparedAs, RoundAs, ClosedAs}
 
 -- what a caller in C or Rust holds between two calls: the storage, and the record as its numbers

@@ -1,9 +1,9 @@
 -- Checks one after the other: the first broken one decides.
 use mathlib.Core.List.{List, [], _∷_, List·Memᴰ·not-nil}
+use Rattle.refusal.specs.Decided.{Decided}
 use Rattle.refusal.specs.declared.Refusal.{Refusal}
 use Rattle.refusal.specs.declared.Outcome.{Outcome}
 use Rattle.refusal.specs.declared.Outcome.the-variants.{Accepted, Refused}
-use Rattle.refusal.specs.Decided.{Decided}
 use Rattle.refusal.proofs.Decisions.{decided-refused, decided-accepted, decided-broken, decided-whole}
 
 module _ {C : Type 0} (B : C → Type 0) (rule : C → Refusal) where

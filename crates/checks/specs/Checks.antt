@@ -9,9 +9,9 @@ use Rattle.refusal.specs.declared.Refusal.the-variants.{Letter, Closed, Full, N
 use Rattle.sheet.specs.Checks.{inputsOf, outputsOf}
 use Rattle.circular.specs.Checks.{SheetCheck}
 use Rattle.circular.specs.Checks as sheets
-use Rattle.letters.specs.Masks.{badMasks}
 use Rattle.record.specs.Record.{recordOk}
 use Rattle.record.specs.declared.JournalRecord.{JournalRecord}
+use Rattle.letters.specs.Masks.{badMasks}
 
 -- the checks behind the sheet's own
 pub data CallCheck : Type 0 where

@@ -2,8 +2,8 @@
 use mathlib.Core.Path.{_≡_}
 use mathlib.Core.Bool.{true, false}
 use Prim.Native.Nat.{ℕ, _<_, _≤_}
-use Rattle.letters.specs.Masks.{badMasks}
 use Rattle.record.specs.Record.{recordOk}
+use Rattle.letters.specs.Masks.{badMasks}
 use Rattle.checks.specs.Checks.{Given}
 
 -- no check of a round is broken

@@ -1,8 +1,8 @@
 -- The largest weight of a walk from one output to another, worked out by Kleene's (Floyd and Warshall's) algorithm on a table of entries:
--- no walk, a largest weight p - l, or weights without bound; and the proof that it is just that. Assumes nothing.
+-- no walk, a largest weight p - l, or weights without bound; and the proof that it is just that.
 use mathlib.Core.Path.{_≡_, refl, sym, subst, ap₂}
-use Prim.Native.Nat.{ℕ, zero, suc, _+_, _≤_, _<_}
 use mathlib.Core.Bool.{Bool, true, false}
+use Prim.Native.Nat.{ℕ, zero, suc, _+_, _≤_, _<_}
 use native.Mathlib.Omega.{arith}
 use native.Mathlib.Decide.{decLt}
 use lib.Dec.{leb}
@@ -81,7 +81,7 @@ le-unb none = tt
 le-unb (fin p l) = tt
 le-unb unb = tt
 
-pub le-trans : (x y z : Entry) → Le x y → Le y z → Le x z
+le-trans : (x y z : Entry) → Le x y → Le y z → Le x z
 le-trans none y z h k = tt
 le-trans (fin p l) none z h k = absurd h
 le-trans (fin p l) (fin p′ l′) none h k = absurd k
@@ -95,7 +95,7 @@ le-trans unb (fin p′ l′) z h k = absurd h
 le-trans unb unb z h k = k
 
 -- a statement of the larger of two follows from that of either
-pub larger-elim : (P : Entry → Type 0) (x y : Entry) → P x → P y → P (larger x y)
+larger-elim : (P : Entry → Type 0) (x y : Entry) → P x → P y → P (larger x y)
 unfolding larger pick
 larger-elim P none y a b = b
 larger-elim P (fin p l) none a b = a
@@ -107,7 +107,7 @@ larger-elim P (fin p l) (fin p′ l′) a b = go (leb (p + l′) (p′ + l))
 larger-elim P (fin p l) unb a b = b
 larger-elim P unb y a b = a
 
-pub larger-l : (x y : Entry) → Le x (larger x y)
+larger-l : (x y : Entry) → Le x (larger x y)
 unfolding larger pick
 larger-l none y = tt
 larger-l (fin p l) none = omega arith
@@ -119,7 +119,7 @@ larger-l (fin p l) (fin p′ l′) = go (leb (p + l′) (p′ + l)) refl
 larger-l (fin p l) unb = tt
 larger-l unb y = tt
 
-pub larger-r : (x y : Entry) → Le y (larger x y)
+larger-r : (x y : Entry) → Le y (larger x y)
 unfolding larger pick
 larger-r none y = le-refl y
 larger-r (fin p l) none = tt

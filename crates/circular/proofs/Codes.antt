@@ -1,20 +1,20 @@
--- The tables of numbers that the code keeps stand for the tables of entries. Assumes nothing.
+-- The tables of numbers that the code keeps stand for the tables of entries.
 use mathlib.Core.Path.{_≡_, refl, sym, subst, ap, ap₂, _∙_}
-use Prim.Native.Nat.{ℕ, zero, suc, _+_, _*_, _-_, _^_, _≤_, _<_}
 use mathlib.Core.Bool.{Bool, true, false, _&&_, false≢true, and-false}
 use mathlib.Core.List.{List}
+use Prim.Native.Nat.{ℕ, zero, suc, _+_, _*_, _-_, _^_, _≤_, _<_}
 use native.Mathlib.Omega.{arith}
 use native.Mathlib.Numerals.{add-one}
 use lib.Pow.{pow-mono}
 use lib.ListN.{getD}
 use lib.Dec.{leb, ltb, eqb}
 use borrow.Author.Tests.{ltb-true, ltb-false, leb-true, leb-false, lt-ltb, le-ltb, le-leb, lt-leb, eq-eqb, ne-eqb}
-use Rattle.circular.proofs.Closure.{Entry, none, fin, unb, pick, larger, plus, blow, loop, top, Best}
-use Rattle.circular.proofs.Decide.{turned, atLeast0, circularAt, circular?, circular?-true, circular?-of}
 use Rattle.words.specs.Below.{anyBelow}
 use Rattle.words.proofs.AnyLaws.{any-cong, some-any, any-none, none-any}
 use Rattle.circular.specs.Circular.{Edge, Reach, last, then, Circular}
 use Rattle.circular.specs.Table.{pickN, largerN, clipN, plusN, loopN, cellN, bestN, topN, baseN, Next, Based, Closed, levelBoth}
+use Rattle.circular.proofs.Closure.{Entry, none, fin, unb, pick, larger, plus, blow, loop, top, Best}
+use Rattle.circular.proofs.Decide.{turned, atLeast0, circularAt, circular?, circular?-true, circular?-of}
 
 -- bounds
 pick-le : (b : Bool) (x y : ℕ) → x ≤ 4096 → y ≤ 4096 → pickN b x y ≤ 4096
@@ -119,7 +119,7 @@ pow-le k h = pow-mono h
 
 -- the table of codes stands for the table of entries
 module _ (E : ℕ → ℕ → ℕ → Bool) where
-  pub rep-best : (g : ℕ → ℕ → ℕ) → ((i j : ℕ) → Rep 1 (top (E i j 0) (E i j 1) (E i j 2)) (g i j)) → (k i j : ℕ) → k ≤ 7 → Rep (2 ^ k) (Best E k i j) (bestN g k i j)
+  rep-best : (g : ℕ → ℕ → ℕ) → ((i j : ℕ) → Rep 1 (top (E i j 0) (E i j 1) (E i j 2)) (g i j)) → (k i j : ℕ) → k ≤ 7 → Rep (2 ^ k) (Best E k i j) (bestN g k i j)
   unfolding Best bestN
   rep-best g base zero i j h = base i j
   rep-best g base (suc k) i j h =

@@ -1,7 +1,7 @@
--- Circular or not, computed: exact for `Circular`. Assumes nothing.
+-- Circular or not, computed: exact for `Circular`.
 use mathlib.Core.Path.{_≡_, refl}
-use Prim.Native.Nat.{ℕ, _+_, _-_, _≤_, _<_}
 use mathlib.Core.Bool.{Bool, true, false, _&&_, false≢true}
+use Prim.Native.Nat.{ℕ, _+_, _-_, _≤_, _<_}
 use native.Mathlib.Omega.{arith}
 use lib.Dec.{leb}
 use borrow.Author.Tests.{leb-true, le-leb}
@@ -61,16 +61,16 @@ module _ (n : ℕ) (E : ℕ → ℕ → ℕ → Bool) where
   entry-of-up p l (fin p′ l′) h b = le-leb l′ p′ (omega arith)
   entry-of-up p l unb h b = refl
 
-  pub best-up : (s : ℕ) → s < n → atLeast0 (Best E n s s) ≡ true → Up n E s
+  best-up : (s : ℕ) → s < n → atLeast0 (Best E n s s) ≡ true → Up n E s
   best-up s h e = up-of-entry s (Best E n s s) (made n E n s s (omega arith) h h) e
 
-  pub up-best : (s : ℕ) → Up n E s → atLeast0 (Best E n s s) ≡ true
+  up-best : (s : ℕ) → Up n E s → atLeast0 (Best E n s s) ≡ true
   up-best s u = entry-of-up (u .p) (u .l) (Best E n s s) (u .weight) (bounded n E (u .walk))
 
-pub up→down : (n : ℕ) (E : ℕ → ℕ → ℕ → Bool) (s : ℕ) → Up n (turned E) s → Down n E s
+up→down : (n : ℕ) (E : ℕ → ℕ → ℕ → Bool) (s : ℕ) → Up n (turned E) s → Down n E s
 up→down n E s u = let (p, w, h) = unturn (u .walk) in record { p = p; l = u .l; walk = w; weight = omega (arith, u .weight) }
 
-pub down→up : (n : ℕ) (E : ℕ → ℕ → ℕ → Bool) (s : ℕ) → Down n E s → Up n (turned E) s
+down→up : (n : ℕ) (E : ℕ → ℕ → ℕ → Bool) (s : ℕ) → Down n E s → Up n (turned E) s
 down→up n E s u = let (p, w, h) = turn (u .walk) in record { p = p; l = u .l; walk = w; weight = omega (arith, u .weight) }
 
 pub circular?-true : (n : ℕ) (E : ℕ → ℕ → ℕ → Bool) → circular? n E ≡ true → Circular n E

@@ -1,12 +1,12 @@
--- The outcome of rules 1 to 10, from that of rules 1 to 9. Assumes nothing.
+-- The outcome of rules 1 to 10, from that of rules 1 to 9.
 use mathlib.Core.Path.{_≡_, refl, ap, subst}
 use mathlib.Core.List.{List, [], _∷_, map}
 use Prim.Native.Nat.{ℕ}
+use Rattle.refusal.specs.Decided.{Decided}
 use Rattle.refusal.specs.declared.Refusal.{Refusal}
 use Rattle.refusal.specs.declared.Refusal.the-variants as refusal
 use Rattle.refusal.specs.declared.Outcome.{Outcome}
 use Rattle.refusal.specs.declared.Outcome.the-variants.{Accepted, Refused}
-use Rattle.refusal.specs.Decided.{Decided}
 use Rattle.refusal.proofs.Decisions.{decided-map, decided-refused, decided-accepted, decided-broken, decided-whole}
 use Rattle.sheet.specs.Checks as sheet
 use Rattle.sheet.specs.RuleSheet.{RuleSheet, accepted, refused, readSheet}

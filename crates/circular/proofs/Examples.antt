@@ -1,8 +1,8 @@
--- Examples of rule 10, over the definition: sheets of one input, by the bytes of their outputs. Assumes nothing.
+-- Examples of rule 10, over the definition: sheets of one input, by the bytes of their outputs.
 use mathlib.Core.Path.{_≡_, refl}
-use Prim.Native.Nat.{ℕ, _+_}
 use mathlib.Core.Bool.{Bool, true, false, false≢true}
 use mathlib.Core.List.{List, [], _∷_, map}
+use Prim.Native.Nat.{ℕ, _+_}
 use lib.ListN.{length}
 use Rattle.words.specs.Below.{anyBelow}
 use Rattle.sheet.specs.Bytes.{opOf, readsOf}

@@ -1,12 +1,11 @@
 -- A trace as a list of valuations, and as values by output and round: a list satisfies all equations exactly if its values solve them.
--- Assumes nothing.
 use mathlib.Core.Path.{_≡_, refl, sym, ap, ap₂, _∙_, subst}
-use Prim.Native.Nat.{ℕ, zero, suc, _+_, _-_, _*_, _%_, _^_, _≤_, _<_}
-use native.Mathlib.Nat.{zero-mod}
-use native.Mathlib.Omega.{arith}
 use mathlib.Core.Bool.{Bool, true, false, cond, _&&_, Bool·beq}
 use mathlib.Core.List.{List, [], _∷_, map}
 use mathlib.Core.Option.{Option, none, some}
+use Prim.Native.Nat.{ℕ, zero, suc, _+_, _-_, _*_, _%_, _^_, _≤_, _<_}
+use native.Mathlib.Nat.{zero-mod}
+use native.Mathlib.Omega.{arith}
 use lib.ListN.{length, getD, drop, drop-of-length-le, List·getD-map, length-map}
 use lib.Seq.{drop-cons}
 use lib.Dec.{leb, ltb, T}
@@ -174,7 +173,7 @@ joined-length m [] os h = refl
 joined-length m (l ∷ ls) [] h = absurd (omega arith)
 joined-length m (l ∷ ls) (o ∷ os) h = ap suc (joined-length m ls os (omega arith))
 
-pub joined-at : (m : ℕ) (ls os : List ℕ) → length ls ≤ length os → (i : ℕ) → i < length ls → getD (joined m ls os) i 0 ≡ getD ls i 0 + 2 ^ m * getD os i 0
+joined-at : (m : ℕ) (ls os : List ℕ) → length ls ≤ length os → (i : ℕ) → i < length ls → getD (joined m ls os) i 0 ≡ getD ls i 0 + 2 ^ m * getD os i 0
 joined-at m [] os h i l = absurd (omega arith)
 joined-at m (a ∷ ls) [] h i l = absurd (omega arith)
 joined-at m (a ∷ ls) (o ∷ os) h zero l = refl
@@ -185,7 +184,7 @@ joined-letters x [] os g h = refl
 joined-letters x (l ∷ ls) [] g h = absurd (omega arith)
 joined-letters x (l ∷ ls) (o ∷ os) g h = ap₂ _∷_ (join-mod (x .inputs) l o (g .0)) (joined-letters x ls os (g .1) (omega arith))
 
-pub letter-lt : (m : ℕ) (ls : List ℕ) → Letters m ls → (i : ℕ) → i < length ls → getD ls i 0 < 2 ^ m
+letter-lt : (m : ℕ) (ls : List ℕ) → Letters m ls → (i : ℕ) → i < length ls → getD ls i 0 < 2 ^ m
 letter-lt m [] g i l = absurd (omega arith)
 letter-lt m (a ∷ ls) g zero l = g .0
 letter-lt m (a ∷ ls) g (suc i) l = letter-lt m ls (g .1) i (omega arith)

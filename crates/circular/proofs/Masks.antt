@@ -1,11 +1,11 @@
--- The words and masks of reads. Assumes nothing.
+-- The words and masks of reads.
 use mathlib.Core.Path.{_≡_, refl, sym, ap, _∙_}
+use mathlib.Core.Bool.{Bool, false, _&&_, _||_, or-assoc, or-false}
+use mathlib.Core.List.{List, []}
 use Prim.Native.Nat.{ℕ, suc, _+_, _*_, _/_, _%_, _^_, _≤_, _<_}
 use native.Mathlib.Omega.{arith}
 use native.Mathlib.Numerals.{add-one}
 use native.Mathlib.Decide.{ℕ-discrete}
-use mathlib.Core.Bool.{Bool, false, _&&_, _||_, or-assoc, or-false}
-use mathlib.Core.List.{List, []}
 use lib.ListN.{length, getD, drop, drop-of-length-le}
 use lib.Seq.{drop-cons}
 use lib.Bits.{bitOr}
@@ -24,9 +24,9 @@ use Rattle.sheet.specs.declared.Op.{Op}
 use Rattle.sheet.specs.declared.Op.the-variants.{Const, Not, And, Or, Read, Rejected}
 use Rattle.sheet.proofs.Ops.{op-cases}
 use Rattle.lola.specs.Reads.{place}
+use Rattle.lola.specs.ByteReads.{opReads, bytesRead}
 use Rattle.circular.specs.Circular.{Circular, CircularSheet, edges}
 use Rattle.circular.specs.Table as table
-use Rattle.lola.specs.ByteReads.{opReads, bytesRead}
 use Rattle.circular.specs.Masks.{Marks, Rows, Mask, Masks, Tells, readsOfCode}
 use Rattle.circular.proofs.Codes.{base-same}
 use Rattle.circular.proofs.Trees.{edges-are, outputs-are}

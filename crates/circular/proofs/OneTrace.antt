@@ -1,18 +1,18 @@
--- Every accepted sheet has, for every list of letters, exactly one whole trace. Assumes nothing.
+-- Every accepted sheet has, for every list of letters, exactly one whole trace.
 use mathlib.Core.Path.{_≡_, refl, sym, ap, _∙_}
+use mathlib.Core.Bool.{Bool, true, false}
+use mathlib.Core.List.{List, [], _∷_, map, List·Memᴰ·head, Memᴰ·append-right}
 use Prim.Native.Nat.{ℕ, zero, suc, _+_, _-_, _*_, _^_, _<_}
 use native.Mathlib.Omega.{arith}
 use native.Mathlib.Decide.{decLt}
-use mathlib.Core.Bool.{Bool, true, false}
-use mathlib.Core.List.{List, [], _∷_, map, List·Memᴰ·head, Memᴰ·append-right}
 use lib.ListN.{length, getD}
 use lib.Seq.{ext-getD}
+use Rattle.refusal.specs.Decided.{Decided}
+use Rattle.refusal.specs.declared.Outcome.the-variants.{Accepted}
 use Rattle.words.specs.Bits.{bit}
 use Rattle.words.specs.Below.{one}
 use Rattle.words.proofs.BitLaws.{bits-ext}
 use Rattle.words.proofs.JoinLaws.{bit-of-low, bit-low, bit-above, join-lt}
-use Rattle.refusal.specs.Decided.{Decided}
-use Rattle.refusal.specs.declared.Outcome.the-variants.{Accepted}
 use Rattle.sheet.specs.Checks as sheet
 use Rattle.sheet.specs.RuleSheet.{RuleSheet, outputs, streams, accepted, readSheet}
 use Rattle.sheet.proofs.Formed.{Formed, read-formed}
@@ -133,12 +133,12 @@ module _ (x : RuleSheet) (formed : Formed x) (level : CircularSheet x → ⊥) (
           rw (z, e) at (one-solution x formed (length ls) (inputsBy ls) level (outputsBy (x .inputs) vs) (outputsBy (x .inputs) ws) (trace-solves x ls vs h) (trace-solves x ls ws g) (q - x .inputs) (suc i) pl)
 
 -- For every accepted sheet and every list of letters, exactly one list of valuations has these letters and satisfies all equations.
-pub one-trace : (bs : List ℕ) (x : RuleSheet) → readSheet bs ≡ accepted x → (CircularSheet x → ⊥) → (ls : List ℕ) → Letters (x .inputs) ls → OneTrace x ls
+one-trace : (bs : List ℕ) (x : RuleSheet) → readSheet bs ≡ accepted x → (CircularSheet x → ⊥) → (ls : List ℕ) → Letters (x .inputs) ls → OneTrace x ls
 one-trace bs x e level ls g =
     record { exists = a-trace x (read-formed bs x e) level ls g; only = no-other x (read-formed bs x e) level ls }
 
 -- the same from the outcome of rules 1 to 10
-pub accepted-level : (bs : List ℕ) (x : RuleSheet) → Decided (Broken bs) rule (checksOf bs) Accepted → readSheet bs ≡ accepted x → CircularSheet x → ⊥
+accepted-level : (bs : List ℕ) (x : RuleSheet) → Decided (Broken bs) rule (checksOf bs) Accepted → readSheet bs ≡ accepted x → CircularSheet x → ⊥
 accepted-level bs x d e c = d circular (Memᴰ·append-right (map reading (sheet.checksOf bs)) (List·Memᴰ·head refl)) (x, e, c)
 
 pub accepted-one-trace : (bs : List ℕ) (x : RuleSheet) → Decided (Broken bs) rule (checksOf bs) Accepted → readSheet bs ≡ accepted x → (ls : List ℕ) → Letters (x .inputs) ls → OneTrace x ls

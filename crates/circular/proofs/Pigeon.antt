@@ -1,4 +1,4 @@
--- The pigeonhole principle on native numbers: K + 1 numbers below K are not all different. Assumes nothing.
+-- The pigeonhole principle on native numbers: K + 1 numbers below K are not all different.
 use mathlib.Core.Path.{_≡_, sym, subst}
 use Prim.Native.Nat.{ℕ, zero, suc, _≤_, _<_}
 use native.Mathlib.Omega.{arith}

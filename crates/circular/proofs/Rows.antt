@@ -1,13 +1,13 @@
--- A table filled row by row. Assumes nothing.
+-- A table filled row by row.
 use mathlib.Core.Path.{_≡_, refl, sym, ap, ap₂, _∙_, subst}
-use Prim.Native.Nat.{ℕ, _+_, _*_, _≤_, _<_}
 use mathlib.Core.List.{List}
+use mathlib.Core.Bool.{Bool}
+use Prim.Native.Nat.{ℕ, _+_, _*_, _≤_, _<_}
 use native.Mathlib.Omega.{arith}
 use native.Mathlib.Decide.{decLt, ℕ-discrete}
 use lib.ListN.{length, getD, set, replicate, length-set}
 use lib.Seq.{getD-set-same, getD-set-other}
 use borrow.Author.Tests.{le-ltb}
-use mathlib.Core.Bool.{Bool}
 use Rattle.words.proofs.ListLaws.{zeros, set-more-from}
 use Rattle.circular.specs.Table.{pickN, largerN, plusN, cellN, Small, Part, Tails, joinedN}
 use Rattle.circular.proofs.Codes.{loop-le}

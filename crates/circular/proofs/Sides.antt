@@ -1,7 +1,7 @@
--- The right sides of a sheet depend only on the values that are read. Assumes nothing.
+-- The right sides of a sheet depend only on the values that are read.
 use mathlib.Core.Path.{_≡_, refl, ap, ap₂}
-use Prim.Native.Nat.{ℕ, suc, _+_, _-_, _*_, _≤_, _<_}
 use mathlib.Core.Bool.{Bool, true, false, cond, not, _&&_, _||_}
+use Prim.Native.Nat.{ℕ, suc, _+_, _-_, _*_, _≤_, _<_}
 use native.Mathlib.Omega.{arith}
 use lib.ListN.{getD}
 use lib.Dec.{leb, ltb, eqb}
@@ -15,8 +15,8 @@ use Rattle.sheet.proofs.Formed.{Formed}
 use Rattle.lola.specs.Value.{Look, value}
 use Rattle.lola.specs.Reads.{place, hasRead}
 use Rattle.circular.specs.Circular.{CircularSheet, edges}
-use Rattle.circular.proofs.Masks.{place-le}
 use Rattle.circular.specs.Places.{Assignment, joint, lookAt, right, Place, Reads, Solves}
+use Rattle.circular.proofs.Masks.{place-le}
 use Rattle.circular.proofs.Unique.{run, unique, solution}
 
 -- the expression of output s

@@ -1,8 +1,8 @@
 -- Values filled in place, in any order. After k passes, each of which updates every place at least once, a place from which no chain of k reads
--- starts has its right value; after n * N passes all have. A pass that changes nothing ends the work at once. Assumes nothing.
+-- starts has its right value; after n * N passes all have. A pass that changes nothing ends the work at once.
 use mathlib.Core.Path.{_≡_, sym, _∙_}
-use Prim.Native.Nat.{ℕ, zero, suc, _*_, _≤_}
 use mathlib.Core.Bool.{Bool}
+use Prim.Native.Nat.{ℕ, zero, suc, _*_, _≤_}
 use native.Mathlib.Omega.{arith}
 use Rattle.circular.specs.Circular.{Edge, Reach, last, then, Circular}
 use Rattle.circular.specs.Places.{Chain, stop, go, Place, Reads, Solves, RightAt, Right}

@@ -1,8 +1,8 @@
 -- The reads of a sheet's trees are those of its bytes.
 use mathlib.Core.Path.{_≡_, refl}
+use mathlib.Core.Bool.{false}
 use Prim.Native.Nat.{ℕ, _+_, _<_}
 use native.Mathlib.Omega.{arith}
-use mathlib.Core.Bool.{false}
 use native.Mathlib.Decide.{decLt}
 use lib.ListN.{getD, List·getD-eq-default}
 use borrow.Author.Tests.{lt-ltb, le-ltb}
@@ -12,9 +12,9 @@ use Rattle.sheet.specs.Reading.{ruleSheet, codeAt, Usable}
 use Rattle.sheet.specs.declared.Sheet.{Sheet}
 use Rattle.sheet.proofs.Sheets.{length-trees, tree-at}
 use Rattle.lola.specs.Reads.{hasRead}
-use Rattle.circular.specs.Circular.{edges}
 use Rattle.lola.specs.ByteReads.{bytesRead}
 use Rattle.lola.proofs.TreeReads.{tree-reads}
+use Rattle.circular.specs.Circular.{edges}
 use Rattle.circular.specs.Masks.{bytesOf}
 
 -- the expressions of a sheet that was read

@@ -1,8 +1,8 @@
 -- A sheet that is not circular has exactly one assignment of values to its outputs that satisfies all equations, for every N and every inputs.
--- The right sides are any function of the values at the places that are read. Assumes nothing.
+-- The right sides are any function of the values at the places that are read.
 use mathlib.Core.Path.{_≡_, sym, subst, subst₂, _∙_}
-use Prim.Native.Nat.{ℕ, zero, suc, _+_, _*_, _-_, _≤_, _<_}
 use mathlib.Core.Bool.{Bool, false}
+use Prim.Native.Nat.{ℕ, zero, suc, _+_, _*_, _-_, _≤_, _<_}
 use native.Mathlib.Omega.{arith}
 use native.Mathlib.Nat.{mul-le-mul-left}
 use native.Mathlib.Decide.{decLt}

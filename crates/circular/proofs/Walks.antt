@@ -1,8 +1,8 @@
 -- Walks along reads, with their weights. A table of reads is circular exactly if some output has a closed walk of weight at least 0 and
--- one of weight at most 0. Assumes nothing.
+-- one of weight at most 0.
 use mathlib.Core.Path.{_≡_, refl, subst₂}
-use Prim.Native.Nat.{ℕ, zero, suc, _+_, _*_, _-_, _≤_, _<_}
 use mathlib.Core.Bool.{Bool}
+use Prim.Native.Nat.{ℕ, zero, suc, _+_, _*_, _-_, _≤_, _<_}
 use native.Mathlib.Omega.{arith}
 use Rattle.circular.specs.Circular.{Edge, Read, Reach, last, then, Circular}
 
@@ -37,7 +37,7 @@ pub record Trail (n : ℕ) (E : ℕ → ℕ → ℕ → Bool) (s t q u : ℕ) : 
   pub shift : u + l ≡ t + p
 
 module _ {n : ℕ} {E : ℕ → ℕ → ℕ → Bool} where
-  pub cast : {s q p l p′ l′ : ℕ} → p ≡ p′ → l ≡ l′ → Walk n E s q p l → Walk n E s q p′ l′
+  cast : {s q p l p′ l′ : ℕ} → p ≡ p′ → l ≡ l′ → Walk n E s q p l → Walk n E s q p′ l′
   cast {s} {q} e f w = subst₂ (λ a b. Walk n E s q a b) e f w
 
   pub append : {s r q p l p′ l′ : ℕ} → Walk n E s r p l → Walk n E r q p′ l′ → Walk n E s q (p + p′) (l + l′)
@@ -45,7 +45,7 @@ module _ {n : ℕ} {E : ℕ → ℕ → ℕ → Bool} where
   append {p′ = p′} {l′ = l′} (more {o = o} {p = p} {l = l} e v) w = cast (omega arith) (omega arith) (more e (append v w))
 
   -- k + 1 times round a closed walk
-  pub repeat : {s p l : ℕ} (k : ℕ) → Walk n E s s p l → Walk n E s s (suc k * p) (suc k * l)
+  repeat : {s p l : ℕ} (k : ℕ) → Walk n E s s p l → Walk n E s s (suc k * p) (suc k * l)
   repeat {p = p} {l = l} zero w = cast (omega arith) (omega arith) w
   repeat {p = p} {l = l} (suc k) w = cast (omega arith) (omega arith) (append w (repeat k w))
 
@@ -53,7 +53,7 @@ module _ {n : ℕ} {E : ℕ → ℕ → ℕ → Bool} where
   from-of (one e) = e .from
   from-of (more e w) = e .from
 
-  pub trail : {N s t q u : ℕ} → Reach n E N s t q u → Trail n E s t q u
+  trail : {N s t q u : ℕ} → Reach n E N s t q u → Trail n E s t q u
   trail (last r) = record { p = r .o; l = 1; walk = one (r .edge); shift = r .shift }
   trail (then r w) =
       let x = trail w in

@@ -7,11 +7,12 @@ use Prim.Native.Nat.{ℕ, zero, suc, _^_, _≤_}
 use native.Mathlib.Omega.{arith}
 use lib.Dec.{T}
 use lib.ListN.{length, getElem?, length-map}
-use Rattle.words.proofs.Options.{nothing, same-some}
 use Rattle.refusal.specs.declared.Verdict.{Verdict}
 use Rattle.refusal.specs.declared.Verdict.the-variants.{True}
+use Rattle.words.proofs.Options.{nothing, same-some}
 use Rattle.sheet.specs.RuleSheet.{RuleSheet, outputs, streams}
 use Rattle.lola.specs.Equations.{output}
+use Rattle.record.specs.Record.{share}
 use Rattle.completions.specs.Live.{Pairs, Live}
 use Rattle.completions.specs.Completion.{LetterSet, masked, Completion, Closing}
 use Rattle.completions.specs.Judged.{inRound, RoundVerdict, ClosingVerdict}
@@ -21,7 +22,6 @@ use Rattle.completions.proofs.Steps.{start-exact, step-exact}
 use Rattle.completions.proofs.Verdicts.{one-verdict, test-verdict, test-closing}
 use Rattle.completions.proofs.Letters.{onLetter, onLetters, letters-verdict, letters-closing}
 use Rattle.accepted.specs.Results.{width, nextSet}
-use Rattle.record.specs.Record.{share}
 use Rattle.claims.specs.Book.{Call, closing, Answer, refused, verdicts, closed, Book, counted, refusal, Each, BookStep, refuse, accept, close, BookRun, finish, next}
 use Rattle.claims.specs.Further.{OneBook}
 
@@ -128,7 +128,7 @@ module _ (x : RuleSheet) (b : Book) where
       let d : xs ≡ ys = each-unique (outputs x) (λ k s. s ≡ share (counted (b .told) k True) (length (b .rounds))) (λ k y z p q. p ∙ sym q) xs ys shares shares′ in
       (ap₂ closed e d, refl)
 
-pub run-unique : (x : RuleSheet) {b₀ b₁ b₂ : Book} {cs : List Call} {xs ys : List Answer} → BookRun x b₀ cs xs b₁ → BookRun x b₀ cs ys b₂ → (xs ≡ ys) × (b₁ ≡ b₂)
+run-unique : (x : RuleSheet) {b₀ b₁ b₂ : Book} {cs : List Call} {xs ys : List Answer} → BookRun x b₀ cs xs b₁ → BookRun x b₀ cs ys b₂ → (xs ≡ ys) × (b₁ ≡ b₂)
 run-unique x finish finish = (refl, refl)
 run-unique x (next {b = b} p r) (next {b₂ = d} {cs = cs} {as′ = ys} q t) =
     let e = step-unique x b p q in

@@ -5,12 +5,12 @@ use mathlib.Core.Option.{Option}
 use Prim.Native.Nat.{ℕ, _+_, _<_, _≤_}
 use native.Mathlib.Omega.{arith}
 use Rattle.words.proofs.Tests.{same-test}
+use Rattle.record.specs.Record.{Fresh}
+use Rattle.record.specs.declared.JournalRecord.{JournalRecord}
 use Rattle.completions.specs.Live.{Pairs}
 use Rattle.completions.specs.Steps.{Within, Represents}
 use Rattle.completions.proofs.Count.{Subset, pairs-same}
 use Rattle.pairs.specs.Storage.{stored}
-use Rattle.record.specs.Record.{Fresh}
-use Rattle.record.specs.declared.JournalRecord.{JournalRecord}
 use Rattle.accepted.specs.Results.{Zero}
 use Rattle.claims.specs.Further.{StorageForgotten}
 use Rattle.claims.proofs.Tidy.{zero-none}

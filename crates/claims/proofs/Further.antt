@@ -5,6 +5,7 @@ use native.Mathlib.Omega.{arith}
 use lib.ListN.{length, length-map}
 use Rattle.sheet.specs.RuleSheet.{RuleSheet, outputs}
 use Rattle.lola.specs.Equations.{output, letter}
+use Rattle.record.proofs.Tallies.{RecordOk, record-is}
 use Rattle.completions.specs.Live.{Pairs, Live}
 use Rattle.completions.specs.Completion.{LetterSet, Match, Completion, Closing}
 use Rattle.completions.specs.Judged.{Judged, inRound, RoundVerdict, ClosingVerdict}
@@ -14,7 +15,6 @@ use Rattle.completions.proofs.Letters.{onLetter, onLetters, completion-of, run-
 use Rattle.completions.proofs.Backward.{liveWithin, settled-exact, settles, prefix-short, small-256}
 use Rattle.completions.proofs.Range.{wider}
 use Rattle.accepted.specs.Results.{width}
-use Rattle.record.proofs.Tallies.{RecordOk, record-is}
 use Rattle.claims.specs.Book.{Book, Call, Answer, emptyBook}
 use Rattle.claims.specs.Session.{Held, Session, finish, next}
 use Rattle.claims.specs.Demands.{lent}

@@ -7,9 +7,9 @@ use native.Mathlib.Omega.{arith}
 use lib.Dec.{leb, ltb}
 use lib.ListN.{length}
 use borrow.Author.Tests.{leb-true, ltb-false}
-use Rattle.words.proofs.Bools.{and-split}
-use Rattle.refusal.specs.declared.Outcome.the-variants.{Accepted}
 use Rattle.refusal.specs.Decided.{Decided}
+use Rattle.refusal.specs.declared.Outcome.the-variants.{Accepted}
+use Rattle.words.proofs.Bools.{and-split}
 use Rattle.sheet.specs.Header.{countsOk}
 use Rattle.sheet.specs.Checks.{counts, size, leftover, rule, inputsOf, outputsOf, placeOf, sizeOf, broken?, Broken, byteChecks, outputChecks, checksOf}
 use Rattle.sheet.proofs.First.{reading-decided, readingOutcome}

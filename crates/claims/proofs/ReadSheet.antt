@@ -3,8 +3,8 @@ use mathlib.Core.Path.{subst}
 use mathlib.Core.List.{List}
 use Prim.Native.Nat.{ℕ}
 use lib.ListN.{length}
-use Rattle.refusal.specs.declared.Outcome.{Outcome}
 use Rattle.refusal.specs.Decided.{Decided}
+use Rattle.refusal.specs.declared.Outcome.{Outcome}
 use Rattle.sheet.specs.RuleSheet.{RuleSheet}
 use Rattle.sheet.specs.Reading.{ruleSheet}
 use Rattle.sheet.specs.declared.Sheet.{Sheet}
@@ -13,10 +13,10 @@ use Rattle.form.proofs.FormLaws.{usable-form}
 use Rattle.record.specs.declared.JournalRecord.{JournalRecord}
 use Rattle.checks.specs.Checks.{given, Given, CallCheck, CallBroken, callRule, Broken, rule, entryChecks, prepareChecks, roundChecks, closingChecks}
 use Rattle.accepted.specs.Results.{Prepared, RoundDone, ClosingDone}
-use Rattle.monitor.specs.Entries.{OfSheet, AfterForm}
 use Rattle.accepted.specs.declared.PrepareAnswer.{PrepareAnswer}
 use Rattle.accepted.specs.declared.RoundAnswer.{RoundAnswer}
 use Rattle.accepted.specs.declared.ClosingAnswer.{ClosingAnswer}
+use Rattle.monitor.specs.Entries.{OfSheet, AfterForm}
 use Rattle.monitor.proofs.Entries.{sheet-accepted, prepare-of, round-of, closing-of}
 use Rattle.claims.specs.ReadSheet.{Accepts, PreparedRead, PreparedBytes, RoundRead, RoundBytes, ClosingRead, ClosingBytes, ReadAsBytes}
 

@@ -9,20 +9,20 @@ use native.Mathlib.Omega.{arith}
 use lib.Dec.{eqb, leb}
 use lib.ListN.{getD}
 use borrow.Author.Tests.{leb-true, leb-false, eqb-true, eq-eqb}
+use Rattle.refusal.specs.Decided.{Decided}
 use Rattle.refusal.specs.declared.Refusal.{Refusal}
 use Rattle.refusal.specs.declared.Refusal.the-variants.{Letter, Closed, Full, NoRound}
 use Rattle.refusal.specs.declared.Outcome.{Outcome}
 use Rattle.refusal.specs.declared.Outcome.the-variants.{Accepted, Refused}
-use Rattle.refusal.specs.Decided.{Decided}
 use Rattle.refusal.proofs.Decisions.{decided-map, decided-accepted}
-use Rattle.checks.proofs.Chain.{cons-holds, cons-breaks, nil-holds}
 use Rattle.sheet.specs.RuleSheet.{RuleSheet, outputs, accepted, readSheet}
 use Rattle.sheet.proofs.Formed.{counts-of}
 use Rattle.circular.specs.Checks as sheets
-use Rattle.letters.specs.Masks.{badMasks}
 use Rattle.record.specs.Record.{recordOk}
 use Rattle.record.specs.declared.JournalRecord.{JournalRecord}
+use Rattle.letters.specs.Masks.{badMasks}
 use Rattle.checks.specs.Checks.{storage, tallies, closed, masks, full, noRound, Given, EntryCheck, sheet, call, rule, Broken, entryChecks, roundChecks, closingChecks}
+use Rattle.checks.proofs.Chain.{cons-holds, cons-breaks, nil-holds}
 use Rattle.claims.specs.Book.{round, closing, limit, refusal}
 
 abbrev pub outcomeBy : Option Refusal → Outcome

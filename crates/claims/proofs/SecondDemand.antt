@@ -8,8 +8,8 @@ use native.Mathlib.Decide.{decLt}
 use native.Mathlib.Nat.{add-zero, zero-add}
 use lib.ListN.{length, getD, take}
 use lib.Seq.{length-take-le}
-use Rattle.refusal.specs.declared.Outcome.the-variants.{Accepted, Refused}
 use Rattle.refusal.specs.Decided.{Decided}
+use Rattle.refusal.specs.declared.Outcome.the-variants.{Accepted, Refused}
 use Rattle.sheet.specs.Checks as reads
 use Rattle.sheet.specs.RuleSheet.{RuleSheet, Reading, refused, accepted, readSheet}
 use Rattle.sheet.proofs.First.{readingOutcome, reading-decided}

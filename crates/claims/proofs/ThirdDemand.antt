@@ -10,23 +10,26 @@ use native.Mathlib.Nat.{add-zero, zero-add, add-suc, suc-add}
 use lib.Dec.{eqb}
 use lib.ListN.{length, getD, getElem?, length-map, replicate}
 use lib.Pow.{pow-mono}
-use Rattle.words.specs.Below.{one}
-use Rattle.words.proofs.ListLaws.{zeros}
-use Rattle.words.proofs.Options.{nothing, same-some}
+use Rattle.refusal.specs.Numbers.{verdictNo, verdictAt, verdictList, Verdicts}
+use Rattle.refusal.specs.Decided.{Decided}
 use Rattle.refusal.specs.declared.Refusal.{Refusal}
 use Rattle.refusal.specs.declared.Outcome.{Outcome}
 use Rattle.refusal.specs.declared.Outcome.the-variants.{Accepted, Refused}
 use Rattle.refusal.specs.declared.Verdict.{Verdict}
 use Rattle.refusal.specs.declared.Verdict.the-variants.{True, Broken}
-use Rattle.refusal.specs.Numbers.{verdictNo, verdictAt, verdictList, Verdicts}
-use Rattle.refusal.specs.Decided.{Decided}
 use Rattle.refusal.proofs.Decisions.{decided-once}
 use Rattle.refusal.proofs.NumberLaws.{verdict-back, verdict-small}
+use Rattle.words.specs.Below.{one}
+use Rattle.words.proofs.ListLaws.{zeros}
+use Rattle.words.proofs.Options.{nothing, same-some}
 use Rattle.sheet.specs.RuleSheet.{RuleSheet, outputs, streams, accepted, readSheet}
 use Rattle.sheet.specs.Checks.{outputsOf}
 use Rattle.sheet.proofs.Formed.{counts-of, read-formed}
-use Rattle.circular.specs.Checks as sheets
 use Rattle.lola.specs.Equations.{output}
+use Rattle.circular.specs.Checks as sheets
+use Rattle.record.specs.Record.{Fresh, countAt, sumAt, addUp, recordOk, share}
+use Rattle.record.specs.declared.JournalRecord.{JournalRecord}
+use Rattle.record.proofs.Tallies.{record-is, record-more}
 use Rattle.completions.specs.Live.{Pairs, Live}
 use Rattle.completions.specs.Completion.{LetterSet, masked}
 use Rattle.completions.specs.Judged.{RoundVerdict, ClosingVerdict}
@@ -37,16 +40,13 @@ use Rattle.completions.proofs.Letters.{onLetter, onLetters}
 use Rattle.completions.proofs.Range.{wider}
 use Rattle.pairs.specs.Storage.{stored}
 use Rattle.pairs.proofs.Sets.{stored-eq}
-use Rattle.record.specs.Record.{Fresh, countAt, sumAt, addUp, recordOk, share}
-use Rattle.record.specs.declared.JournalRecord.{JournalRecord}
-use Rattle.record.proofs.Tallies.{record-is, record-more}
 use Rattle.checks.specs.Checks as checks
 use Rattle.accepted.specs.Results.{width, nextSet, Prepared, RoundDone, ClosingDone}
-use Rattle.monitor.specs.Entries.{OfSheet, RoundResult, ClosingResult}
-use Rattle.accepted.proofs.Rounding.{reached-below}
 use Rattle.accepted.specs.declared.PrepareAnswer.{PrepareAnswer}
 use Rattle.accepted.specs.declared.RoundAnswer.{RoundAnswer}
 use Rattle.accepted.specs.declared.ClosingAnswer.{ClosingAnswer}
+use Rattle.accepted.proofs.Rounding.{reached-below}
+use Rattle.monitor.specs.Entries.{OfSheet, RoundResult, ClosingResult}
 use Rattle.claims.specs.Book.{Call, round, closing, Answer, refused, verdicts, closed, Book, emptyBook, isAt, counted, refusal, Each, BookStep, refuse, accept, close, BookRun}
 use Rattle.claims.specs.Book as book
 use Rattle.claims.specs.Session.{Held, numberList, roundSays, closingSays, handed, SessionStep, a-round, a-closing, Session, finish, next, Matches}

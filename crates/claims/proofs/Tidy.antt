@@ -6,21 +6,21 @@ use mathlib.Core.Option.{Option}
 use Prim.Native.Nat.{ℕ, _+_, _<_, _≤_}
 use native.Mathlib.Omega.{arith}
 use lib.Dec.{ltb}
-use Rattle.words.specs.Bits.{bit}
-use Rattle.words.proofs.BitLaws.{bit-none}
 use Rattle.refusal.specs.declared.Outcome.{Outcome}
 use Rattle.refusal.specs.declared.Outcome.the-variants.{Accepted, Refused}
+use Rattle.words.specs.Bits.{bit}
+use Rattle.words.proofs.BitLaws.{bit-none}
 use Rattle.sheet.specs.RuleSheet.{RuleSheet, accepted, readSheet}
+use Rattle.record.specs.declared.JournalRecord.{JournalRecord}
 use Rattle.completions.specs.Live.{Pairs}
 use Rattle.completions.specs.Completion.{masked}
 use Rattle.completions.specs.Steps.{Within, partBelow}
 use Rattle.pairs.specs.Storage.{place, slot, stored, used}
 use Rattle.pairs.proofs.Sets.{place-lt, unused}
-use Rattle.record.specs.declared.JournalRecord.{JournalRecord}
 use Rattle.accepted.specs.Results.{width, heard, nextSet, Zero, Prepared, RoundDone}
-use Rattle.monitor.specs.Entries.{OfSheet, RoundResult}
 use Rattle.accepted.specs.declared.PrepareAnswer.{PrepareAnswer}
 use Rattle.accepted.specs.declared.RoundAnswer.{RoundAnswer}
+use Rattle.monitor.specs.Entries.{OfSheet, RoundResult}
 use Rattle.claims.specs.Book.{Call, Answer}
 use Rattle.claims.specs.Session.{Held, SessionStep, a-round, a-closing, Session, finish, next}
 use Rattle.claims.specs.Further.{Tidy, StaysTidy}

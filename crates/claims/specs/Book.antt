@@ -8,17 +8,17 @@ use mathlib.Core.Option.{Option, none, some}
 use Prim.Native.Nat.{ℕ, _+_}
 use lib.Dec.{eqb, leb}
 use lib.ListN.{length, getElem?}
-use Rattle.words.specs.Below.{one}
+use Rattle.refusal.specs.Numbers.{verdictNo}
 use Rattle.refusal.specs.declared.Refusal.{Refusal}
 use Rattle.refusal.specs.declared.Refusal.the-variants.{Letter, Closed, Full, NoRound}
 use Rattle.refusal.specs.declared.Verdict.{Verdict}
 use Rattle.refusal.specs.declared.Verdict.the-variants.{True}
-use Rattle.refusal.specs.Numbers.{verdictNo}
+use Rattle.words.specs.Below.{one}
 use Rattle.sheet.specs.RuleSheet.{RuleSheet, outputs}
-use Rattle.letters.specs.Masks.{badMasks}
 use Rattle.record.specs.Record.{share}
 use Rattle.completions.specs.Completion.{LetterSet, masked}
 use Rattle.completions.specs.Judged.{RoundVerdict, ClosingVerdict}
+use Rattle.letters.specs.Masks.{badMasks}
 
 -- a round with its known mask and its value mask, or a closing
 pub data Call : Type 0 where

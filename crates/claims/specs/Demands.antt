@@ -4,10 +4,10 @@ use mathlib.Core.Path.{_≡_}
 use mathlib.Core.List.{List}
 use Prim.Native.Nat.{ℕ}
 use lib.ListN.{length, take}
+use Rattle.refusal.specs.Decided.{Decided}
 use Rattle.refusal.specs.declared.Refusal.{Refusal}
 use Rattle.refusal.specs.declared.Outcome.{Outcome}
 use Rattle.refusal.specs.declared.Outcome.the-variants.{Accepted}
-use Rattle.refusal.specs.Decided.{Decided}
 use Rattle.sheet.specs.RuleSheet.{RuleSheet, accepted, readSheet}
 use Rattle.lola.specs.Equations.{Letters, joined}
 use Rattle.circular.specs.Checks as sheets
@@ -17,8 +17,8 @@ use Rattle.trace.specs.Evaluated.{Evaluated}
 use Rattle.record.specs.declared.JournalRecord.{JournalRecord}
 use Rattle.checks.specs.Checks as checks
 use Rattle.accepted.specs.Results.{Prepared}
-use Rattle.monitor.specs.Entries.{OfSheet}
 use Rattle.accepted.specs.declared.PrepareAnswer.{PrepareAnswer}
+use Rattle.monitor.specs.Entries.{OfSheet}
 use Rattle.claims.specs.Book.{Call, Answer, Book, emptyBook, BookRun}
 use Rattle.claims.specs.Session.{Held, Session, Matches}
 

@@ -6,22 +6,22 @@ use mathlib.Core.List.{List, [], _∷_, _++_}
 use mathlib.Core.Option.{Option}
 use Prim.Native.Nat.{ℕ, _+_, _≤_, _<_}
 use lib.ListN.{length}
+use Rattle.refusal.specs.Decided.{Decided}
 use Rattle.refusal.specs.declared.Verdict.{Verdict}
 use Rattle.refusal.specs.declared.Verdict.the-variants.{Broken}
 use Rattle.refusal.specs.declared.Outcome.the-variants.{Accepted}
-use Rattle.refusal.specs.Decided.{Decided}
 use Rattle.sheet.specs.RuleSheet.{RuleSheet, outputs, streams, accepted, readSheet}
+use Rattle.record.specs.Record.{sumAt}
+use Rattle.record.specs.declared.JournalRecord.{JournalRecord}
 use Rattle.completions.specs.Live.{Pairs, Live, countPairs}
 use Rattle.completions.specs.Completion.{LetterSet, Completion}
 use Rattle.completions.specs.Judged.{RoundVerdict, ClosingVerdict}
 use Rattle.completions.specs.Steps.{Represents, Within, pairsWithin}
 use Rattle.pairs.specs.Storage.{stored}
-use Rattle.record.specs.Record.{sumAt}
-use Rattle.record.specs.declared.JournalRecord.{JournalRecord}
 use Rattle.checks.specs.Checks as checks
 use Rattle.accepted.specs.Results.{width, Prepared}
-use Rattle.monitor.specs.Entries.{OfSheet}
 use Rattle.accepted.specs.declared.PrepareAnswer.{PrepareAnswer}
+use Rattle.monitor.specs.Entries.{OfSheet}
 use Rattle.claims.specs.Book.{Call, Answer, Book, BookRun}
 use Rattle.claims.specs.Session.{Held, Session}
 use Rattle.claims.specs.Demands.{lent}

@@ -4,8 +4,8 @@
 use mathlib.Core.List.{List}
 use Prim.Native.Nat.{ℕ}
 use lib.ListN.{length}
-use Rattle.refusal.specs.declared.Outcome.the-variants.{Accepted}
 use Rattle.refusal.specs.Decided.{Decided}
+use Rattle.refusal.specs.declared.Outcome.the-variants.{Accepted}
 use Rattle.sheet.specs.Reading.{ruleSheet}
 use Rattle.sheet.specs.declared.Sheet.{Sheet}
 use Rattle.form.specs.Form.{formOf}
@@ -14,10 +14,10 @@ use Rattle.circular.specs.Checks as sheets
 use Rattle.record.specs.declared.JournalRecord.{JournalRecord}
 use Rattle.checks.specs.Checks.{given, CallBroken, callRule, Broken, rule, entryChecks, prepareChecks, roundChecks, closingChecks}
 use Rattle.accepted.specs.Results.{Prepared, RoundDone, ClosingDone}
-use Rattle.monitor.specs.Entries.{OfSheet, AfterForm, PrepareResult, RoundResult, ClosingResult}
 use Rattle.accepted.specs.declared.PrepareAnswer.{PrepareAnswer}
 use Rattle.accepted.specs.declared.RoundAnswer.{RoundAnswer}
 use Rattle.accepted.specs.declared.ClosingAnswer.{ClosingAnswer}
+use Rattle.monitor.specs.Entries.{OfSheet, AfterForm, PrepareResult, RoundResult, ClosingResult}
 
 -- the contracts of `prepare`, `round` and `close`
 abbrev pub PreparedBytes : List ℕ → List ℕ → List ℕ → PrepareAnswer → Type 0

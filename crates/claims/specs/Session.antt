@@ -5,20 +5,20 @@ use mathlib.Core.Path.{_≡_}
 use mathlib.Core.List.{List, [], _∷_}
 use Prim.Native.Nat.{ℕ, zero, suc, _<_}
 use lib.ListN.{length, getD}
+use Rattle.refusal.specs.Numbers.{verdictList}
+use Rattle.refusal.specs.Decided.{Decided}
 use Rattle.refusal.specs.declared.Outcome.{Outcome}
 use Rattle.refusal.specs.declared.Outcome.the-variants.{Accepted, Refused}
 use Rattle.refusal.specs.declared.Verdict.{Verdict}
-use Rattle.refusal.specs.Numbers.{verdictList}
-use Rattle.refusal.specs.Decided.{Decided}
 use Rattle.sheet.specs.Checks.{outputsOf}
 use Rattle.sheet.specs.RuleSheet.{RuleSheet, outputs}
 use Rattle.record.specs.Record.{countAt}
 use Rattle.record.specs.declared.JournalRecord.{JournalRecord}
 use Rattle.checks.specs.Checks as checks
 use Rattle.accepted.specs.Results.{RoundDone, ClosingDone}
-use Rattle.monitor.specs.Entries.{OfSheet, RoundResult, ClosingResult}
 use Rattle.accepted.specs.declared.RoundAnswer.{RoundAnswer}
 use Rattle.accepted.specs.declared.ClosingAnswer.{ClosingAnswer}
+use Rattle.monitor.specs.Entries.{OfSheet, RoundResult, ClosingResult}
 use Rattle.claims.specs.Book.{Call, round, closing, Answer, refused, verdicts, closed, Book, counted}
 
 -- what a caller holds between two calls

@@ -13,8 +13,8 @@ use Rattle.words.proofs.Tests.{and-left, and-right, and-both, either, not-both}
 use Rattle.sheet.specs.RuleSheet.{RuleSheet, streams}
 use Rattle.lola.specs.Equations.{holds, first}
 use Rattle.completions.specs.Live.{allowed, Follows, Live, countPairs, Pairs}
-use Rattle.completions.proofs.Runs.{Round, Agrees, Run}
 use Rattle.completions.specs.Steps.{anyNext, anyPair, Within, Represents}
+use Rattle.completions.proofs.Runs.{Round, Agrees, Run}
 use Rattle.completions.proofs.Follow.{live-at, graft, agrees-graft, agrees-some, last-there}
 use Rattle.completions.proofs.Search.{next-found, next-from, pair-found, pair-from}
 use Rattle.completions.proofs.Range.{allowed-within, first-within, live-within}

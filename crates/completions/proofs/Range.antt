@@ -7,8 +7,8 @@ use native.Mathlib.Omega.{arith}
 use lib.Dec.{T, ltb, ltb→lt}
 use Rattle.words.proofs.Tests.{and-left}
 use Rattle.sheet.specs.RuleSheet.{RuleSheet, streams}
-use Rattle.completions.specs.Live.{assumed, allowed, Follows, Live}
 use Rattle.lola.specs.Equations.{first}
+use Rattle.completions.specs.Live.{assumed, allowed, Follows, Live}
 use Rattle.completions.specs.Steps.{Within}
 
 pub wider : (v w : ℕ) → v ≤ w → (y : Option ℕ) → Within v y → Within w y

@@ -4,8 +4,8 @@ use mathlib.Core.Logic.{_↔_}
 use mathlib.Core.List.{List, [], _∷_, _++_}
 use mathlib.Core.Option.{Option, none, some}
 use Prim.Native.Nat.{ℕ, zero, suc, _≤_}
-use lib.ListN.{length, getElem?, take}
 use native.Mathlib.Omega.{arith}
+use lib.ListN.{length, getElem?, take}
 use Rattle.sheet.specs.RuleSheet.{RuleSheet}
 use Rattle.completions.specs.Live.{Follows, Live}
 use Rattle.completions.proofs.Runs.{Round, Agrees, Reached, StartsAt, StepsTo}
@@ -16,14 +16,14 @@ nonempty [] b ys = omega arith
 nonempty (x ∷ xs) b ys = omega arith
 
 module _ (s : RuleSheet) (r : Round) {b : ℕ} {c : Option ℕ} where
-  pub first-forth : Reached s (r ∷ []) b c → StartsAt s r b c
+  first-forth : Reached s (r ∷ []) b c → StartsAt s r b c
   first-forth h = record {
     live = rw (← h .next) (live-at s none (h .trace) zero (h .complete .satisfies) (h .here));
     matches = agrees-last [] r (h .trace) (h .complete .starts) (h .here);
     equations = rw (← h .next) (at-first s none (h .trace) (h .complete .satisfies) (h .here));
   }
 
-  pub first-back : StartsAt s r b c → Reached s (r ∷ []) b c
+  first-back : StartsAt s r b c → Reached s (r ∷ []) b c
   first-back h = record {
     trace = b ∷ h .live .rest;
     complete = record {
@@ -36,7 +36,7 @@ module _ (s : RuleSheet) (r : Round) {b : ℕ} {c : Option ℕ} where
   }
 
 module _ (s : RuleSheet) (q : Round) (qs : List Round) (r : Round) {b : ℕ} {c : Option ℕ} where
-  pub next-forth : Reached s ((q ∷ qs) ++ r ∷ []) b c → StepsTo s (Reached s (q ∷ qs)) r b c
+  next-forth : Reached s ((q ∷ qs) ++ r ∷ []) b c → StepsTo s (Reached s (q ∷ qs)) r b c
   next-forth h =
       let vs : List ℕ = h .trace in
       let f : Follows s none vs = h .complete .satisfies in
@@ -57,7 +57,7 @@ module _ (s : RuleSheet) (q : Round) (qs : List Round) (r : Round) {b : ℕ} {c 
         equations = rw (← next) (at-later s none vs (length qs) f (a .1) here);
       }
 
-  pub next-back : StepsTo s (Reached s (q ∷ qs)) r b c → Reached s ((q ∷ qs) ++ r ∷ []) b c
+  next-back : StepsTo s (Reached s (q ∷ qs)) r b c → Reached s ((q ∷ qs) ++ r ∷ []) b c
   next-back h =
       let old : Reached s (q ∷ qs) (h .prev) (some b) = h .reached in
       let vs : List ℕ = old .trace in

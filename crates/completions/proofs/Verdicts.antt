@@ -5,18 +5,18 @@ use mathlib.Core.Path.{_≡_, refl, sym, ap}
 use mathlib.Core.List.{List, [], _∷_}
 use mathlib.Core.Option.{Option, none, some}
 use Prim.Native.Nat.{ℕ, zero, suc, _^_, _≤_, _<_}
-use lib.Dec.{T}
+use lib.Dec.{T, not-T}
 use lib.ListN.{length, getElem?, getD}
-use Rattle.sheet.specs.RuleSheet.{RuleSheet, streams}
-use Rattle.completions.proofs.Runs.{Round, Agrees, Run, Reached, EndedRun}
-use Rattle.words.specs.Below.{anyBelow}
-use Rattle.words.proofs.Tests.{either, not-both, not-fails, and-left, and-right, and-both}
-use Rattle.words.proofs.Options.{nothing, same-some}
-use Rattle.completions.specs.Steps.{anyPair, Within, Represents, verdictOf, pairsVerdict, endsVerdict}
-use Rattle.completions.specs.Live.{Pairs}
 use Rattle.refusal.specs.declared.Verdict.{Verdict}
 use Rattle.refusal.specs.declared.Verdict.the-variants.{False, True, Open, Broken}
+use Rattle.words.specs.Below.{anyBelow}
+use Rattle.words.proofs.Tests.{either, not-both, and-left, and-right, and-both}
+use Rattle.words.proofs.Options.{nothing, same-some}
+use Rattle.sheet.specs.RuleSheet.{RuleSheet, streams}
+use Rattle.completions.specs.Steps.{anyPair, Within, Represents, verdictOf, pairsVerdict, endsVerdict}
+use Rattle.completions.specs.Live.{Pairs}
 use Rattle.completions.specs.Judged.{Judged, inRound}
+use Rattle.completions.proofs.Runs.{Round, Agrees, Run, Reached, EndedRun}
 use Rattle.completions.proofs.Follow.{last-there}
 use Rattle.completions.proofs.Range.{live-within}
 use Rattle.completions.proofs.Reach.{reached-live}
@@ -38,7 +38,7 @@ module _ {X : Type 0} (C : X → Type 0) (f : (x : X) → C x → Bool) where
       go (inr n) = absurd (h (x, c, n))
 
   all-fail : (Passes → ⊥) → (x : X) (c : C x) → T (not (f x c))
-  all-fail h x c = not-fails (f x c) (λ t. h (x, c, t))
+  all-fail h x c = not-T (f x c) (λ t. h (x, c, t))
 
   pub judged : (u v : Bool) → T u ↔ Passes → T v ↔ Fails → Judged C f (verdictOf u v)
   unfolding Judged

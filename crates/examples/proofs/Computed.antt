@@ -9,13 +9,13 @@ use native.Mathlib.Omega.{arith}
 use lib.Dec.{T, eqb, leb, ltb, eqb→eq, ltb→lt}
 use lib.ListN.{getElem?}
 use borrow.Author.Tests.{leb-true}
+use Rattle.refusal.specs.Numbers.{verdictNo, verdictAt}
+use Rattle.refusal.specs.declared.Verdict.{Verdict}
+use Rattle.refusal.proofs.NumberLaws.{verdict-back}
 use Rattle.words.specs.Bits.{bit, digit}
 use Rattle.words.specs.Below.{anyBelow, sumBelow, countBelow}
 use Rattle.words.proofs.Tests.{and-left, and-right, true-of}
 use Rattle.words.proofs.Options.{nothing, same-some}
-use Rattle.refusal.specs.declared.Verdict.{Verdict}
-use Rattle.refusal.specs.Numbers.{verdictNo, verdictAt}
-use Rattle.refusal.proofs.NumberLaws.{verdict-back}
 use Rattle.sheet.specs.Bytes.{opOf, readsOf}
 use Rattle.sheet.specs.Expression.{applyOp, final, parse}
 use Rattle.sheet.specs.Header.{markOk, versionOf, countsOk, assumedAt, headerOf}
@@ -34,9 +34,9 @@ use Rattle.completions.specs.Steps.{anyNext, anyPair, Represents, startSet, pai
 use Rattle.completions.proofs.Backward.{endSet, backSet, liveWithin, layer, settled-exact, live-count}
 use Rattle.completions.proofs.Letters.{onLetter}
 use Rattle.completions.proofs.Steps.{start-exact}
+use Rattle.accepted.specs.Results.{width}
 use Rattle.claims.proofs.Further.{live-set}
 use Rattle.claims.proofs.BookLaws.{round-right, reaches-closing}
-use Rattle.accepted.specs.Results.{width}
 use Rattle.examples.specs.Table.{Case, judged, circular, lives, values, unheard, Holds, one-input, session, table, Examples}
 
 -- ---- the tests

@@ -2,6 +2,8 @@
 use mathlib.Core.Bool.{not}
 use mathlib.Core.Path.{_≡_, refl}
 use lib.Dec.{T}
+use Rattle.words.specs.Below.{anyBelow}
+use Rattle.words.proofs.Tests.{not-both, of-true}
 use Rattle.sheet.specs.Bytes.{opOf, readsOf}
 use Rattle.sheet.specs.Expression.{applyOp, final, parse}
 use Rattle.sheet.specs.Header.{markOk, versionOf, countsOk, assumedAt, headerOf}
@@ -10,8 +12,6 @@ use Rattle.lola.specs.Reads.{hasRead}
 use Rattle.circular.specs.Circular.{edges, CircularSheet}
 use Rattle.circular.proofs.Decide.{circular?, circular?-of, circularAt, atLeast0, turned}
 use Rattle.circular.proofs.Closure.{Best, top, larger, plus, loop, pick, blow}
-use Rattle.words.specs.Below.{anyBelow}
-use Rattle.words.proofs.Tests.{not-both, of-true}
 use Rattle.examples.specs.Table.{one-input}
 use Rattle.examples.specs.Longest.{longOutputs, longest, LongestMet}
 use Rattle.examples.proofs.Computed.{ofReading}

@@ -8,12 +8,12 @@ use native.Mathlib.Decide.{decLt}
 use lib.Dec.{leb}
 use lib.ListN.{length, getD, length-take, length-drop}
 use borrow.Author.Tests.{le-leb, lt-leb, leb-true, lt-ltb, ltb-true}
-use Rattle.words.proofs.Bools.{and-split}
 use Rattle.refusal.specs.declared.Refusal.{Refusal}
 use Rattle.refusal.specs.declared.Refusal.the-variants.{Length}
 use Rattle.refusal.specs.declared.Outcome.{Outcome}
 use Rattle.refusal.specs.declared.Outcome.the-variants.{Accepted, Refused}
 use Rattle.refusal.proofs.NumberLaws.{not-both}
+use Rattle.words.proofs.Bools.{and-split}
 use Rattle.sheet.specs.Header.{countsOk}
 use Rattle.sheet.specs.Expression.{Parsed, tree, broken, parse, outcomeOf}
 use Rattle.sheet.specs.Reading.{treeOf, codeAt, Ranges, Below, Usable, whenAccepted}
@@ -62,7 +62,7 @@ rest-of false o e = absurd (not-both e)
 -- ---- all outputs
 
 module _ (s : ℕ) (code len : List ℕ) where
-  pub form-each : (n k : ℕ) → k < n → outputsForm s code len n ≡ Accepted → outputForm s code len k ≡ Accepted
+  form-each : (n k : ℕ) → k < n → outputsForm s code len n ≡ Accepted → outputForm s code len k ≡ Accepted
   unfolding outputsForm
   form-each zero k h e = absurd (omega arith)
   form-each (suc n) k h e = go (decLt k n) (λ l. form-each n k l (then-left (outputsForm s code len n) (outputForm s code len n) e))
@@ -73,7 +73,7 @@ module _ (s : ℕ) (code len : List ℕ) where
           let same : n ≡ k = omega arith in
           rw same at (then-right (outputsForm s code len n) (outputForm s code len n) e)
 
-  pub form-all : (n : ℕ) → ((k : ℕ) → k < n → outputForm s code len k ≡ Accepted) → outputsForm s code len n ≡ Accepted
+  form-all : (n : ℕ) → ((k : ℕ) → k < n → outputForm s code len k ≡ Accepted) → outputsForm s code len n ≡ Accepted
   unfolding outputsForm
   form-all zero h = refl
   form-all (suc n) h = rw (form-all n (λ k l. h k (omega arith)), h n (omega arith))
@@ -94,7 +94,7 @@ module _ (s : ℕ) (code len : List ℕ) where
 
 -- ---- a whole sheet
 
-pub assumed-below : (a : Assumed) (n : ℕ) → assumedOk a n ≡ true → Below a n
+assumed-below : (a : Assumed) (n : ℕ) → assumedOk a n ≡ true → Below a n
 assumed-below Nothing n e = tt
 assumed-below (Output k) n e = ltb-true (k .0) n e
 

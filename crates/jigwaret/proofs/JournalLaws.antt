@@ -8,19 +8,19 @@ use native.Mathlib.Decide.{decLt}
 use lib.ListN.{length}
 use lib.Seq.{paste, length-paste}
 use borrow.Author.Tests.{not-true, lt-ltb}
+use Rattle.refusal.specs.Numbers.{refusalNo, outcomeNo}
+use Rattle.refusal.specs.Decided.{Decided}
 use Rattle.refusal.specs.declared.Refusal.{Refusal}
 use Rattle.refusal.specs.declared.Outcome.{Outcome}
 use Rattle.refusal.specs.declared.Outcome.the-variants.{Accepted, Refused}
-use Rattle.refusal.specs.Numbers.{refusalNo, outcomeNo}
-use Rattle.refusal.specs.Decided.{Decided}
 use Rattle.sheet.specs.RuleSheet.{RuleSheet}
 use Rattle.sheet.specs.Checks.{outputsOf, short, checksOf, broken?}
-use Rattle.circular.specs.Checks.{reading}
-use Rattle.checks.specs.Checks.{Given, CallCheck, sheet, Broken, rule, entryChecks}
 use Rattle.sheet.proofs.Formed.{counts-of, read-formed}
-use Rattle.monitor.specs.Entries.{OfSheet}
+use Rattle.circular.specs.Checks.{reading}
 use Rattle.slices.specs.Slices.{sized}
 use Rattle.slices.proofs.SliceLaws.{Sizes, right-sizes}
+use Rattle.checks.specs.Checks.{Given, CallCheck, sheet, Broken, rule, entryChecks}
+use Rattle.monitor.specs.Entries.{OfSheet}
 use Rattle.jigwaret.specs.Journal.{Slices, slices, SlicesAfter, BySizes}
 
 -- ---- sizes

@@ -6,15 +6,15 @@ use mathlib.Core.Bool.{Bool, true, false}
 use mathlib.Core.List.{List, _∷_, []}
 use Prim.Native.Nat.{ℕ}
 use lib.Seq.{paste}
+use Rattle.refusal.specs.Numbers.{outcomeNo}
 use Rattle.refusal.specs.declared.Outcome.{Outcome}
 use Rattle.refusal.specs.declared.Outcome.the-variants.{Accepted, Refused}
-use Rattle.refusal.specs.Numbers.{outcomeNo}
 use Rattle.sheet.specs.Checks.{outputsOf}
+use Rattle.slices.specs.Slices.{recordOf, numbersOf, sized}
 use Rattle.accepted.specs.declared.PrepareAnswer.{PrepareAnswer}
 use Rattle.accepted.specs.declared.RoundAnswer.{RoundAnswer}
 use Rattle.accepted.specs.declared.ClosingAnswer.{ClosingAnswer}
 use Rattle.claims.specs.ReadSheet.{PreparedBytes, RoundBytes, ClosingBytes}
-use Rattle.slices.specs.Slices.{recordOf, numbersOf, sized}
 
 -- the record's and the answer's slices before and after
 pub record Slices : Type 0 where

@@ -4,9 +4,9 @@ use mathlib.Core.Path.{_≡_}
 use mathlib.Core.List.{List}
 use Prim.Native.Nat.{ℕ}
 use lib.ListN.{length}
-use Rattle.refusal.specs.declared.Outcome.{Outcome}
 use Rattle.refusal.specs.Numbers.{outcomeNo}
 use Rattle.refusal.specs.Decided.{Decided}
+use Rattle.refusal.specs.declared.Outcome.{Outcome}
 use Rattle.circular.specs.Checks as sheets
 use Rattle.trace.specs.Checks as traces
 use Rattle.trace.specs.Evaluated.{Evaluated}

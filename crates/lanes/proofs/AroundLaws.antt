@@ -1,4 +1,4 @@
--- Laws of the word of reads: it is put together from a round and its neighbours, and the lanes see them in it. Assumes nothing.
+-- Laws of the word of reads: it is put together from a round and its neighbours, and the lanes see them in it.
 use mathlib.Core.Path.{_≡_, refl, ap, _∙_}
 use mathlib.Core.Bool.{Bool, true, false}
 use mathlib.Core.Option.{Option, none, some}

@@ -1,4 +1,4 @@
--- The equations see of the round before only the streams that some expression reads there. Assumes nothing.
+-- The equations see of the round before only the streams that some expression reads there.
 use mathlib.Core.Path.{_≡_, refl, sym, ap, ap₂, _∙_}
 use mathlib.Core.Bool.{Bool, true, false, not, _&&_, _||_, and-false, or-assoc, or-false, or-true}
 use mathlib.Core.List.{List, []}

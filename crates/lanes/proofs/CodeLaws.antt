@@ -1,4 +1,4 @@
--- Laws of the expressions of a coded sheet and of its equations. Assumes nothing.
+-- Laws of the expressions of a coded sheet and of its equations.
 use mathlib.Core.Path.{_≡_, refl, sym, ap, ap₂, _∙_}
 use mathlib.Core.Bool.{Bool, true, false, _&&_, Bool·beq, and-assoc, and-true}
 use mathlib.Core.List.{List, [], _∷_, _++_}
@@ -78,7 +78,7 @@ agreed-same look look′ s code len q v (suc k) f =
     ∙ ap₂ (λ (u : Bool) (w : Bool). u && Bool·beq (bit (q + k) v) w) (agreed-same look look′ s code len q v k (λ j h. f j (omega arith))) (f k (omega arith))
     ∙ sym (agreed-suc look′ s code len q v k)
 
-pub agreed-equations : (es : List Expr) (q : ℕ) (p : Option ℕ) (v : ℕ) (n : Option ℕ) → agreed (neighbours p v n) es q v ≡ equations es q p v n
+agreed-equations : (es : List Expr) (q : ℕ) (p : Option ℕ) (v : ℕ) (n : Option ℕ) → agreed (neighbours p v n) es q v ≡ equations es q p v n
 unfolding agreed equations
 agreed-equations [] q p v n = refl
 agreed-equations (e ∷ es) q p v n = ap (λ (u : Bool). Bool·beq (bit q v) (value (neighbours p v n) e) && u) (agreed-equations es (suc q) p v n)

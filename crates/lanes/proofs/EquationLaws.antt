@@ -1,4 +1,4 @@
--- The equations tested one after the other on the words of a row. Assumes nothing.
+-- The equations tested one after the other on the words of a row.
 use mathlib.Core.Path.{_≡_, sym, ap, ap₂, _∙_}
 use mathlib.Core.Bool.{false, _&&_, Bool·beq}
 use mathlib.Core.List.{List}

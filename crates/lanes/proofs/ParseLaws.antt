@@ -1,4 +1,4 @@
--- In each lane the stack of truth values follows the stack of trees. Assumes nothing.
+-- In each lane the stack of truth values follows the stack of trees.
 use mathlib.Core.Path.{_≡_, refl, sym, ap, _∙_}
 use mathlib.Core.Bool.{Bool, true, false, cond}
 use mathlib.Core.List.{List, [], _∷_}
@@ -8,6 +8,7 @@ use native.Mathlib.Omega.{arith}
 use lib.Dec.{ltb, eqb}
 use lib.ListN.{length, drop, getD, drop-of-length-le}
 use lib.Seq.{drop-cons}
+use Rattle.refusal.specs.declared.Refusal.the-variants.{Byte, Values}
 use Rattle.words.specs.Bits.{bit}
 use Rattle.sheet.specs.Bytes.{opOf, readOf}
 use Rattle.sheet.specs.Expression.{Expr, constant, negation, conjunction, disjunction, read, stack, breaks, tree, applyOp, final, go-on, parse}
@@ -17,10 +18,9 @@ use Rattle.sheet.specs.declared.Op.{Op}
 use Rattle.sheet.specs.declared.Op.the-variants.{Const, Not, And, Or, Read, Rejected}
 use Rattle.sheet.proofs.Ops.{op-cases}
 use Rattle.sheet.proofs.Sheets.{no-tree}
-use Rattle.refusal.specs.declared.Refusal.the-variants.{Byte, Values}
 use Rattle.lola.specs.Value.{Look, value}
-use Rattle.lanes.specs.Machine.{negTop, andTop, orTop, stepped}
 use Rattle.lola.specs.Slots.{readNo}
+use Rattle.lanes.specs.Machine.{negTop, andTop, orTop, stepped}
 use Rattle.lanes.specs.Around.{readAt, laneLook, downFrom, laneStack, Stepped}
 use Rattle.lanes.proofs.StackLaws.{byte-read, byte-const, byte-not, byte-and, byte-or}
 

@@ -1,4 +1,4 @@
--- The words of a row, written one after the other. Assumes nothing.
+-- The words of a row, written one after the other.
 use mathlib.Core.Path.{_≡_, refl, ap, _∙_}
 use mathlib.Core.Bool.{Bool, cond}
 use mathlib.Core.List.{List}
@@ -6,9 +6,9 @@ use Prim.Native.Nat.{ℕ, suc, _+_, _*_, _≤_, _<_}
 use native.Mathlib.Nat.{mul-le-mul-left}
 use native.Mathlib.Omega.{arith}
 use native.Mathlib.Decide.{decLe}
-use borrow.Author.Tests.{le-leb, lt-leb}
 use lib.ListN.{length, getD, set, length-set}
 use lib.Seq.{getD-set-other}
+use borrow.Author.Tests.{le-leb, lt-leb}
 use Rattle.words.proofs.ListLaws.{set-more, set-more-from}
 use Rattle.lanes.specs.Around.{Stored, room}
 

@@ -1,4 +1,4 @@
--- A stack of words is a stack of truth values in each lane: what each branch of a step does to it. Assumes nothing.
+-- A stack of words is a stack of truth values in each lane: what each branch of a step does to it.
 use mathlib.Core.Path.{_≡_, refl, sym, ap, ap₂, _∙_}
 use mathlib.Core.Bool.{Bool, not, _&&_, _||_}
 use mathlib.Core.List.{List, _∷_}
@@ -41,10 +41,10 @@ module _ (env : ℕ → Bool) (e : ℕ) (s : List Bool) where
 
 -- ---- one lane
 
-pub cons : {u v : Bool} {s t : List Bool} → u ≡ v → s ≡ t → u ∷ s ≡ v ∷ t
+cons : {u v : Bool} {s t : List Bool} → u ≡ v → s ≡ t → u ∷ s ≡ v ∷ t
 cons p q = ap₂ (λ (x : Bool) (xs : List Bool). x ∷ xs) p q
 
-pub down-same : (E F : ℕ → Bool) (n : ℕ) → ((k : ℕ) → k < n → F k ≡ E k) → downFrom F n ≡ downFrom E n
+down-same : (E F : ℕ → Bool) (n : ℕ) → ((k : ℕ) → k < n → F k ≡ E k) → downFrom F n ≡ downFrom E n
 unfolding downFrom
 down-same E F zero h = refl
 down-same E F (suc n) h = cons (h n (omega arith)) (down-same E F n (λ k l. h k (omega arith)))

@@ -1,4 +1,4 @@
--- One expression byte on a stack of rows, by the branches of the code. Assumes nothing.
+-- One expression byte on a stack of rows, by the branches of the code.
 use mathlib.Core.Path.{_≡_, refl, sym, ap, _∙_}
 use mathlib.Core.Bool.{not}
 use mathlib.Core.List.{List}

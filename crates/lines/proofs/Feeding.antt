@@ -8,24 +8,24 @@ use native.Mathlib.Numerals.{add-one}
 use lib.ListN.{length, take, drop, getD, take-append-drop}
 use lib.Seq.{append-snoc, take-suc}
 use borrow.Author.Tests.{eq-eqb, ne-eqb}
+use Rattle.refusal.specs.Decided.{Decided}
 use Rattle.refusal.specs.declared.Refusal.{Refusal}
 use Rattle.refusal.specs.declared.Outcome.the-variants.{Refused}
-use Rattle.refusal.specs.Decided.{Decided}
 use Rattle.sheet.specs.Reading.{ruleSheet}
 use Rattle.sheet.specs.declared.Sheet.{Sheet}
 use Rattle.circular.specs.Checks as sheets
-use Rattle.claims.specs.Book.{emptyBook}
-use Rattle.claims.specs.Session.{Held}
 use Rattle.text.specs.Text.{sheetRefusal}
 use Rattle.text.specs.Wrote.{Wrote}
-use Rattle.pending.specs.Lines.{linesFrom}
-use Rattle.answers.specs.Printed.{Written, ended, Printed, refusedSheet, journal}
-use Rattle.pending.specs.Scan.{Scanned}
+use Rattle.claims.specs.Book.{emptyBook}
+use Rattle.claims.specs.Session.{Held}
 use Rattle.claims.specs.ReadSheet.{Accepts}
-use Rattle.answers.specs.LineEnd.{held, Serves, Onward, Ends, LineEnded, room}
-use Rattle.lines.specs.Machine.{Midway, Over, Stands}
+use Rattle.pending.specs.Lines.{linesFrom}
+use Rattle.pending.specs.Scan.{Scanned}
 use Rattle.pending.specs.declared.Pending.{Pending}
+use Rattle.answers.specs.Printed.{Written, ended, Printed, refusedSheet, journal}
+use Rattle.answers.specs.LineEnd.{held, Serves, Onward, Ends, LineEnded, room}
 use Rattle.answers.specs.declared.Ended.{Ended}
+use Rattle.lines.specs.Machine.{Midway, Over, Stands}
 use Rattle.lines.specs.declared.Progress.{Progress}
 
 -- ---- lines

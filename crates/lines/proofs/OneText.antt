@@ -10,9 +10,9 @@ use Rattle.refusal.proofs.Decisions.{decided-once}
 use Rattle.refusal.proofs.NumberLaws.{not-both}
 use Rattle.sheet.specs.RuleSheet.{RuleSheet, outputs, accepted}
 use Rattle.circular.specs.Checks as sheets
+use Rattle.text.specs.Text.{verdictLine, closingText, lineRefusal, sheetRefusal}
 use Rattle.claims.specs.Book.{Call, Answer, refused, verdicts, closed, Book, emptyBook, counted, BookStep}
 use Rattle.claims.proofs.BookLaws.{step-unique}
-use Rattle.text.specs.Text.{verdictLine, closingText, lineRefusal, sheetRefusal}
 use Rattle.pending.specs.Lines.{Line, blank, calls, malformed, readLine, linesOf}
 use Rattle.answers.specs.Printed.{nextLine, Written, ended, passed, rounded, shut, turnedDown, unread, refusedSheet, journal}
 use Rattle.lines.specs.Chunks.{OneText}

@@ -11,12 +11,12 @@ use Rattle.claims.specs.Book.{Book}
 use Rattle.claims.specs.Session.{Held}
 use Rattle.claims.specs.ReadSheet.{Accepts}
 use Rattle.pending.specs.Lines.{linesFrom}
-use Rattle.answers.specs.Printed.{Written, Printed}
 use Rattle.pending.specs.Scan.{Scanned}
 use Rattle.pending.specs.declared.Pending.{Pending}
+use Rattle.answers.specs.Printed.{Written, Printed}
+use Rattle.answers.specs.LineEnd.{held, Serves}
 use Rattle.lines.specs.declared.Progress.{Progress}
 use Rattle.lines.specs.declared.Started.{Started}
-use Rattle.answers.specs.LineEnd.{held, Serves}
 
 -- ---- Between two bytes
 

@@ -1,4 +1,4 @@
--- The stack of bits in one word follows the stack of trees. Assumes nothing.
+-- The stack of bits in one word follows the stack of trees.
 use mathlib.Core.Path.{_≡_, refl, ap, _∙_}
 use mathlib.Core.Bool.{Bool, true, false, cond, not, _&&_, _||_}
 use mathlib.Core.List.{List, [], _∷_}
@@ -11,6 +11,7 @@ use lib.Dec.{ltb, eqb}
 use lib.ListN.{length, drop, getD, drop-of-length-le}
 use lib.Seq.{drop-cons}
 use lib.Pow.{pow-mono}
+use Rattle.refusal.specs.declared.Refusal.the-variants.{Byte, Values}
 use Rattle.words.specs.Bits.{bit}
 use Rattle.words.specs.Below.{one}
 use Rattle.words.proofs.BitLaws.{digit-of}
@@ -22,7 +23,6 @@ use Rattle.sheet.specs.declared.Op.{Op}
 use Rattle.sheet.specs.declared.Op.the-variants.{Const, Not, And, Or, Read, Rejected}
 use Rattle.sheet.proofs.Ops.{op-cases}
 use Rattle.sheet.proofs.Sheets.{no-tree}
-use Rattle.refusal.specs.declared.Refusal.the-variants.{Byte, Values}
 use Rattle.lola.specs.Value.{Look, value}
 use Rattle.lola.specs.Slots.{readNo, slots, Works}
 

@@ -1,4 +1,4 @@
--- The value of an expression depends on its reads alone, and these are of streams below 8. Assumes nothing.
+-- The value of an expression depends on its reads alone, and these are of streams below 8.
 use mathlib.Core.Path.{_≡_, refl, ap, ap₂}
 use mathlib.Core.Bool.{Bool, not, _&&_, _||_}
 use mathlib.Core.List.{List, []}

@@ -2,10 +2,10 @@
 use mathlib.Core.Path.{_≡_, refl, sym, _∙_, subst}
 use mathlib.Core.List.{List, map}
 use Prim.Native.Nat.{ℕ}
+use Rattle.refusal.specs.Decided.{Decided}
 use Rattle.refusal.specs.declared.Refusal.{Refusal}
 use Rattle.refusal.specs.declared.Outcome.{Outcome}
 use Rattle.refusal.specs.declared.Outcome.the-variants.{Accepted, Refused}
-use Rattle.refusal.specs.Decided.{Decided}
 use Rattle.refusal.proofs.Decisions.{decided-map, decided-refused, decided-accepted}
 use Rattle.sheet.specs.Checks.{inputsOf, outputsOf}
 use Rattle.sheet.specs.Reading.{ruleSheet}
@@ -13,13 +13,13 @@ use Rattle.sheet.specs.declared.Sheet.{Sheet}
 use Rattle.sheet.proofs.Formed.{counts-of}
 use Rattle.circular.specs.Checks.{AcceptedSheet}
 use Rattle.circular.specs.Checks as sheets
-use Rattle.checks.specs.Checks.{CallCheck, callRule, Given, CallBroken, sheet, call, rule, Broken, entryChecks}
 use Rattle.record.specs.declared.JournalRecord.{JournalRecord}
+use Rattle.checks.specs.Checks.{CallCheck, callRule, Given, CallBroken, sheet, call, rule, Broken, entryChecks}
 use Rattle.accepted.specs.declared.PrepareAnswer.{PrepareAnswer}
 use Rattle.accepted.specs.declared.RoundAnswer.{RoundAnswer}
 use Rattle.accepted.specs.declared.ClosingAnswer.{ClosingAnswer}
-use Rattle.monitor.specs.Entries.{AfterForm, PrepareResult, RoundResult, ClosingResult}
 use Rattle.accepted.proofs.Rounding.{sheet-outputs}
+use Rattle.monitor.specs.Entries.{AfterForm, PrepareResult, RoundResult, ClosingResult}
 
 module _ (bs : List ℕ) (g : Given) where
   sheet-part : (o : Outcome) → Decided (sheets.Broken bs) sheets.rule (sheets.checksOf bs) o → Decided (Broken bs g) rule (map sheet (sheets.checksOf bs)) o

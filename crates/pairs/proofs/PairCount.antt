@@ -7,8 +7,8 @@ use native.Mathlib.Omega.{arith}
 use lib.Count.{ones}
 use lib.ListN.{getD}
 use Rattle.words.specs.Bits.{bit}
-use Rattle.words.proofs.CountLaws.{sum-cong, sum-add, sum-groups, ones-bits, sum-swap}
 use Rattle.words.specs.Below.{one, sumBelow, countBelow}
+use Rattle.words.proofs.CountLaws.{sum-cong, sum-add, sum-groups, ones-bits, sum-swap}
 use Rattle.completions.specs.Live.{countPairs}
 use Rattle.pairs.specs.Storage.{place, slot, stored}
 

@@ -6,11 +6,11 @@ use mathlib.Core.Option.{Option, none, some}
 use Prim.Native.Nat.{ℕ, _+_, _-_, _*_, _/_, _%_, _^_, _≤_, _<_}
 use native.Mathlib.Omega.{arith}
 use native.Mathlib.Decide.{ℕ-discrete, decLt}
-use borrow.Author.Tests.{eq-eqb, ne-eqb, lt-ltb}
 use lib.Dec.{eqb, ltb}
 use lib.Bits.{bitAnd, bitOr}
 use lib.ListN.{length, getD, set, length-set}
 use lib.Seq.{getD-set-same, getD-set-other}
+use borrow.Author.Tests.{eq-eqb, ne-eqb, lt-ltb}
 use Rattle.words.specs.Bits.{bit, digit}
 use Rattle.words.proofs.BitLaws.{bit-and, bit-or, bit-not, bit-shl, bit-none, bits-ext}
 use Rattle.completions.specs.Live.{Pairs}
@@ -24,7 +24,7 @@ unfolding place
 place-lt x none h k = omega arith
 place-lt x (some c) h k = omega arith
 
-pub slot-lt : (x : ℕ) (y : Option ℕ) → slot x y < 64
+slot-lt : (x : ℕ) (y : Option ℕ) → slot x y < 64
 unfolding slot
 slot-lt x none = omega arith
 slot-lt x (some c) = omega arith

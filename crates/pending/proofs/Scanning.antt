@@ -51,10 +51,10 @@ module _ (m : ℕ) (p : List ℕ) (b : ℕ) where
   one-more d h = spoil (λ z e. d e) (λ rest. rw (ne-eqb (length (p ++ b ∷ rest)) m (λ e. omega (arith, long p b rest))) refl)
 
   -- a byte after a malformed start, and after a dot
-  pub still : Spoiled m p → Spoiled m (p ++ b ∷ [])
+  still : Spoiled m p → Spoiled m (p ++ b ∷ [])
   still h rest = rw (append-snoc p b rest) (h (b ∷ rest))
 
-pub after-dot : (m b : ℕ) → Spoiled m (46 ∷ b ∷ [])
+after-dot : (m b : ℕ) → Spoiled m (46 ∷ b ∷ [])
 unfolding readLine allMarks
 after-dot m b rest = simp (and-false (eqb (length (46 ∷ (b ∷ rest))) m))
 

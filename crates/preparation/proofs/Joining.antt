@@ -7,19 +7,19 @@ use mathlib.Core.Option.{Option, none, some}
 use Prim.Native.Nat.{ℕ, _+_, _*_, _/_, _%_, _^_, _≤_, _<_}
 use native.Mathlib.Omega.{arith}
 use native.Mathlib.Decide.{ℕ-discrete, decLt}
-use borrow.Author.Tests.{eq-eqb, ne-eqb, lt-ltb, le-ltb}
 use lib.Dec.{eqb, ltb}
 use lib.Count.{trailingZeros}
 use lib.ListN.{getD}
-use Rattle.sheet.specs.RuleSheet.{RuleSheet, streams}
-use Rattle.completions.specs.Live.{Pairs, allowed, assumed}
-use Rattle.lola.specs.Equations.{holds}
-use Rattle.completions.specs.Steps.{Within, anyNext}
-use Rattle.completions.proofs.Range.{wider}
+use borrow.Author.Tests.{eq-eqb, ne-eqb, lt-ltb, le-ltb}
 use Rattle.words.specs.Bits.{bit}
 use Rattle.words.proofs.BitLaws.{bit-none, Lowest, lowest, without, lane-off, lane-gone, lane-less}
 use Rattle.words.proofs.AnyLaws.{none-any}
 use Rattle.words.proofs.BelowLaws.{below-more, below-wider, below-none}
+use Rattle.sheet.specs.RuleSheet.{RuleSheet, streams}
+use Rattle.lola.specs.Equations.{holds}
+use Rattle.completions.specs.Live.{Pairs, allowed, assumed}
+use Rattle.completions.specs.Steps.{Within, anyNext}
+use Rattle.completions.proofs.Range.{wider}
 use Rattle.pairs.specs.Storage.{stored}
 use Rattle.pairs.specs.Changes.{eqNext, Framed, Adds, rowBit, NextBit, RowTaken, Noted}
 use Rattle.pairs.proofs.Frames.{framed-none, framed-then, framed-wider}
@@ -30,7 +30,7 @@ use Rattle.preparation.proofs.Layers.{joining-same}
 
 -- ---- joining nothing, one after the other, the same
 
-pub joins-none : (base : ℕ) (s : List ℕ) (P : Pairs) → ((x : ℕ) (y : Option ℕ) → x < 256 → Within 256 y → P x y ≡ false) → Joins base s s P
+joins-none : (base : ℕ) (s : List ℕ) (P : Pairs) → ((x : ℕ) (y : Option ℕ) → x < 256 → Within 256 y → P x y ≡ false) → Joins base s s P
 joins-none base s P f = record {
   frame = framed-none 0 (base + 1028) s;
   between = λ k h g. refl;
@@ -38,7 +38,7 @@ joins-none base s P f = record {
   next = λ x y hx hy. sym (ap (λ (u : Bool). stored s base x y || u) (f x y hx hy) ∙ or-false (stored s base x y));
 }
 
-pub joins-then : (base : ℕ) (s t u : List ℕ) (P Q R : Pairs) → Joins base s t P → Joins base t u Q → ((x : ℕ) (y : Option ℕ) → x < 256 → Within 256 y → (P x y || Q x y) ≡ R x y) → Joins base s u R
+joins-then : (base : ℕ) (s t u : List ℕ) (P Q R : Pairs) → Joins base s t P → Joins base t u Q → ((x : ℕ) (y : Option ℕ) → x < 256 → Within 256 y → (P x y || Q x y) ≡ R x y) → Joins base s u R
 joins-then base s t u P Q R p q f = record {
   frame = framed-then (p .frame) (q .frame);
   between = λ k h g. q .between k h g ∙ p .between k h g;
@@ -50,7 +50,7 @@ joins-then base s t u P Q R p q f = record {
       ∙ ap (λ (w : Bool). stored s base x y || w) (f x y hx hy);
 }
 
-pub joins-as : (base : ℕ) (s t : List ℕ) (P R : Pairs) → Joins base s t P → ((x : ℕ) (y : Option ℕ) → x < 256 → Within 256 y → P x y ≡ R x y) → Joins base s t R
+joins-as : (base : ℕ) (s t : List ℕ) (P R : Pairs) → Joins base s t P → ((x : ℕ) (y : Option ℕ) → x < 256 → Within 256 y → P x y ≡ R x y) → Joins base s t R
 joins-as base s t P R p f = record {
   frame = p .frame;
   between = p .between;
@@ -118,7 +118,7 @@ occupied-more w base rows rows′ s t u a b ha hw hb l p q n o = record {
         (y .0, y .1, kept x (y .0) (omega arith) (y .1) d ∙ y .2)
 
 -- what is done to one set leaves another as it was
-pub framed-beside : {layer next : ℕ} {s t : List ℕ} → Apart layer next → Framed layer 1028 s t → (x : ℕ) (y : Option ℕ) → x < 256 → Within 256 y → stored t next x y ≡ stored s next x y
+framed-beside : {layer next : ℕ} {s t : List ℕ} → Apart layer next → Framed layer 1028 s t → (x : ℕ) (y : Option ℕ) → x < 256 → Within 256 y → stored t next x y ≡ stored s next x y
 framed-beside {next = next} (inl d) f x y hx hy = framed-beyond f next x y hx hy d
 framed-beside {next = next} (inr d) f x y hx hy = framed-before f next x y hx hy d
 

@@ -6,9 +6,11 @@ use mathlib.Core.Option.{Option, none, some}
 use Prim.Native.Nat.{ℕ, zero, suc, _^_, _≤_, _<_}
 use native.Mathlib.Omega.{arith}
 use native.Mathlib.Decide.{decLt}
-use borrow.Author.Tests.{lt-ltb}
-use lib.Dec.{T, ltb}
+use lib.Dec.{T, ltb, not-T}
 use lib.ListN.{length}
+use borrow.Author.Tests.{lt-ltb}
+use Rattle.words.proofs.AnyLaws.{any-cong}
+use Rattle.words.proofs.Tests.{and-left, and-right, and-both, either, not-both, true-of, of-true, same-test}
 use Rattle.sheet.specs.RuleSheet.{RuleSheet, streams}
 use Rattle.lola.specs.Equations.{holds}
 use Rattle.completions.specs.Live.{Pairs, Live, allowed}
@@ -16,10 +18,8 @@ use Rattle.completions.specs.Steps.{Within, Represents, anyNext, anyPair}
 use Rattle.completions.proofs.Search.{next-found, next-from, pair-found}
 use Rattle.completions.proofs.Range.{live-within, wider}
 use Rattle.completions.proofs.Backward.{endSet, backSet, liveWithin, layer, LiveBy, Settled, within-found, within-from, within-more, all-short}
-use Rattle.words.proofs.AnyLaws.{any-cong}
-use Rattle.words.proofs.Tests.{and-left, and-right, and-both, either, not-both, not-fails, true-of, of-true, same-test}
-use Rattle.preparation.specs.Prepared.{Reach}
 use Rattle.unions.specs.Rows.{meets}
+use Rattle.preparation.specs.Prepared.{Reach}
 use Rattle.preparation.specs.Search.{joining, joiners}
 
 -- the pairs that d valuations reach and fewer do not
@@ -41,7 +41,7 @@ module _ (x : RuleSheet) where
   abbrev W : ℕ → Pairs
   W d = liveWithin x 256 d
 
-  pub fresh-within : (d a : ℕ) (b : Option ℕ) → T (fresh x d a b) → T (W d a b)
+  fresh-within : (d a : ℕ) (b : Option ℕ) → T (fresh x d a b) → T (W d a b)
   unfolding fresh liveWithin layer
   fresh-within zero a b t = t
   fresh-within (suc d) a b t = and-left (liveWithin x 256 (suc d) a b) (not (liveWithin x 256 d a b)) t
@@ -144,7 +144,7 @@ module _ (x : RuleSheet) where
     settled : Settled x 256 e
     unfolding fresh
     settled =
-        not-fails (anyPair 256 (layer x 256 e))
+        not-T (anyPair 256 (layer x 256 e))
         (λ t.
         let y : (a : ℕ) × (b : Option ℕ) × (a < 256) × Within 256 b × T (layer x 256 e a b) = pair-found 256 (layer x 256 e) t in
         not-both (layer x 256 e (y .0) (y .1)) (y .4) (of-true (not (layer x 256 e (y .0) (y .1))) (ap not (empty (y .0) (y .1) (y .2) (y .3)))))

@@ -8,15 +8,15 @@ use lib.ListN.{getD}
 use Rattle.sheet.specs.RuleSheet.{streams, requiredOf}
 use Rattle.sheet.specs.Reading.{Below}
 use Rattle.sheet.specs.declared.Assumed.{Assumed}
-use Rattle.lanes.specs.Coded.{sheetOf}
 use Rattle.completions.specs.Live.{allowed, countPairs}
 use Rattle.completions.proofs.Backward.{bound-256}
 use Rattle.pairs.specs.Storage.{stored}
 use Rattle.pairs.specs.Changes.{NextBit}
-use Rattle.preparation.specs.Prepared.{Prepared, Reach}
+use Rattle.lanes.specs.Coded.{sheetOf}
 use Rattle.unions.specs.Rows.{Row}
-use Rattle.preparation.specs.Search.{Occupied, Apart, Started, Swept}
 use Rattle.unions.proofs.Rows.{two-to, streams-low, some-allowed}
+use Rattle.preparation.specs.Prepared.{Prepared, Reach}
+use Rattle.preparation.specs.Search.{Occupied, Apart, Started, Swept}
 use Rattle.preparation.proofs.Searching.{Searching, search-start, search-more, some-layer, search-end}
 
 module _ (m n : ℕ) (code len : List ℕ) (few : m + n ≤ 8) where

@@ -7,9 +7,12 @@ use mathlib.Core.Option.{Option, none, some}
 use Prim.Native.Nat.{ℕ, zero, suc, _+_, _-_, _*_, _^_, _≤_, _<_}
 use native.Mathlib.Omega.{arith}
 use native.Mathlib.Decide.{decLt}
-use borrow.Author.Tests.{lt-ltb, le-ltb}
 use lib.Dec.{T, ltb}
 use lib.ListN.{getD, replicate}
+use borrow.Author.Tests.{lt-ltb, le-ltb}
+use Rattle.words.proofs.BitLaws.{bit-none}
+use Rattle.words.proofs.Tests.{and-left, and-right, of-true, or-left}
+use Rattle.words.proofs.Bools.{contrary}
 use Rattle.sheet.specs.RuleSheet.{RuleSheet, streams}
 use Rattle.completions.specs.Live.{Pairs, Live, allowed, countPairs}
 use Rattle.completions.specs.Steps.{Within, Represents}
@@ -18,17 +21,14 @@ use Rattle.completions.proofs.Backward.{endSet, liveWithin, layer}
 use Rattle.completions.proofs.Range.{wider}
 use Rattle.pairs.specs.Storage.{slot, stored}
 use Rattle.pairs.specs.Changes.{rowBit, Framed, NextBit, Zeroed}
-use Rattle.words.proofs.BitLaws.{bit-none}
-use Rattle.words.proofs.Tests.{and-left, and-right, of-true, or-left}
-use Rattle.words.proofs.Bools.{contrary}
 use Rattle.pairs.proofs.Frames.{framed-none, framed-then, framed-wider}
 use Rattle.pairs.proofs.Sets.{framed-before, framed-beyond, zeroed-none, set-ext}
-use Rattle.preparation.specs.Prepared.{Prepared, Reach}
 use Rattle.unions.specs.Rows.{Row}
+use Rattle.unions.proofs.Uniting.{empty-row}
+use Rattle.preparation.specs.Prepared.{Prepared, Reach}
 use Rattle.preparation.specs.Search.{joiners, enders, Joins, Occupied, Apart, Started, Swept}
 use Rattle.preparation.proofs.Layers.{fresh, joining-same, within-next, fresh-next, all-found, reach-is}
 use Rattle.preparation.proofs.Joining.{beyond-none}
-use Rattle.unions.proofs.Uniting.{empty-row}
 
 -- ---- the parts of the code
 

@@ -7,8 +7,8 @@ use mathlib.Core.Option.{Option, none, some}
 use Prim.Native.Nat.{ℕ, _+_, _*_, _/_, _%_, _≤_, _<_}
 use lib.Dec.{eqb, ltb}
 use lib.ListN.{getD}
-use Rattle.sheet.specs.RuleSheet.{RuleSheet}
 use Rattle.words.specs.Bits.{bit}
+use Rattle.sheet.specs.RuleSheet.{RuleSheet}
 use Rattle.completions.specs.Live.{Pairs, allowed}
 use Rattle.completions.specs.Steps.{Within}
 use Rattle.pairs.specs.Storage.{stored}

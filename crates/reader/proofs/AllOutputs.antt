@@ -1,29 +1,29 @@
--- The outputs of a sheet, one after the other. Assumes nothing.
-use Prim.Native.Nat.{ℕ, zero, suc, _+_, _*_, _-_, _≤_, _<_}
-use native.Mathlib.Omega.{arith}
-use native.Mathlib.Numerals.{add-one}
+-- The outputs of a sheet, one after the other.
 use mathlib.Core.Path.{_≡_, refl, sym, ap, ap₂, _∙_, subst}
 use mathlib.Core.Bool.{Bool, true, false, cond, _&&_, true≢false}
 use mathlib.Core.List.{List, [], _∷_, _++_, append-assoc, append-nil}
+use Prim.Native.Nat.{ℕ, zero, suc, _+_, _*_, _-_, _≤_, _<_}
+use native.Mathlib.Omega.{arith}
+use native.Mathlib.Numerals.{add-one}
 use lib.ListN.{length, take, drop, set, length-drop, length-set, drop-of-length-le}
 use lib.Seq.{drop-cons, drop-drop, length-take-le}
 use lib.Dec.{leb}
 use borrow.Author.Tests.{leb-true}
 use borrow.Author.Count.{below-more}
-use Rattle.words.proofs.Bools.{and-split}
-use Rattle.words.proofs.ListLaws.{set-more}
-use Rattle.sheet.specs.Expression.{Expr, Parsed, tree, broken, parse}
-use Rattle.sheet.specs.RuleSheet.{Outputs, trees, breaks, lengthOk, after, andThen, readOutputs, requiredOf, withOutputs}
-use Rattle.reader.specs.Answer.{outputAt, outputOf, outputsBy, Put, Held}
-use Rattle.sheet.specs.Reading.{treeOf, codeAt, treesOf, Parses, readingBy}
-use Rattle.reader.proofs.Packing.{copied, not-touched}
 use Rattle.refusal.specs.declared.Refusal.{Refusal}
 use Rattle.refusal.specs.declared.Refusal.the-variants.{Length, Leftover}
 use Rattle.refusal.specs.declared.Outcome.{Outcome}
 use Rattle.refusal.specs.declared.Outcome.the-variants.{Accepted}
 use Rattle.refusal.specs.declared.Outcome.the-variants as outcome
+use Rattle.words.proofs.Bools.{and-split}
+use Rattle.words.proofs.ListLaws.{set-more}
+use Rattle.sheet.specs.Expression.{Expr, Parsed, tree, broken, parse}
+use Rattle.sheet.specs.RuleSheet.{Outputs, trees, breaks, lengthOk, after, andThen, readOutputs, requiredOf, withOutputs}
+use Rattle.sheet.specs.Reading.{treeOf, codeAt, treesOf, Parses, readingBy}
 use Rattle.sheet.specs.declared.Assumed.{Assumed}
+use Rattle.reader.specs.Answer.{outputAt, outputOf, outputsBy, Put, Held}
 use Rattle.reader.specs.declared.OutputRead.the-variants.{Bytes, Refused}
+use Rattle.reader.proofs.Packing.{copied, not-touched}
 
 -- an output that reads well, at the front of xs, with r outputs more after it
 pub record Step (s r : ℕ) (xs : List ℕ) (l : ℕ) : Type 0 where
@@ -36,7 +36,7 @@ pub record Step (s r : ℕ) (xs : List ℕ) (l : ℕ) : Type 0 where
   pub parsed : parse s [] (take l rest) ≡ tree expr
   pub reads : readOutputs s (suc r) xs ≡ after (expr ∷ []) (readOutputs s r (drop l rest))
 
-pub read-step : (s r : ℕ) (xs : List ℕ) (l : ℕ) → outputAt s xs ≡ Bytes l → Step s r xs l
+read-step : (s r : ℕ) (xs : List ℕ) (l : ℕ) → outputAt s xs ≡ Bytes l → Step s r xs l
 unfolding outputAt readOutputs
 read-step s r [] l h = absurd (true≢false cc)
 read-step s r (x ∷ ys) l h = go (lengthOk x ys) refl (parse s [] (take x ys)) refl h
@@ -60,7 +60,7 @@ read-step s r (x ∷ ys) l h = go (lengthOk x ys) refl (parse s [] (take x ys)) 
     go true e (broken p) q k = absurd (true≢false cc)
     go false e p q k = absurd (true≢false cc)
 
-pub read-stop : (s k : ℕ) (xs : List ℕ) (r : Refusal) → outputAt s xs ≡ Refused r → readOutputs s (suc k) xs ≡ breaks r
+read-stop : (s k : ℕ) (xs : List ℕ) (r : Refusal) → outputAt s xs ≡ Refused r → readOutputs s (suc k) xs ≡ breaks r
 unfolding outputAt readOutputs
 read-stop s k [] r h = cc
 read-stop s k (x ∷ ys) r h = go (lengthOk x ys) (parse s [] (take x ys)) h

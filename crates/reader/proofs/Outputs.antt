@@ -1,18 +1,18 @@
--- One output at a place of the sheet. Assumes nothing.
-use Prim.Native.Nat.{ℕ, _+_, _-_, _≤_, _<_}
-use native.Mathlib.Numerals.{add-one}
+-- One output at a place of the sheet.
 use mathlib.Core.Path.{_≡_, refl, sym, ap, _∙_}
 use mathlib.Core.Bool.{and-false, true≢false}
 use mathlib.Core.List.{List, [], _∷_}
+use Prim.Native.Nat.{ℕ, _+_, _-_, _≤_, _<_}
+use native.Mathlib.Numerals.{add-one}
 use lib.ListN.{length, take, drop, getD, length-drop, drop-of-length-le}
 use lib.Seq.{drop-cons}
 use borrow.Author.Tests.{le-leb, lt-leb}
-use Rattle.sheet.specs.Expression.{Parsed, tree, broken, parse, outcomeOf}
-use Rattle.reader.specs.Answer.{outputAt, outputOf}
 use Rattle.refusal.specs.declared.Refusal.{Refusal}
 use Rattle.refusal.specs.declared.Refusal.the-variants.{Length}
 use Rattle.refusal.specs.declared.Outcome.the-variants.{Accepted}
 use Rattle.refusal.specs.declared.Outcome.the-variants as outcome
+use Rattle.sheet.specs.Expression.{Parsed, tree, broken, parse, outcomeOf}
+use Rattle.reader.specs.Answer.{outputAt, outputOf}
 use Rattle.reader.specs.declared.OutputRead.the-variants.{Bytes, Refused}
 
 pub no-byte : (s at : ℕ) (bs : List ℕ) → length bs ≤ at → outputAt s (drop at bs) ≡ Refused Length

@@ -1,15 +1,15 @@
 -- Expressions copied from the sheet to their places in the code.
+use mathlib.Core.Path.{_≡_, refl, sym, _∙_}
+use mathlib.Core.List.{List}
 use Prim.Native.Nat.{ℕ, _+_, _*_, _≤_, _<_}
 use native.Mathlib.Omega.{arith}
 use native.Mathlib.Nat.{zero-add}
-use mathlib.Core.Path.{_≡_, refl, sym, _∙_}
-use mathlib.Core.List.{List}
 use lib.ListN.{length, take, drop, getD, set, length-set, length-drop}
 use lib.Seq.{ext-getD, getD-take, getD-drop, getD-set-same, getD-set-other, length-take-le, take-all}
 use Rattle.words.proofs.ListLaws.{set-more-from}
 use Rattle.sheet.specs.Reading.{codeAt, Usable, Ranges, Below}
-use Rattle.reader.specs.Answer.{Put, Held}
 use Rattle.sheet.specs.declared.Assumed.{Assumed}
+use Rattle.reader.specs.Answer.{Put, Held}
 
 -- the first i bytes of e are copied
 pub record PutSoFar (from : ℕ) (e old new : List ℕ) (i : ℕ) : Type 0 where

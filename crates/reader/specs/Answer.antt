@@ -1,15 +1,15 @@
 -- What the answers of the reader's parts mean: for the contracts of private functions.
-use Prim.Native.Nat.{ℕ, _+_, _≤_, _<_}
 use mathlib.Core.Path.{_≡_}
 use mathlib.Core.Bool.{cond}
 use mathlib.Core.List.{List, [], _∷_}
+use Prim.Native.Nat.{ℕ, _+_, _≤_, _<_}
 use lib.ListN.{length, take, getD}
-use Rattle.sheet.specs.Expression.{Expr, Parsed, tree, broken, parse}
-use Rattle.sheet.specs.Reading.{codeAt, Parses}
-use Rattle.sheet.specs.RuleSheet.{lengthOk, Outputs, trees, breaks}
 use Rattle.refusal.specs.declared.Refusal.the-variants.{Length}
 use Rattle.refusal.specs.declared.Outcome.{Outcome}
 use Rattle.refusal.specs.declared.Outcome.the-variants as outcome
+use Rattle.sheet.specs.Expression.{Expr, Parsed, tree, broken, parse}
+use Rattle.sheet.specs.Reading.{codeAt, Parses}
+use Rattle.sheet.specs.RuleSheet.{lengthOk, Outputs, trees, breaks}
 use Rattle.reader.specs.declared.OutputRead.{OutputRead}
 use Rattle.reader.specs.declared.OutputRead.the-variants.{Bytes, Refused}
 

@@ -11,11 +11,11 @@ use lib.Dec.{eqb, leb}
 use lib.ListN.{length, getD, set, length-set}
 use lib.Seq.{getD-set-same, getD-set-other}
 use borrow.Author.Tests.{eq-eqb, ne-eqb, le-leb, lt-leb, leb-true, eqb-true}
-use Rattle.words.specs.Below.{one}
-use Rattle.words.proofs.Bools.{and-split}
+use Rattle.refusal.specs.Numbers.{verdictNo}
 use Rattle.refusal.specs.declared.Verdict.{Verdict}
 use Rattle.refusal.specs.declared.Verdict.the-variants.{False, True, Open, Broken}
-use Rattle.refusal.specs.Numbers.{verdictNo}
+use Rattle.words.specs.Below.{one}
+use Rattle.words.proofs.Bools.{and-split}
 use Rattle.record.specs.Record.{column, countAt, sumAt, addUp, recordOk, Counted}
 use Rattle.record.specs.Columns.{columnNo, AreVerdicts, Countable}
 use Rattle.record.specs.declared.JournalRecord.{JournalRecord}
@@ -35,7 +35,7 @@ add-up-not counts t k (suc n) h e = go (ℕ-discrete k n) (add-up-not counts t k
     go (yes q) rec = rw (ne-eqb (sumAt counts n) t (λ g. e (ap (sumAt counts) q ∙ g)))
     go (no q) rec = rw (rec (omega arith) e) (and-false (eqb (sumAt counts n) t))
 
-pub add-up-at : (counts : List ℕ) (t n : ℕ) → addUp counts t n ≡ true → (k : ℕ) → k < n → sumAt counts k ≡ t
+add-up-at : (counts : List ℕ) (t n : ℕ) → addUp counts t n ≡ true → (k : ℕ) → k < n → sumAt counts k ≡ t
 unfolding addUp
 add-up-at counts t zero e k h = absurd (omega arith)
 add-up-at counts t (suc n) e k h = go (ℕ-discrete k n) (add-up-at counts t n (and-split (eqb (sumAt counts n) t) (addUp counts t n) e .1) k)

@@ -6,10 +6,10 @@ use mathlib.Core.List.{List}
 use Prim.Native.Nat.{ℕ, zero, suc, _+_, _*_, _/_, _<_, _≤_}
 use lib.Dec.{eqb, leb}
 use lib.ListN.{length, getD, replicate}
-use Rattle.words.specs.Below.{one}
+use Rattle.refusal.specs.Numbers.{verdictNo}
 use Rattle.refusal.specs.declared.Verdict.{Verdict}
 use Rattle.refusal.specs.declared.Verdict.the-variants.{False, True, Open, Broken}
-use Rattle.refusal.specs.Numbers.{verdictNo}
+use Rattle.words.specs.Below.{one}
 use Rattle.record.specs.declared.JournalRecord.{JournalRecord}
 
 -- rounds 0, not closed, all tallies 0

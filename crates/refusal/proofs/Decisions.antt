@@ -1,11 +1,11 @@
--- Laws of `Decided`: checks may be renamed, checks behind a broken one don't matter, and exactly one outcome fits. Assumes nothing.
+-- Laws of `Decided`: checks may be renamed, checks behind a broken one don't matter, and exactly one outcome fits.
 use mathlib.Core.Path.{_≡_, refl, sym, ap, _∙_, subst}
 use mathlib.Core.Logic.{⊎-elim}
 use mathlib.Core.List.{List, [], _∷_, _++_, map, append-assoc, List·Memᴰ, List·Memᴰ·head, List·Memᴰ·tail, List·Memᴰ·cases-cons, List·Memᴰ·append-cases, Memᴰ·append-right, List·Memᴰ·not-nil, List·Memᴰ·eq-of-singleton}
+use Rattle.refusal.specs.Decided.{Decided}
 use Rattle.refusal.specs.declared.Refusal.{Refusal}
 use Rattle.refusal.specs.declared.Outcome.{Outcome}
 use Rattle.refusal.specs.declared.Outcome.the-variants.{Accepted, Refused}
-use Rattle.refusal.specs.Decided.{Decided}
 
 module _ {C D : Type 0} (f : C → D) where
   map-append-split : (xs : List C) (c : C) (ys : List C) → map f (xs ++ (c ∷ ys)) ≡ map f xs ++ (f c ∷ map f ys)

@@ -1,13 +1,13 @@
--- Laws of verdicts and outcomes. Assumes nothing.
+-- Laws of verdicts and outcomes.
 use mathlib.Core.Path.{_≡_, refl}
 use mathlib.Core.Bool.{true≢false}
 use Prim.Native.Nat.{_≤_}
 use native.Mathlib.Omega.{arith}
+use Rattle.refusal.specs.Numbers.{verdictNo, verdictAt}
 use Rattle.refusal.specs.declared.Refusal.{Refusal}
 use Rattle.refusal.specs.declared.Outcome.the-variants.{Accepted, Refused}
 use Rattle.refusal.specs.declared.Verdict.{Verdict}
 use Rattle.refusal.specs.declared.Verdict.the-variants.{False, True, Open, Broken}
-use Rattle.refusal.specs.Numbers.{verdictNo, verdictAt}
 
 pub verdict-back : (v : Verdict) → verdictAt (verdictNo v) ≡ v
 verdict-back False = refl

@@ -1,4 +1,4 @@
--- Laws of tests. Assumes nothing.
+-- Laws of tests.
 use mathlib.Core.Path.{_≡_, refl, sym, ap, _∙_}
 use mathlib.Core.Bool.{Bool, true, false, not, _&&_, _||_, and-or-distrib-right}
 

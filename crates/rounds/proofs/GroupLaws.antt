@@ -1,4 +1,4 @@
--- The rows of the groups, emptied one after the other. Assumes nothing.
+-- The rows of the groups, emptied one after the other.
 use mathlib.Core.Path.{_≡_, refl, sym, ap, ap₂, _∙_}
 use mathlib.Core.Bool.{Bool, true, false, cond, not, _&&_, _||_, and-true, and-false}
 use mathlib.Core.List.{List}
@@ -6,16 +6,16 @@ use mathlib.Core.Option.{Option, none, some}
 use Prim.Native.Nat.{ℕ, _+_, _≤_, _<_, min}
 use native.Mathlib.Omega.{arith}
 use native.Mathlib.Decide.{ℕ-discrete, decLt}
-use borrow.Author.Tests.{eq-eqb, ne-eqb, lt-ltb, le-ltb}
 use lib.Bits.{bitAnd}
 use lib.Dec.{eqb, ltb}
+use borrow.Author.Tests.{eq-eqb, ne-eqb, lt-ltb, le-ltb}
+use Rattle.words.proofs.AnyLaws.{none-any}
 use Rattle.completions.specs.Live.{Pairs}
 use Rattle.completions.specs.Steps.{Within}
 use Rattle.pairs.specs.Storage.{stored, used}
 use Rattle.pairs.specs.Changes.{Framed, rowBit, Adds, NextBit, RowsCleared, RowTaken}
 use Rattle.pairs.proofs.Frames.{framed-none, framed-then}
 use Rattle.pairs.proofs.Sets.{framed-beyond}
-use Rattle.words.proofs.AnyLaws.{none-any}
 use Rattle.rounds.specs.Rows.{Sparse, NoEnds, grouped}
 
 -- of the scratch set, the groups below g and v are emptied

@@ -1,4 +1,4 @@
--- A round. Assumes nothing.
+-- A round.
 use mathlib.Core.Path.{_≡_, refl, sym, ap, ap₂, _∙_, subst}
 use mathlib.Core.Bool.{Bool, true, false, cond, _&&_, _||_, and-true, and-false, or-false}
 use mathlib.Core.List.{List}
@@ -6,10 +6,10 @@ use mathlib.Core.Option.{Option, none, some}
 use Prim.Native.Nat.{ℕ, _+_, _*_, _/_, _%_, _^_, _≤_, _<_}
 use native.Mathlib.Omega.{arith}
 use native.Mathlib.Decide.{ℕ-discrete, decLt}
-use borrow.Author.Tests.{eq-eqb, ne-eqb, eqb-true, lt-ltb, le-ltb, ltb-false}
 use lib.Bits.{bitAnd, and-le-l}
 use lib.Dec.{eqb, ltb}
 use lib.Pow.{pow-pos, pow-mono}
+use borrow.Author.Tests.{eq-eqb, ne-eqb, eqb-true, lt-ltb, le-ltb, ltb-false}
 use Rattle.words.specs.Bits.{bit}
 use Rattle.words.specs.Below.{anyBelow}
 use Rattle.words.proofs.BitLaws.{bit-and, one-shl}
@@ -65,19 +65,19 @@ both-cleared false p l f = ap (λ (z : Bool). l || z) (f refl) ∙ or-false l
 
 module _ (w v : ℕ) (is : v ≡ w) (s s₁ s₂ s₃ s₄ s₅ : List ℕ) (G P R : Pairs) (a : RowsCleared 2056 v s s₁) (b : Adds 2056 s₁ s₂ G) (c : RowsCleared 1028 v s₂ s₃)
     (d : Adds 1028 s₃ s₄ P) (e : RowsCleared 2056 v s₄ s₅) where
-  pub live-same : (k : ℕ) (y : Option ℕ) → k < 256 → Within 256 y → stored s₃ 0 k y ≡ stored s 0 k y
+  live-same : (k : ℕ) (y : Option ℕ) → k < 256 → Within 256 y → stored s₃ 0 k y ≡ stored s 0 k y
   live-same k y hk hy =
       framed-before (c .frame) 0 k y hk hy (omega arith) ∙ framed-before (b .frame) 0 k y hk hy (omega arith) ∙ framed-before (a .frame) 0 k y hk hy (omega arith)
 
   -- in the words in use, the scratch set is what was put there
-  pub put-is : (g k : ℕ) → g < w → g < 256 → k < 256 → stored s₃ 2056 g (some k) ≡ G g (some k)
+  put-is : (g k : ℕ) → g < w → g < 256 → k < 256 → stored s₃ 2056 g (some k) ≡ G g (some k)
   put-is g k l hg hk =
       framed-beyond (c .frame) 2056 g (some k) hg hk (omega arith)
       ∙ b .adds g (some k) hg hk
       ∙ ap (λ (u : Bool). u || G g (some k))
       (a .emptied g (some k) hg hk ∙ ap (λ (u : Bool). cond u false (stored s 2056 g (some k))) (used-below v g (some k) (omega arith)))
 
-  pub steps-rounded : ((k : ℕ) (y : Option ℕ) → v ≤ k → G k y ≡ false) → ((k : ℕ) (y : Option ℕ) → k < 256 → Within 256 y → P k y ≡ (ltb k w && (partBelow w y && R k y)))
+  steps-rounded : ((k : ℕ) (y : Option ℕ) → v ≤ k → G k y ≡ false) → ((k : ℕ) (y : Option ℕ) → k < 256 → Within 256 y → P k y ≡ (ltb k w && (partBelow w y && R k y)))
       → Rounded w s s₅ R
   steps-rounded low brings = record {
     frame = framed-then
@@ -184,7 +184,7 @@ module _ (x : RuleSheet) (mask : ℕ) (blind : Blind x mask) (S : Pairs) (w b : 
   abbrev members : ℕ → Bool
   members g = anyBelow w (λ a. eqb g (bitAnd a mask) && S a (some b))
 
-  pub groups-same : anyBelow w (λ g. members g && holds x (some g) b c) ≡ anyBelow w (λ a. S a (some b) && holds x (some a) b c)
+  groups-same : anyBelow w (λ g. members g && holds x (some g) b c) ≡ anyBelow w (λ a. S a (some b) && holds x (some a) b c)
   groups-same = iff (anyBelow w (λ g. members g && holds x (some g) b c)) (anyBelow w (λ a. S a (some b) && holds x (some a) b c)) (λ e. there e) (λ e. back e)
     where
       there : anyBelow w (λ g. members g && holds x (some g) b c) ≡ true → anyBelow w (λ a. S a (some b) && holds x (some a) b c) ≡ true

@@ -1,4 +1,4 @@
--- What the reached set gains, row by row. Assumes nothing.
+-- What the reached set gains, row by row.
 use mathlib.Core.Path.{_≡_, refl, sym, ap, ap₂, _∙_, subst}
 use mathlib.Core.Bool.{Bool, true, false, _&&_, _||_, and-true, and-false, or-false, or-comm, and-assoc}
 use mathlib.Core.List.{List}
@@ -6,8 +6,8 @@ use mathlib.Core.Option.{Option, none, some}
 use Prim.Native.Nat.{ℕ, _+_, _*_, _/_, _≤_, _<_, min}
 use native.Mathlib.Omega.{arith}
 use native.Mathlib.Decide.{ℕ-discrete}
-use borrow.Author.Tests.{ne-eqb, lt-ltb}
 use lib.Dec.{eqb, ltb}
+use borrow.Author.Tests.{ne-eqb, lt-ltb}
 use Rattle.words.specs.Below.{anyBelow}
 use Rattle.words.proofs.AnyLaws.{any-one}
 use Rattle.words.proofs.BelowLaws.{below-one, words-one, below-none, below-within, below-wider}
@@ -177,11 +177,11 @@ module _ (x : RuleSheet) where
 
   -- ---- all rows of G
 
-  pub brought-none : (s : List ℕ) (G L : Pairs) (w : ℕ) → Adds 1028 s s (brought x G w L 0)
+  brought-none : (s : List ℕ) (G L : Pairs) (w : ℕ) → Adds 1028 s s (brought x G w L 0)
   unfolding brought anyBelow
   brought-none s G L w = adds-none 1028 s (brought x G w L 0) (λ b c. refl)
 
-  pub brought-more : (s t u : List ℕ) (w g : ℕ) → g < 256 → Adds 1028 s t (brought x (stored s 2056) w (stored s 0) g)
+  brought-more : (s t u : List ℕ) (w g : ℕ) → g < 256 → Adds 1028 s t (brought x (stored s 2056) w (stored s 0) g)
       → Adds 1028 t u (gains x (inRow (stored t 2056) w g) (partBelow w) (stored t 0) (some g)) → Adds 1028 s u (brought x (stored s 2056) w (stored s 0) (g + 1))
   unfolding brought gains
   brought-more s t u w g hg f q =

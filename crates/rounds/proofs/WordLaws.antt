@@ -1,4 +1,4 @@
--- One word of a row. Assumes nothing.
+-- One word of a row.
 use mathlib.Core.Path.{_≡_, refl, sym, ap, ap₂, _∙_, subst}
 use mathlib.Core.Bool.{Bool, true, false, not, _&&_, _||_, and-true, and-false, or-false, or-comm}
 use mathlib.Core.List.{List}
@@ -6,10 +6,10 @@ use mathlib.Core.Option.{Option, none, some}
 use Prim.Native.Nat.{ℕ, _+_, _-_, _*_, _/_, _%_, _^_, _≤_, _<_, min}
 use native.Mathlib.Omega.{arith}
 use native.Mathlib.Decide.{ℕ-discrete, decLt}
-use borrow.Author.Tests.{eq-eqb, ne-eqb, lt-ltb, le-ltb}
 use lib.Bits.{bitAnd, bitOr, or-add-and, and-le-l, and-le-r}
 use lib.Dec.{eqb, ltb}
 use lib.ListN.{getD}
+use borrow.Author.Tests.{eq-eqb, ne-eqb, lt-ltb, le-ltb}
 use Rattle.words.specs.Bits.{bit}
 use Rattle.words.specs.Below.{anyBelow}
 use Rattle.words.proofs.BitLaws.{bit-and, bit-or, bit-not, bit-none}
@@ -37,7 +37,7 @@ module _ (s : List ℕ) (base a i : ℕ) (h : i < 64) where
   abbrev has : ℕ → Bool
   has j = stored s base a (some (64 * j + i))
 
-  pub lane-at : (k j : ℕ) → k ≡ base + (4 * a + j) → bit i (getD s k 0) ≡ has j
+  lane-at : (k j : ℕ) → k ≡ base + (4 * a + j) → bit i (getD s k 0) ≡ has j
   lane-at k j e = ap (λ (z : ℕ). bit i (getD s z 0)) e ∙ lane s base a j i h
 
   pub row-one : (w : ℕ) → w ≡ 1 → bit i (getD s (base + 4 * a) 0) ≡ anyBelow w has
@@ -92,7 +92,7 @@ live-masked s b v w j mask wide l f i h =
     bit-and i (getD s (4 * b + j) 0) mask ∙ ap₂ _&&_ (lane-at s 0 b i h (4 * b + j) j (omega arith)) (f i h ∙ low-lane v w j i wide l h)
 
 -- a word among those that are full
-pub live-whole : (s : List ℕ) (b j w : ℕ) → j < w → LiveLanes s b j (64 * w) (getD s (4 * b + j) 0)
+live-whole : (s : List ℕ) (b j w : ℕ) → j < w → LiveLanes s b j (64 * w) (getD s (4 * b + j) 0)
 live-whole s b j w l i h =
     lane-at s 0 b i h (4 * b + j) j (omega arith)
     ∙ sym (ap (λ (u : Bool). stored s 0 b (some (64 * j + i)) && u) (lt-ltb (64 * j + i) (64 * w) (omega arith)) ∙ and-true (stored s 0 b (some (64 * j + i))))
@@ -102,7 +102,7 @@ module _ (s : List ℕ) (b j v live : ℕ) (lanes : LiveLanes s b j v live) wher
   live-lane c e = let q : 64 * j + c % 64 ≡ c = omega arith in lanes (c % 64) (omega arith) ∙ ap (λ (k : ℕ). stored s 0 b (some k) && ltb k v) q
 
   -- a word with nothing live that the reached set lacks
-  pub nothing-lacks : (k : ℕ) → k ≡ 1028 + (4 * b + j) → getD s k 0 < 2 ^ 64 → bitAnd live (18446744073709551615 - getD s k 0) ≡ 0
+  nothing-lacks : (k : ℕ) → k ≡ 1028 + (4 * b + j) → getD s k 0 < 2 ^ 64 → bitAnd live (18446744073709551615 - getD s k 0) ≡ 0
       → (c : ℕ) → c / 64 ≡ j → c < v → (stored s 0 b (some c) && not (stored s 1028 b (some c))) ≡ false
   nothing-lacks k at fit e c d l =
       let q : 64 * j + c % 64 ≡ c = omega arith in
@@ -179,7 +179,7 @@ Joined s letters a g w k c = eqb k g && heardIn (stored s 1028) (among letters) 
 
 module _ (s : List ℕ) (letters a g : ℕ) (ha : a < 256) where
   -- a row of which nothing was heard
-  pub joined-unheard : (w : ℕ) → ((c : ℕ) → c < w → (stored s 1028 a (some c) && among letters c) ≡ false) → Adds 2056 s s (Joined s letters a g w)
+  joined-unheard : (w : ℕ) → ((c : ℕ) → c < w → (stored s 1028 a (some c) && among letters c) ≡ false) → Adds 2056 s s (Joined s letters a g w)
   joined-unheard w f = adds-none 2056 s (Joined s letters a g w) (λ k c. go k c)
     where
       at : (c : ℕ) → Dec (c < w) → (ltb c w && (stored s 1028 a (some c) && among letters c)) ≡ false

@@ -1,21 +1,21 @@
--- The count that the code keeps is the length of the stack of trees. Assumes nothing.
-use Prim.Native.Nat.{ℕ, suc, _+_, _≤_, _<_}
-use native.Mathlib.Omega.{arith}
-use native.Mathlib.Numerals.{add-one}
+-- The count that the code keeps is the length of the stack of trees.
 use mathlib.Core.Path.{_≡_, refl, sym, ap, _∙_, subst}
 use mathlib.Core.Bool.{Bool, true, false, cond, true≢false}
 use mathlib.Core.List.{List, [], _∷_}
+use Prim.Native.Nat.{ℕ, suc, _+_, _≤_, _<_}
+use native.Mathlib.Omega.{arith}
+use native.Mathlib.Numerals.{add-one}
 use lib.ListN.{length, drop, getD}
 use lib.Seq.{drop-cons, drop-length}
 use lib.Dec.{ltb}
 use borrow.Author.Tests.{le-ltb}
+use Rattle.refusal.specs.declared.Refusal.{Refusal}
+use Rattle.refusal.specs.declared.Refusal.the-variants.{Byte, Values}
 use Rattle.sheet.specs.Bytes.{opOf}
 use Rattle.sheet.specs.Expression.{Expr, Next, stack, breaks, tree, broken, applyOp, final, go-on, parse}
 use Rattle.sheet.specs.Depth.{depthAfter}
 use Rattle.sheet.specs.declared.Op.{Op}
 use Rattle.sheet.specs.declared.Op.the-variants.{Const, Not, And, Or, Read, Rejected}
-use Rattle.refusal.specs.declared.Refusal.{Refusal}
-use Rattle.refusal.specs.declared.Refusal.the-variants.{Byte, Values}
 use Rattle.sheet.specs.declared.Depth.{Depth}
 use Rattle.sheet.specs.declared.Depth.the-variants.{Is, Refused}
 
@@ -42,7 +42,7 @@ agrees s (Read q o d) st = read-agrees (ltb (q .0) s) 0 st _
 agrees s (Rejected r) st = refl
 
 -- one byte more: the stack goes on, as long as the code's count says
-pub taken-on : (s : ℕ) (st : List Expr) (b : ℕ) (bs : List ℕ) (d k : ℕ) → length st ≡ d → depthAfter s (opOf b) d ≡ Is k → (st′ : List Expr) × (length st′ ≡ k) × (parse s st (b ∷ bs) ≡ parse s st′ bs)
+taken-on : (s : ℕ) (st : List Expr) (b : ℕ) (bs : List ℕ) (d k : ℕ) → length st ≡ d → depthAfter s (opOf b) d ≡ Is k → (st′ : List Expr) × (length st′ ≡ k) × (parse s st (b ∷ bs) ≡ parse s st′ bs)
 unfolding parse
 taken-on s st b bs d k e h = go (applyOp s (opOf b) st) refl
   where

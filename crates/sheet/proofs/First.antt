@@ -1,15 +1,19 @@
 -- A sheet is refused by the first check that is broken, and accepted where none is.
-use Prim.Native.Nat.{ℕ, zero, suc, _+_, _-_, _≤_, _<_}
-use native.Mathlib.Omega.{arith}
-use native.Mathlib.Numerals.{add-one}
 use mathlib.Core.Path.{_≡_, refl, sym, ap, _∙_, subst}
 use mathlib.Core.Logic.{⊎-elim}
 use mathlib.Core.Bool.{Bool, true, false, cond, not, _&&_, _||_, false≢true}
 use mathlib.Core.List.{List, [], _∷_, _++_, append-assoc, List·Memᴰ·not-nil, List·Memᴰ·cases-cons}
+use Prim.Native.Nat.{ℕ, zero, suc, _+_, _-_, _≤_, _<_}
+use native.Mathlib.Omega.{arith}
+use native.Mathlib.Numerals.{add-one}
 use lib.ListN.{length, take, drop, getD, length-drop, drop-of-length-le}
 use lib.Seq.{drop-cons, drop-drop, take-suc, length-take-le, drop-length, take-length}
 use lib.Dec.{leb, ltb, eqb}
 use borrow.Author.Tests.{le-ltb, lt-ltb, le-leb, lt-leb, ne-eqb, ltb-true, ltb-false, leb-true, leb-false}
+use Rattle.refusal.specs.Decided.{Decided}
+use Rattle.refusal.specs.declared.Refusal.the-variants.{Short, Mark, Version, Counts, Assumption, Byte, Values, Length, Leftover}
+use Rattle.refusal.specs.declared.Outcome.{Outcome}
+use Rattle.refusal.specs.declared.Outcome.the-variants.{Accepted, Refused}
 use Rattle.words.proofs.Bools.{and-split}
 use Rattle.sheet.specs.Bytes.{opOf}
 use Rattle.sheet.specs.Expression.{Expr, stack, Parsed, tree, broken, applyOp, final, parse}
@@ -17,19 +21,14 @@ use Rattle.sheet.specs.Expression
 use Rattle.sheet.specs.Header.{markOk, versionOf, countsOk, assumedAt, fieldsOf, headerOf}
 use Rattle.sheet.specs.RuleSheet.{Reading, refused, accepted, Outputs, trees, breaks, lengthOk, after, andThen, readOutputs, withOutputs, withHeader, readSheet}
 use Rattle.sheet.specs.Checks.{Check, size, end, leftover, rule, inputsOf, outputsOf, placeOf, sizeOf, expressionOf, known, needs, heightFrom, broken?, Broken, byteChecks, outputChecks, checksOf}
-use Rattle.refusal.specs.Decided.{Decided}
 use Rattle.sheet.specs.declared.Op.{Op}
 use Rattle.sheet.specs.declared.Op.the-variants.{Const, Not, And, Or, Read, Rejected}
-use Rattle.refusal.specs.declared.Refusal.the-variants.{Short, Mark, Version, Counts, Assumption}
 use Rattle.sheet.specs.declared.Assumed.{Assumed}
 use Rattle.sheet.specs.declared.Assumed.the-variants.{Nothing, Output}
 use Rattle.sheet.specs.declared.AssumedRead.the-variants as assumed
 use Rattle.sheet.specs.declared.Header.the-variants.{Fields}
 use Rattle.sheet.specs.declared.Header.the-variants as header
-use Rattle.refusal.specs.declared.Outcome.{Outcome}
-use Rattle.refusal.specs.declared.Outcome.the-variants.{Accepted, Refused}
 use Rattle.sheet.proofs.Ops.{OnlyByte, only-byte}
-use Rattle.refusal.specs.declared.Refusal.the-variants.{Byte, Values, Length, Leftover}
 
 -- what one operation does: it is unknown, or lacks a value, or goes on
 data Does (s : ℕ) (op : Op) (st : List Expr) : Type 0 where

@@ -1,9 +1,9 @@
--- What holds of every sheet that is read: its counts are in range, and its reads are of its own streams. Assumes nothing.
+-- What holds of every sheet that is read: its counts are in range, and its reads are of its own streams.
 use mathlib.Core.Path.{_≡_, refl, sym, ap, _∙_, subst}
-use Prim.Native.Nat.{ℕ, zero, suc, _+_, _<_}
-use native.Mathlib.Omega.{arith}
 use mathlib.Core.Bool.{Bool, true, false, cond, true≢false}
 use mathlib.Core.List.{List, [], _∷_}
+use Prim.Native.Nat.{ℕ, zero, suc, _+_, _<_}
+use native.Mathlib.Omega.{arith}
 use lib.ListN.{length, getD, take, drop}
 use Rattle.refusal.specs.declared.Refusal.the-variants.{Length}
 use Rattle.sheet.specs.Expression.{Expr, constant, Parsed, tree, broken, parse}
@@ -11,12 +11,12 @@ use Rattle.sheet.specs.Header.{headerOf}
 use Rattle.sheet.specs.RuleSheet.{RuleSheet, outputs, streams, accepted, Outputs, trees, breaks, lengthOk, andThen, readOutputs, withOutputs, withHeader, readSheet, requiredOf}
 use Rattle.sheet.specs.Reading.{ruleSheet, treeOf, codeAt, Usable, Ranges}
 use Rattle.sheet.specs.Postfix.{InSheet}
+use Rattle.sheet.specs.Checks.{inputsOf, outputsOf}
 use Rattle.sheet.specs.declared.Sheet.{Sheet}
 use Rattle.sheet.specs.declared.Assumed.{Assumed}
 use Rattle.sheet.specs.declared.Header.{Header}
 use Rattle.sheet.specs.declared.Header.the-variants.{Fields, Refused}
 use Rattle.sheet.proofs.Sheets.{tree-at, length-trees}
-use Rattle.sheet.specs.Checks.{inputsOf, outputsOf}
 use Rattle.sheet.proofs.Headers.{fields, fields-are}
 use Rattle.sheet.proofs.Postfixes.{tree-exactly}
 

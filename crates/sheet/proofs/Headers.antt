@@ -1,15 +1,15 @@
--- What a header that reads well tells. Assumes nothing.
-use Prim.Native.Nat.{ℕ, _+_, _≤_}
+-- What a header that reads well tells.
 use mathlib.Core.Path.{_≡_, refl, subst}
 use mathlib.Core.Bool.{Bool, true, false, cond, _&&_, true≢false}
 use mathlib.Core.List.{List}
+use Prim.Native.Nat.{ℕ, _+_, _≤_}
 use lib.ListN.{length, getD}
 use lib.Dec.{leb, ltb, eqb}
 use borrow.Author.Tests.{leb-true, ltb-true, ltb-false}
+use Rattle.refusal.specs.declared.Refusal.the-variants.{Short, Mark, Version, Counts, Assumption}
 use Rattle.words.proofs.Bools.{and-split}
 use Rattle.sheet.specs.Header.{markOk, versionOf, countsOk, assumedAt, fieldsOf, headerOf}
 use Rattle.sheet.specs.Reading.{Ranges, Below}
-use Rattle.refusal.specs.declared.Refusal.the-variants.{Short, Mark, Version, Counts, Assumption}
 use Rattle.sheet.specs.declared.Assumed.{Assumed}
 use Rattle.sheet.specs.declared.Assumed.the-variants.{Nothing, Output}
 use Rattle.sheet.specs.declared.AssumedRead.{AssumedRead}
@@ -31,7 +31,7 @@ counts m n e =
       streams = leb-true (m + n) 8 (d .1);
     }
 
-pub assumes : (a n : ℕ) (x : Assumed) → assumedAt a n ≡ assumed.Is x → Below x n
+assumes : (a n : ℕ) (x : Assumed) → assumedAt a n ≡ assumed.Is x → Below x n
 unfolding assumedAt
 assumes a n x h = go (eqb a 255) (ltb a n) refl h
   where

@@ -1,15 +1,15 @@
--- The meaning of an expression byte, range by range, and by cases. Assumes nothing.
-use Prim.Native.Nat.{ℕ, _+_, _%_, _≤_, _<_}
-use native.Mathlib.Omega.{arith}
+-- The meaning of an expression byte, range by range, and by cases.
 use mathlib.Core.Path.{_≡_, refl, sym, ap, _∙_}
 use mathlib.Core.Bool.{Bool, true, false, cond, and-false}
+use Prim.Native.Nat.{ℕ, _+_, _%_, _≤_, _<_}
+use native.Mathlib.Omega.{arith}
 use lib.Dec.{eqb, leb}
 use borrow.Author.Tests.{le-leb, lt-leb, ne-eqb, leb-true, eqb-true}
+use Rattle.refusal.specs.declared.Refusal.the-variants.{Byte}
 use Rattle.words.proofs.Bools.{and-split}
 use Rattle.sheet.specs.Bytes.{opOf, readOf, readsOf, within}
 use Rattle.sheet.specs.declared.Op.{Op}
 use Rattle.sheet.specs.declared.Op.the-variants.{Const, Not, And, Or, Read, Rejected}
-use Rattle.refusal.specs.declared.Refusal.the-variants.{Byte}
 use Rattle.sheet.specs.declared.Offset.{Offset}
 use Rattle.sheet.specs.declared.Offset.the-variants.{Earlier, Now, Later}
 
@@ -20,13 +20,13 @@ over b k h = ne-eqb b k (λ e. omega arith)
 pub inside : (lo hi b : ℕ) → lo ≤ b → b ≤ hi → within lo hi b ≡ true
 inside lo hi b h k = simp (le-leb lo b h, le-leb b hi k)
 
-pub under-range : (lo hi b : ℕ) → b < lo → within lo hi b ≡ false
+under-range : (lo hi b : ℕ) → b < lo → within lo hi b ≡ false
 under-range lo hi b h = simp (lt-leb lo b h)
 
-pub over-range : (lo hi b : ℕ) → hi < b → within lo hi b ≡ false
+over-range : (lo hi b : ℕ) → hi < b → within lo hi b ≡ false
 over-range lo hi b h = simp (lt-leb b hi h, and-false)
 
-pub past-keys : (b : ℕ) → 4 < b → opOf b ≡ readsOf b
+past-keys : (b : ℕ) → 4 < b → opOf b ≡ readsOf b
 unfolding opOf
 past-keys b h =
     simp

@@ -1,24 +1,24 @@
--- Bytes are read as a tree exactly if they are the tree's writing, and its reads are of the sheet's streams. Assumes nothing.
-use Prim.Native.Nat.{ℕ, _+_, _<_}
-use native.Mathlib.Omega.{arith}
-use native.Mathlib.Nat.{add-sub-cancel-left}
+-- Bytes are read as a tree exactly if they are the tree's writing, and its reads are of the sheet's streams.
 use mathlib.Core.Path.{_≡_, refl, sym, ap, _∙_, subst}
 use mathlib.Core.Logic.{_↔_}
 use mathlib.Core.Bool.{Bool, true, false, cond}
 use mathlib.Core.List.{List, [], _∷_, _++_, append-assoc, append-nil}
+use Prim.Native.Nat.{ℕ, _+_, _<_}
+use native.Mathlib.Omega.{arith}
+use native.Mathlib.Nat.{add-sub-cancel-left}
 use lib.Dec.{ltb}
 use borrow.Author.Tests.{lt-ltb, ltb-true}
+use Rattle.refusal.specs.declared.Refusal.the-variants.{Byte, Values}
 use Rattle.sheet.specs.Bytes.{opOf, readOf}
 use Rattle.sheet.specs.Expression.{Expr, constant, negation, conjunction, disjunction, read, stack, breaks, Parsed, tree, applyOp, final, go-on, parse}
 use Rattle.sheet.specs.Postfix.{readByte, written, DefaultFits, InSheet}
-use Rattle.sheet.proofs.Ops.{is-now, is-earlier-false, is-earlier-true, is-later-false, is-later-true, op-cases}
-use Rattle.sheet.proofs.Sheets.{no-tree}
 use Rattle.sheet.specs.declared.StreamNo.{StreamNo}
 use Rattle.sheet.specs.declared.Offset.{Offset}
 use Rattle.sheet.specs.declared.Offset.the-variants.{Earlier, Now, Later}
 use Rattle.sheet.specs.declared.Op.{Op}
 use Rattle.sheet.specs.declared.Op.the-variants.{Const, Not, And, Or, Read, Rejected}
-use Rattle.refusal.specs.declared.Refusal.the-variants.{Byte, Values}
+use Rattle.sheet.proofs.Ops.{is-now, is-earlier-false, is-earlier-true, is-later-false, is-later-true, op-cases}
+use Rattle.sheet.proofs.Sheets.{no-tree}
 
 -- what is written is read
 

@@ -1,13 +1,13 @@
 -- The meaning of an expression byte (01, "The sheet", the list of expression bytes).
 -- Manual: "The sheet".
-use Prim.Native.Nat.{ℕ, _-_}
 use mathlib.Core.Bool.{Bool, true, false, cond, _&&_}
+use Prim.Native.Nat.{ℕ, _-_}
 use lib.Dec.{leb, eqb}
+use Rattle.refusal.specs.declared.Refusal.the-variants.{Byte}
 use Rattle.sheet.specs.declared.Offset.{Offset}
 use Rattle.sheet.specs.declared.Offset.the-variants.{Earlier, Now, Later}
 use Rattle.sheet.specs.declared.Op.{Op}
 use Rattle.sheet.specs.declared.Op.the-variants.{Const, Not, And, Or, Read, Rejected}
-use Rattle.refusal.specs.declared.Refusal.the-variants.{Byte}
 
 -- b lies in lo..hi, both ends counted
 abbrev pub within : ℕ → ℕ → ℕ → Bool

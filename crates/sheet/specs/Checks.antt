@@ -1,16 +1,16 @@
 -- The rules of a sheet one by one, each said of the whole sheet, in the order of 01, "What is turned down": 1 to 5; then output by
 -- output 6, byte by byte 7 before 8, 8 for the end; 9. Rule 10 is stated in the crate `circular`.
 -- Manual: "Refusals".
-use Prim.Native.Nat.{ℕ, zero, suc, _+_, _-_}
 use mathlib.Core.Bool.{Bool, true, false, not, _&&_, _||_}
 use mathlib.Core.Path.{_≡_}
 use mathlib.Core.List.{List, [], _∷_, _++_}
+use Prim.Native.Nat.{ℕ, zero, suc, _+_, _-_}
 use lib.ListN.{length, take, drop, getD}
 use lib.Dec.{leb, ltb, eqb}
-use Rattle.sheet.specs.Bytes.{opOf}
-use Rattle.sheet.specs.Header.{markOk, versionOf, countsOk}
 use Rattle.refusal.specs.declared.Refusal.{Refusal}
 use Rattle.refusal.specs.declared.Refusal.the-variants.{Short, Mark, Version, Counts, Assumption, Length, Byte, Values, Leftover}
+use Rattle.sheet.specs.Bytes.{opOf}
+use Rattle.sheet.specs.Header.{markOk, versionOf, countsOk}
 use Rattle.sheet.specs.declared.Op.{Op}
 use Rattle.sheet.specs.declared.Op.the-variants.{Const, Not, And, Or, Read, Rejected}
 

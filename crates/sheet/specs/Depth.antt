@@ -1,13 +1,13 @@
 -- For the contracts of private functions: the number of values on the stack after an operation, or the rule that it breaks. The code keeps
 -- no more of a stack of trees.
-use Prim.Native.Nat.{ℕ, _+_, _-_}
 use mathlib.Core.Bool.{cond}
+use Prim.Native.Nat.{ℕ, _+_, _-_}
 use lib.Dec.{ltb}
+use Rattle.refusal.specs.declared.Refusal.the-variants.{Byte, Values}
 use Rattle.sheet.specs.declared.Op.{Op}
 use Rattle.sheet.specs.declared.Op.the-variants.{Const, Not, And, Or, Read, Rejected}
 use Rattle.sheet.specs.declared.Depth.{Depth}
 use Rattle.sheet.specs.declared.Depth.the-variants.{Is, Refused}
-use Rattle.refusal.specs.declared.Refusal.the-variants.{Byte, Values}
 
 unfoldable pub depthAfter : ℕ → Op → ℕ → Depth
 depthAfter s (Const v) d = Is (d + 1)

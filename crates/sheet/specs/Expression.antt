@@ -1,18 +1,18 @@
 -- Expressions as trees, and how postfix bytes are read (01, "The sheet"): a stack of trees, on which each byte works; rules 7 and 8, byte by
 -- byte (01, "What is turned down").
 -- Manual: "The sheet".
-use Prim.Native.Nat.{ℕ}
 use mathlib.Core.Bool.{Bool, cond}
 use mathlib.Core.List.{List, [], _∷_}
+use Prim.Native.Nat.{ℕ}
 use lib.Dec.{ltb}
-use Rattle.sheet.specs.Bytes.{opOf}
-use Rattle.sheet.specs.declared.Offset.{Offset}
-use Rattle.sheet.specs.declared.Op.{Op}
-use Rattle.sheet.specs.declared.Op.the-variants.{Const, Not, And, Or, Read, Rejected}
 use Rattle.refusal.specs.declared.Refusal.{Refusal}
 use Rattle.refusal.specs.declared.Refusal.the-variants.{Byte, Values}
 use Rattle.refusal.specs.declared.Outcome.{Outcome}
 use Rattle.refusal.specs.declared.Outcome.the-variants.{Accepted, Refused}
+use Rattle.sheet.specs.Bytes.{opOf}
+use Rattle.sheet.specs.declared.Offset.{Offset}
+use Rattle.sheet.specs.declared.Op.{Op}
+use Rattle.sheet.specs.declared.Op.the-variants.{Const, Not, And, Or, Read, Rejected}
 
 pub data Expr : Type 0 where
   constant : Bool → Expr

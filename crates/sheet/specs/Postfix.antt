@@ -2,10 +2,10 @@
 -- read as a tree exactly if they are its writing and its reads are of the sheet's streams (the law `tree-exactly` of
 -- proofs/Postfixes.antt).
 -- Manual: "The sheet".
-use Prim.Native.Nat.{ℕ, _+_, _<_}
 use mathlib.Core.Path.{_≡_}
 use mathlib.Core.Bool.{Bool, true, false}
 use mathlib.Core.List.{List, [], _∷_, _++_}
+use Prim.Native.Nat.{ℕ, _+_, _<_}
 use Rattle.sheet.specs.Expression.{Expr, constant, negation, conjunction, disjunction, read}
 use Rattle.sheet.specs.declared.Offset.{Offset}
 use Rattle.sheet.specs.declared.Offset.the-variants.{Earlier, Now, Later}

@@ -1,14 +1,14 @@
 -- A rule sheet, and what reading a list of bytes as one gives: the sheet, or the first rule that is broken (01, "The sheet").
 -- Manual: "The sheet".
-use Prim.Native.Nat.{ℕ, zero, suc, _+_}
 use mathlib.Core.Bool.{Bool, cond, _&&_}
 use mathlib.Core.List.{List, [], _∷_, _++_}
+use Prim.Native.Nat.{ℕ, zero, suc, _+_}
 use lib.ListN.{length, take, drop}
 use lib.Dec.{leb}
-use Rattle.sheet.specs.Expression.{Expr, Parsed, tree, broken, parse}
-use Rattle.sheet.specs.Header.{headerOf}
 use Rattle.refusal.specs.declared.Refusal.{Refusal}
 use Rattle.refusal.specs.declared.Refusal.the-variants.{Length, Leftover}
+use Rattle.sheet.specs.Expression.{Expr, Parsed, tree, broken, parse}
+use Rattle.sheet.specs.Header.{headerOf}
 use Rattle.sheet.specs.declared.Assumed.{Assumed}
 use Rattle.sheet.specs.declared.Assumed.the-variants.{Nothing, Output}
 use Rattle.sheet.specs.declared.Header.{Header}

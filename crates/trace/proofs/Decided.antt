@@ -1,4 +1,4 @@
--- The checks of evaluation in their order. Assumes nothing.
+-- The checks of evaluation in their order.
 use mathlib.Core.Path.{_≡_, refl, sym, ap, subst}
 use mathlib.Core.Logic.{inl, inr}
 use mathlib.Core.Bool.{Bool, true, false, true≢false}

@@ -1,4 +1,4 @@
--- One bit of a byte turned over. Assumes nothing.
+-- One bit of a byte turned over.
 use mathlib.Core.Path.{_≡_, refl, sym, ap, ap₂, _∙_}
 use mathlib.Core.Logic.{_⊎_, inl, inr}
 use mathlib.Core.Bool.{Bool, true, false, not, Bool·beq, true≢false}
@@ -52,13 +52,13 @@ mask s h = let g : 2 ^ s < 2 ^ 8 = pow-lt h in omega arith
 pub bit-mask : (i s : ℕ) → s < 8 → bit i (1 * 2 ^ s % 2 ^ 8) ≡ eqb i s
 bit-mask i s h = ap (bit i) (mask s h ∙ sym (one-shl s (omega arith))) ∙ bit-shl i s (omega arith)
 
-pub bit-flipped : (s x : ℕ) → s < 8 → bit s (bitXor x (1 * 2 ^ s % 2 ^ 8)) ≡ not (bit s x)
+bit-flipped : (s x : ℕ) → s < 8 → bit s (bitXor x (1 * 2 ^ s % 2 ^ 8)) ≡ not (bit s x)
 bit-flipped s x h = bit-xor s x (1 * 2 ^ s % 2 ^ 8) ∙ ap (λ (b : Bool). other b (bit s x)) (bit-mask s s h ∙ eq-eqb s s refl)
 
-pub bit-kept : (k s x : ℕ) → s < 8 → (k ≡ s → ⊥) → bit k (bitXor x (1 * 2 ^ s % 2 ^ 8)) ≡ bit k x
+bit-kept : (k s x : ℕ) → s < 8 → (k ≡ s → ⊥) → bit k (bitXor x (1 * 2 ^ s % 2 ^ 8)) ≡ bit k x
 bit-kept k s x h n = bit-xor k x (1 * 2 ^ s % 2 ^ 8) ∙ ap (λ (b : Bool). other b (bit k x)) (bit-mask k s h ∙ ne-eqb k s n)
 
-pub flip-lt : (n s x : ℕ) → s < 8 → s < n → x < 2 ^ n → bitXor x (1 * 2 ^ s % 2 ^ 8) < 2 ^ n
+flip-lt : (n s x : ℕ) → s < 8 → s < n → x < 2 ^ n → bitXor x (1 * 2 ^ s % 2 ^ 8) < 2 ^ n
 flip-lt n s x h l b = let g : 2 ^ s < 2 ^ n = pow-lt l in xor-lt n x (1 * 2 ^ s % 2 ^ 8) b (omega (arith, mask s h))
 
 module _ (i s : ℕ) (v : Bool) (old : List ℕ) where

@@ -1,4 +1,4 @@
--- Leads that grow along reads. Assumes nothing.
+-- Leads that grow along reads.
 use mathlib.Core.Path.{_≡_, refl, sym, ap, _∙_}
 use mathlib.Core.Logic.{_⊎_, inl, inr, ⊎-elim}
 use mathlib.Core.Bool.{Bool, true, false, true≢false, _&&_, _||_}
@@ -14,8 +14,8 @@ use Rattle.words.specs.Bits.{digit, bit}
 use Rattle.words.proofs.BitLaws.{digit-zero, bit-none, bit-or}
 use Rattle.words.proofs.Bools.{and-split}
 use Rattle.circular.specs.Table.{readsOf}
-use Rattle.trace.proofs.Flips.{bit-mask}
 use Rattle.trace.specs.Order.{Bounded, toward, Farthest, Behind, BehindAll, Raised, Steady, Settled}
+use Rattle.trace.proofs.Flips.{bit-mask}
 
 -- the bits of a mask
 bit-0 : (mask : ℕ) → bit 0 mask ≡ true → mask % 2 ≡ 1

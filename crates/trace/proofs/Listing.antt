@@ -1,4 +1,4 @@
--- The order of a sweep, found entry by entry. Assumes nothing.
+-- The order of a sweep, found entry by entry.
 use mathlib.Core.Path.{_≡_, _∙_}
 use mathlib.Core.Logic.{_⊎_, ⊎-elim}
 use mathlib.Core.Bool.{Bool, true, false}

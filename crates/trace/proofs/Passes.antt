@@ -1,4 +1,4 @@
--- Passes put together from refreshed places. Assumes nothing.
+-- Passes put together from refreshed places.
 use mathlib.Core.Path.{_≡_, refl, sym, ap, _∙_, subst}
 use mathlib.Core.Logic.{_⊎_, inl, inr, ⊎-elim}
 use mathlib.Core.Bool.{Bool, false}

@@ -1,4 +1,4 @@
--- The reads of a round in one word. Assumes nothing.
+-- The reads of a round in one word.
 use mathlib.Core.Path.{_≡_, refl, ap, _∙_}
 use mathlib.Core.Bool.{Bool, true, false, cond, _&&_, and-false}
 use mathlib.Core.List.{List, []}
@@ -14,13 +14,13 @@ use Rattle.words.specs.Bits.{bit}
 use Rattle.words.proofs.BitLaws.{bit-none, bit-all, one-shl}
 use Rattle.words.proofs.JoinLaws.{bit-low, bit-above, bit-high-part, join-lt}
 use Rattle.sheet.specs.Expression.{Expr, tree, parse}
+use Rattle.sheet.specs.Reading.{codeAt}
 use Rattle.sheet.specs.declared.Offset.{Offset}
 use Rattle.sheet.specs.declared.Offset.the-variants.{Earlier, Now, Later}
 use Rattle.lola.specs.Value.{value}
-use Rattle.lola.proofs.ValueLaws.{value-of-bytes}
 use Rattle.lola.specs.Slots.{readNo, slots}
+use Rattle.lola.proofs.ValueLaws.{value-of-bytes}
 use Rattle.circular.specs.Places.{joint, lookAt, right}
-use Rattle.sheet.specs.Reading.{codeAt}
 use Rattle.trace.specs.Passes.{valuesOf, seen, treeIn, sides, Setting, RoundBytes, SeenRound, Environment}
 
 -- the bits of a round's valuation
@@ -114,7 +114,7 @@ environment-of m letters buf t c e l h g bc be bl =
     at q Later true k = third c e l (bc .small) (be .small) (40 + q) (8 + q) (omega arith) ∙ bl .high q k
 
 -- `1 << m`
-pub shifted-one : (m : ℕ) → m ≤ 8 → (1 * 2 ^ m % 2 ^ 64 ≡ 2 ^ m) × (2 ^ m ≤ 256)
+shifted-one : (m : ℕ) → m ≤ 8 → (1 * 2 ^ m % 2 ^ 64 ≡ 2 ^ m) × (2 ^ m ≤ 256)
 shifted-one m h = let g : 2 ^ m ≤ 2 ^ 8 = pow-mono {i = m} {j = 8} h in (one-shl m (omega arith), omega arith)
 
 module _ (m : ℕ) (h : m ≤ 8) (l o x y : ℕ) (el : x ≡ l) (eo : y ≡ o) (bl : l < 256) (bo : o < 256) where
@@ -128,7 +128,7 @@ module _ (m : ℕ) (h : m ≤ 8) (l o x y : ℕ) (el : x ≡ l) (eo : y ≡ o) (
 -- ---- the right side of one place
 
 -- the bytes of output s, as a part of the code
-pub part-code : (code len : List ℕ) (s : ℕ) → take (64 * s + getD len s 0 - 64 * s) (drop (64 * s) code) ≡ codeAt code len s
+part-code : (code len : List ℕ) (s : ℕ) → take (64 * s + getD len s 0 - 64 * s) (drop (64 * s) code) ≡ codeAt code len s
 part-code code len s = ap (λ (k : ℕ). take k (drop (64 * s) code)) (add-sub-cancel-left (64 * s) (getD len s 0))
 
 pub part-short : (code len : List ℕ) (s : ℕ) → getD len s 0 ≤ 64 → length (take (64 * s + getD len s 0 - 64 * s) (drop (64 * s) code)) ≤ 64

@@ -1,4 +1,4 @@
--- Passes until nothing changes. Assumes nothing.
+-- Passes until nothing changes.
 use mathlib.Core.Path.{_≡_, sym, subst}
 use mathlib.Core.Bool.{Bool, true, false}
 use mathlib.Core.List.{List}
@@ -9,8 +9,8 @@ use Rattle.circular.specs.Table.{readsOf}
 use Rattle.circular.specs.Places.{Assignment, Reads, Solves, Right}
 use Rattle.circular.proofs.Unique.{run, solution}
 use Rattle.circular.proofs.Sweep.{right-start, right-end, solves-of}
-use Rattle.trace.proofs.Passes.{kept-none, kept-then}
 use Rattle.trace.specs.Passes.{valuesOf, SameShape, Passed, Extends, Solved}
+use Rattle.trace.proofs.Passes.{kept-none, kept-then}
 
 -- k passes are done
 pub record Going (n N : ℕ) (f : Assignment → Assignment) (old new : List ℕ) (k : ℕ) : Type 0 where

@@ -1,4 +1,4 @@
--- Sweeps: places that are refreshed in the order of their keys are right, if those of settled outputs are. Assumes nothing.
+-- Sweeps: places that are refreshed in the order of their keys are right, if those of settled outputs are.
 use mathlib.Core.Path.{_≡_, refl, sym, ap, _∙_}
 use mathlib.Core.Logic.{_⊎_, inl, inr, ⊎-elim}
 use mathlib.Core.Bool.{Bool, true, false, true≢false}

@@ -1,4 +1,4 @@
--- From a buffer that solves the equations to a trace that satisfies them. Assumes nothing.
+-- From a buffer that solves the equations to a trace that satisfies them.
 use mathlib.Core.Path.{_≡_, sym, ap, _∙_, subst, fun-ext}
 use mathlib.Core.Bool.{false}
 use mathlib.Core.List.{List, [], _∷_, _++_}
@@ -8,10 +8,10 @@ use native.Mathlib.Omega.{arith}
 use lib.ListN.{length, getD, take, drop, length-take, length-drop, length-append, List·getD-append}
 use lib.Seq.{take-at, drop-at}
 use lib.Pow.{pow-pos}
-use Rattle.words.specs.Bits.{bit}
-use Rattle.sheet.specs.Expression.{constant}
 use Rattle.refusal.specs.declared.Outcome.{Outcome}
 use Rattle.refusal.specs.declared.Outcome.the-variants.{Accepted, Refused}
+use Rattle.words.specs.Bits.{bit}
+use Rattle.sheet.specs.Expression.{constant}
 use Rattle.sheet.specs.RuleSheet.{RuleSheet, outputs, accepted, readSheet}
 use Rattle.sheet.specs.Reading.{ruleSheet, Usable}
 use Rattle.sheet.specs.declared.Sheet.{Sheet}
@@ -64,7 +64,7 @@ module _ (x : Sheet) (u : Usable x) (letters : List ℕ) where
   formed : Formed (ruleSheet x)
   formed = usable-formed x u
 
-  pub side-reads : Reads n (edges (ruleSheet x)) (length letters) f
+  side-reads : Reads n (edges (ruleSheet x)) (length letters) f
   side-reads =
       let r : Reads n (edges (ruleSheet x)) (length letters) g =
       subst (λ (k : ℕ). Reads k (edges (ruleSheet x)) (length letters) g) count (right-reads (ruleSheet x) formed (length letters) (inputsBy letters))
@@ -108,10 +108,10 @@ module _ (x : Sheet) (u : Usable x) (letters : List ℕ) where
       in
       subst (λ (k : ℕ). Solves k (length letters) g (outputsBy 0 os)) (sym count) a
 
-  pub bytes-lt : (b : ℕ) → b < 2 ^ n → b < 2 ^ outputs (ruleSheet x)
+  bytes-lt : (b : ℕ) → b < 2 ^ n → b < 2 ^ outputs (ruleSheet x)
   bytes-lt b h = rw count h
 
-  pub trace-of : (os : List ℕ) → length os ≡ length letters → ((i : ℕ) → i < length letters → getD letters i 0 < 2 ^ x .inputs)
+  trace-of : (os : List ℕ) → length os ≡ length letters → ((i : ℕ) → i < length letters → getD letters i 0 < 2 ^ x .inputs)
       → ((i : ℕ) → i < length os → getD os i 0 < 2 ^ n) → Solves n (length letters) f (valuesOf os)
       → Satisfies (ruleSheet x) none (joined (x .inputs) letters os)
   trace-of os e b c h =
@@ -125,10 +125,10 @@ pub part-length : (N : ℕ) (l : List ℕ) → N ≤ length l → N ≡ length (
 part-length N l h = simp length-take (omega arith)
 
 module _ (N : ℕ) (out c : List ℕ) (h : N ≤ length out) (e : length c ≡ length (take N out)) where
-  pub cleared-length : length c ≡ N
+  cleared-length : length c ≡ N
   cleared-length = e ∙ sym (part-length N out h)
 
-  pub cleared-part : take N (c ++ drop N out) ≡ c
+  cleared-part : take N (c ++ drop N out) ≡ c
   cleared-part = take-at c (drop N out) N cleared-length
 
   cleared-rest : drop N (c ++ drop N out) ≡ drop N out

@@ -13,11 +13,11 @@ use Rattle.sheet.specs.Reading.{treeOf, codeAt}
 use Rattle.sheet.specs.RuleSheet.{RuleSheet}
 use Rattle.sheet.specs.declared.Offset.{Offset}
 use Rattle.lola.specs.Slots.{slots}
-use Rattle.trace.specs.Evaluated.{OutputsWritten}
-use Rattle.trace.specs.Order.{Steady}
 use Rattle.circular.specs.Table.{readsOf}
 use Rattle.circular.specs.Circular.{Circular}
 use Rattle.circular.specs.Places.{Assignment, joint, lookAt, right, Place, Reads, Solves, RightAt, Right}
+use Rattle.trace.specs.Evaluated.{OutputsWritten}
+use Rattle.trace.specs.Order.{Steady}
 
 -- bit s of the byte of round t
 unfoldable pub valuesOf : List ℕ → Assignment

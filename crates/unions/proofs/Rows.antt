@@ -5,12 +5,12 @@ use mathlib.Core.List.{List, []}
 use Prim.Native.Nat.{ℕ, _+_, _-_, _*_, _/_, _%_, _^_, _≤_, _<_}
 use native.Mathlib.Omega.{arith}
 use native.Mathlib.Decide.{ℕ-discrete}
-use borrow.Author.Tests.{eq-eqb, lt-ltb}
 use lib.Bits.{bitAnd}
 use lib.Dec.{ltb}
 use lib.ListN.{length, getD, set, length-set}
 use lib.Pow.{pow-pos, pow-mono, pow-lt}
 use lib.Seq.{getD-set-other}
+use borrow.Author.Tests.{eq-eqb, lt-ltb}
 use Rattle.words.specs.Bits.{bit}
 use Rattle.words.proofs.BitLaws.{bit-and, bit-not, bit-none, one-shl, bit-shl}
 use Rattle.words.proofs.ListLaws.{set-more}
@@ -20,9 +20,9 @@ use Rattle.sheet.specs.declared.OutputNo.{OutputNo}
 use Rattle.sheet.specs.declared.Assumed.{Assumed}
 use Rattle.sheet.specs.declared.Assumed.the-variants.{Nothing, Output}
 use Rattle.sheet.proofs.Sheets.{length-trees}
-use Rattle.lanes.specs.Coded.{sheetOf}
 use Rattle.completions.specs.Live.{allowed, allTrue}
 use Rattle.pairs.specs.Changes.{rowBit}
+use Rattle.lanes.specs.Coded.{sheetOf}
 use Rattle.unions.specs.Rows.{Row, United}
 
 -- the number of valuations, as the code has it
@@ -32,17 +32,17 @@ two-to k h = (one-shl k (omega arith), pow-pos k, pow-mono h)
 -- ---- allowed valuations, by the bits that the code looks at
 
 module _ (m n : ℕ) (code len : List ℕ) where
-  pub streams-are : (ks : List ℕ) → m + length (sheetOf m n code len ks .expressions) ≡ m + n
+  streams-are : (ks : List ℕ) → m + length (sheetOf m n code len ks .expressions) ≡ m + n
   streams-are ks = ap (λ (k : ℕ). m + k) (length-trees (m + n) code len n)
 
   pub streams-low : (ks : List ℕ) (k : ℕ) → 2 ^ (m + n) ≤ k → 2 ^ (m + length (sheetOf m n code len ks .expressions)) ≤ k
   streams-low ks k h = rw (streams-are ks) h
 
-  pub allowed-free : (a : ℕ) → ltb a (2 ^ (m + n)) ≡ allowed (sheetOf m n code len (requiredOf Nothing)) a
+  allowed-free : (a : ℕ) → ltb a (2 ^ (m + n)) ≡ allowed (sheetOf m n code len (requiredOf Nothing)) a
   unfolding allowed allTrue
   allowed-free a = sym (and-true (ltb a (2 ^ (m + length (sheetOf m n code len [] .expressions)))) ∙ ap (λ (k : ℕ). ltb a (2 ^ k)) (streams-are []))
 
-  pub allowed-output : (k : OutputNo) (a : ℕ) → (ltb a (2 ^ (m + n)) && bit (m + k .0) a) ≡ allowed (sheetOf m n code len (requiredOf (Output k))) a
+  allowed-output : (k : OutputNo) (a : ℕ) → (ltb a (2 ^ (m + n)) && bit (m + k .0) a) ≡ allowed (sheetOf m n code len (requiredOf (Output k))) a
   unfolding allowed allTrue
   allowed-output k a =
       sym (ap₂ (λ (i : ℕ) (u : Bool). ltb a (2 ^ i) && u) (streams-are (requiredOf (Output k))) (and-true (bit (m + k .0) a)))
@@ -112,7 +112,7 @@ row-lane row j i h =
 
 -- ---- a row that covers another
 
-pub covered-word : (x y i : ℕ) → i < 64 → y < 2 ^ 64 → bitAnd x ((2 ^ 64 - 1) - y) ≡ 0 → (bit i x && not (bit i y)) ≡ false
+covered-word : (x y i : ℕ) → i < 64 → y < 2 ^ 64 → bitAnd x ((2 ^ 64 - 1) - y) ≡ 0 → (bit i x && not (bit i y)) ≡ false
 covered-word x y i h fit e = ap (λ (u : Bool). bit i x && u) (sym (bit-not 64 i y h fit)) ∙ sym (bit-and i x ((2 ^ 64 - 1) - y)) ∙ ap (bit i) e ∙ bit-none i
 
 abbrev pub Covering : List ℕ → List ℕ → ℕ → Type 0

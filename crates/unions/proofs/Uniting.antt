@@ -7,8 +7,8 @@ use Prim.Native.Nat.{ℕ, _+_, _*_, _/_, _%_, _≤_, _<_}
 use native.Mathlib.Omega.{arith}
 use lib.ListN.{replicate}
 use Rattle.words.specs.Bits.{bit}
-use Rattle.words.proofs.BitLaws.{bit-none}
 use Rattle.words.specs.Below.{anyBelow}
+use Rattle.words.proofs.BitLaws.{bit-none}
 use Rattle.words.proofs.AnyLaws.{any-one}
 use Rattle.words.proofs.ListLaws.{zeros}
 use Rattle.sheet.specs.RuleSheet.{RuleSheet}
@@ -23,7 +23,7 @@ use Rattle.unions.specs.Rows.{meets, Row, United}
 
 -- ---- unions
 
-pub united-none : (w : ℕ) (s : List ℕ) (f : ℕ → Bool) → ((a : ℕ) → a < 64 * w → f a ≡ false) → United w s s f
+united-none : (w : ℕ) (s : List ℕ) (f : ℕ → Bool) → ((a : ℕ) → a < 64 * w → f a ≡ false) → United w s s f
 united-none w s f h = record { same-length = refl; gains = λ a l. sym (ap (λ (u : Bool). rowBit s 0 a || u) (h a l) ∙ or-false (rowBit s 0 a)) }
 
 -- what is there already
@@ -38,7 +38,7 @@ united-old w s o f h = record { same-length = refl; gains = λ a l. go (rowBit s
         false-all {u} e = absurd (true≢false cc)
     go false false f g = refl
 
-pub united-then : (w : ℕ) (s t u : List ℕ) (f g h : ℕ → Bool) → United w s t f → United w t u g → ((a : ℕ) → a < 64 * w → (f a || g a) ≡ h a) → United w s u h
+united-then : (w : ℕ) (s t u : List ℕ) (f g h : ℕ → Bool) → United w s t f → United w t u g → ((a : ℕ) → a < 64 * w → (f a || g a) ≡ h a) → United w s u h
 united-then w s t u f g h p q e = record {
   same-length = q .same-length ∙ p .same-length;
   gains = λ a l. q .gains a l ∙ ap (λ (v : Bool). v || g a) (p .gains a l) ∙ or-assoc (rowBit s 0 a) (f a) (g a) ∙ ap (λ (v : Bool). rowBit s 0 a || v) (e a l);

@@ -1,4 +1,4 @@
--- Valuations as the bits of words, and the verdicts read off them. Assumes nothing.
+-- Valuations as the bits of words, and the verdicts read off them.
 use mathlib.Core.Path.{_≡_, refl, sym, ap, ap₂, _∙_, subst}
 use mathlib.Core.Bool.{Bool, true, false, not, _&&_, _||_, Bool·beq, and-true, and-false, or-false, and-assoc, and-comm, true≢false}
 use mathlib.Core.List.{List}
@@ -6,12 +6,14 @@ use mathlib.Core.Option.{Option, none, some}
 use Prim.Native.Nat.{ℕ, _+_, _-_, _*_, _/_, _%_, _^_, _≤_, _<_}
 use native.Mathlib.Omega.{arith}
 use native.Mathlib.Decide.{ℕ-discrete, decLt}
-use borrow.Author.Tests.{le-ltb, lt-ltb, ltb-true, eq-eqb, ne-eqb}
 use lib.Dec.{eqb, ltb}
 use lib.Count.{trailingZeros}
 use lib.Bits.{bitAnd, bitOr, and-lt}
 use lib.ListN.{length, getD, set, length-set, replicate}
 use lib.Seq.{getD-set-other}
+use borrow.Author.Tests.{le-ltb, lt-ltb, ltb-true, eq-eqb, ne-eqb}
+use Rattle.refusal.specs.Numbers.{verdictNo, Verdicts}
+use Rattle.refusal.specs.declared.Verdict.{Verdict}
 use Rattle.words.specs.Bits.{bit}
 use Rattle.words.specs.Below.{anyBelow}
 use Rattle.words.proofs.BitLaws.{bit-and, bit-or, bit-shl, bit-none, Lowest, lowest, without, lane-off, lane-less}
@@ -19,16 +21,14 @@ use Rattle.words.proofs.AnyLaws.{any-cong, any-add, any-groups, any-word, none-
 use Rattle.words.proofs.LaneLaws.{beq-true, beq-false}
 use Rattle.words.proofs.Bools.{iff, and-split}
 use Rattle.words.proofs.ListLaws.{zeros, set-more}
-use Rattle.refusal.specs.declared.Verdict.{Verdict}
-use Rattle.refusal.specs.Numbers.{verdictNo, Verdicts}
 use Rattle.completions.specs.Live.{Pairs}
 use Rattle.completions.specs.Steps.{anyNext, anyPair, verdictOf, pairsVerdict, endsVerdict}
 use Rattle.pairs.specs.Storage.{stored}
 use Rattle.pairs.specs.Changes.{rowBit}
 use Rattle.pairs.proofs.Sets.{lane-end}
 use Rattle.rounds.specs.Rows.{among, Wide}
-use Rattle.verdicts.specs.Firsts.{Passing, Words, shows}
 use Rattle.rounds.proofs.WordLaws.{heard-lane}
+use Rattle.verdicts.specs.Firsts.{Passing, Words, shows}
 
 -- ---- whether a row has a member
 
@@ -201,10 +201,10 @@ module _ (w : ℕ) (f : List ℕ) (v q : ℕ) (P : ℕ → Bool) (hv : v ≤ 64 
       any-cong (64 * w) _ (λ b. ltb b v && (P b && Bool·beq (bit q b) u)) (λ b h. ap (λ (t : Bool). t && Bool·beq (bit q b) u) (words .bits b h) ∙ and-assoc (ltb b v) (P b) (Bool·beq (bit q b) u))
       ∙ any-below v (64 * w) (λ b. P b && Bool·beq (bit q b) u) hv
 
-  pub shows-true : shows w f q true ≡ anyBelow v (λ b. P b && bit q b)
+  shows-true : shows w f q true ≡ anyBelow v (λ b. P b && bit q b)
   shows-true = shows-is true ∙ any-cong v _ _ (λ b h. ap (λ (u : Bool). P b && u) (sym (beq-true (bit q b))))
 
-  pub shows-false : shows w f q false ≡ anyBelow v (λ b. P b && not (bit q b))
+  shows-false : shows w f q false ≡ anyBelow v (λ b. P b && not (bit q b))
   shows-false = shows-is false ∙ any-cong v _ _ (λ b h. ap (λ (u : Bool). P b && u) (sym (beq-false (bit q b))))
 
 next-and : (w : ℕ) (f : Option ℕ → Bool) (k : Bool) → (anyNext w f && k) ≡ anyNext w (λ c. f c && k)

@@ -1,4 +1,4 @@
--- Laws of a word's digits and bits. Assumes nothing.
+-- Laws of a word's digits and bits.
 use mathlib.Core.Path.{_≡_, refl, sym, ap, ap₂, _∙_}
 use mathlib.Core.Logic.{_⊎_, inl, inr, ⊎-elim}
 use mathlib.Core.Bool.{Bool, true, false, not, _&&_, _||_, and-false, true≢false}
@@ -6,17 +6,17 @@ use Prim.Native.Nat.{ℕ, zero, suc, _+_, _-_, _*_, _/_, _%_, _^_, _≤_, _<_, m
 use native.Mathlib.Nat.{div-eq-of-lt, div-div-eq-div-mul, pow-suc, mul-comm, zero-div, div-one}
 use native.Mathlib.Omega.{arith}
 use native.Mathlib.Decide.{ℕ-discrete}
-use borrow.Author.Tests.{eq-eqb, ne-eqb}
 use lib.Dec.{eqb}
 use lib.Bits.{bitAnd, bitOr, and-le-l, and-shr, or-shr, and-step, or-step}
 use lib.Pow.{pow-lt, pow-pos, pow-mono, shr-shr}
 use lib.Count.{trailingZeros, under}
+use borrow.Author.Tests.{eq-eqb, ne-eqb}
 use Rattle.words.specs.Bits.{digit, bit}
 use Rattle.words.specs.Below.{one}
 
 -- ---- digits
 
-pub digit-lt : (i w : ℕ) → digit i w < 2
+digit-lt : (i w : ℕ) → digit i w < 2
 unfolding digit
 digit-lt i w = omega arith
 
@@ -30,11 +30,11 @@ unfolding digit
 digit-suc i w =
     ap (λ (x : ℕ). w / x % 2) (pow-suc 2 i ∙ mul-comm (2 ^ i) 2) ∙ ap (λ (x : ℕ). x % 2) (sym (div-div-eq-div-mul w 2 (2 ^ i)))
 
-pub digit-and : (i x y : ℕ) → digit i (bitAnd x y) ≡ min (digit i x) (digit i y)
+digit-and : (i x y : ℕ) → digit i (bitAnd x y) ≡ min (digit i x) (digit i y)
 unfolding digit
 digit-and i x y = ap (λ (z : ℕ). z % 2) (and-shr x y i) ∙ omega (arith, and-step (x / 2 ^ i) (y / 2 ^ i))
 
-pub digit-or : (i x y : ℕ) → digit i (bitOr x y) ≡ max (digit i x) (digit i y)
+digit-or : (i x y : ℕ) → digit i (bitOr x y) ≡ max (digit i x) (digit i y)
 unfolding digit
 digit-or i x y = ap (λ (z : ℕ). z % 2) (or-shr x y i) ∙ omega (arith, or-step (x / 2 ^ i) (y / 2 ^ i))
 
@@ -43,7 +43,7 @@ unfolding digit
 digit-none i = ap (λ (x : ℕ). x % 2) (zero-div (2 ^ i))
 
 -- the complement in k digits
-pub digit-not : (k i x : ℕ) → i < k → x < 2 ^ k → digit i ((2 ^ k - 1) - x) ≡ 1 - digit i x
+digit-not : (k i x : ℕ) → i < k → x < 2 ^ k → digit i ((2 ^ k - 1) - x) ≡ 1 - digit i x
 digit-not zero i x h l = omega arith
 digit-not (suc k) zero x h l = omega (arith, digit-zero ((2 ^ suc k - 1) - x), digit-zero x)
 digit-not (suc k) (suc i) x h l =
@@ -67,7 +67,7 @@ digit-pow-other (suc i) (suc k) h =
     digit-suc i (2 ^ suc k) ∙ ap (digit i) half ∙ digit-pow-other i k (λ e. h (ap suc e))
 
 -- a number of k digits is known by them
-pub digits-ext : (k x y : ℕ) → x < 2 ^ k → y < 2 ^ k → ((i : ℕ) → i < k → digit i x ≡ digit i y) → x ≡ y
+digits-ext : (k x y : ℕ) → x < 2 ^ k → y < 2 ^ k → ((i : ℕ) → i < k → digit i x ≡ digit i y) → x ≡ y
 digits-ext zero x y h l e = omega arith
 digits-ext (suc k) x y h l e =
     let low : x % 2 ≡ y % 2 = sym (digit-zero x) ∙ e 0 (omega arith) ∙ digit-zero y in
@@ -79,15 +79,15 @@ digits-ext (suc k) x y h l e =
 -- ---- bits
 
 -- the bit from the digit, and back
-pub bit-set : (i w : ℕ) → digit i w ≡ 1 → bit i w ≡ true
+bit-set : (i w : ℕ) → digit i w ≡ 1 → bit i w ≡ true
 unfolding bit
 bit-set i w e = ap (λ (x : ℕ). eqb x 1) e
 
-pub bit-clear : (i w : ℕ) → digit i w ≡ 0 → bit i w ≡ false
+bit-clear : (i w : ℕ) → digit i w ≡ 0 → bit i w ≡ false
 unfolding bit
 bit-clear i w e = ap (λ (x : ℕ). eqb x 1) e
 
-pub binary : (i w : ℕ) → (digit i w ≡ 0) ⊎ (digit i w ≡ 1)
+binary : (i w : ℕ) → (digit i w ≡ 0) ⊎ (digit i w ≡ 1)
 binary i w = go (digit i w) refl
   where
     go : (d : ℕ) → digit i w ≡ d → (digit i w ≡ 0) ⊎ (digit i w ≡ 1)
@@ -177,7 +177,7 @@ pub record Lowest (k w t : ℕ) : Type 0 where
 bit-zero-is : (w : ℕ) → w % 2 ≡ 1 → bit 0 w ≡ true
 bit-zero-is w e = bit-set 0 w (digit-zero w ∙ e)
 
-pub bit-suc : (i w : ℕ) → bit (suc i) w ≡ bit i (w / 2)
+bit-suc : (i w : ℕ) → bit (suc i) w ≡ bit i (w / 2)
 unfolding bit
 bit-suc i w = ap (λ (x : ℕ). eqb x 1) (digit-suc i w)
 

@@ -1,5 +1,5 @@
 -- Tests as equations: what follows from a conjunction, a disjunction or a comparison of tests, and what makes one true. Those that rewrite
--- one test into another are the library's. Assumes nothing.
+-- one test into another are the library's.
 use mathlib.Core.Path.{_≡_, refl, sym, _∙_}
 use mathlib.Core.Bool.{Bool, true, false, _&&_, _||_, Bool·beq, true≢false, false≢true}
 

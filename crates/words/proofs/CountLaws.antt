@@ -1,4 +1,4 @@
--- Laws of sums below a bound, and of counts of the numbers that pass a test. Assumes nothing.
+-- Laws of sums below a bound, and of counts of the numbers that pass a test.
 use mathlib.Core.Path.{_≡_, refl, sym, ap, ap₂, _∙_}
 use mathlib.Core.Bool.{Bool, true, false, not}
 use mathlib.Core.Logic.{_⊎_, inl, inr}
@@ -23,7 +23,7 @@ unfolding sumBelow
 sum-one n f = rw (add-one n)
 
 -- the lowest term first
-pub sum-low : (n : ℕ) (f : ℕ → ℕ) → sumBelow (suc n) f ≡ f 0 + sumBelow n (λ i. f (suc i))
+sum-low : (n : ℕ) (f : ℕ → ℕ) → sumBelow (suc n) f ≡ f 0 + sumBelow n (λ i. f (suc i))
 unfolding sumBelow
 sum-low zero f = refl
 sum-low (suc n) f = omega (arith, sum-low n f)
@@ -66,7 +66,7 @@ unfolding sumBelow
 sum-nothing zero g h = refl
 sum-nothing (suc n) g h = omega (arith, h n (omega arith), sum-nothing n g (λ i k. h i (omega arith)))
 
-pub sum-plus : (m : ℕ) (f g : ℕ → ℕ) → sumBelow m (λ a. f a + g a) ≡ sumBelow m f + sumBelow m g
+sum-plus : (m : ℕ) (f g : ℕ → ℕ) → sumBelow m (λ a. f a + g a) ≡ sumBelow m f + sumBelow m g
 unfolding sumBelow
 sum-plus zero f g = refl
 sum-plus (suc m) f g = omega (arith, sum-plus m f g)

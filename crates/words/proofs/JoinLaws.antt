@@ -1,4 +1,4 @@
--- Two numbers side by side: l in the low m bits, o above them. Assumes nothing.
+-- Two numbers side by side: l in the low m bits, o above them.
 use mathlib.Core.Path.{_≡_, sym, ap, _∙_}
 use Prim.Native.Nat.{ℕ, zero, suc, _+_, _-_, _*_, _/_, _%_, _^_, _≤_, _<_}
 use native.Mathlib.Nat.{div-eq-of-lt, mod-lt, mod-eq-of-lt, div-add-mod, add-mul-div-left, add-mul-mod-self-left, mul-le-mul-left, mul-comm, mul-assoc, pow-suc}
@@ -25,7 +25,7 @@ pub bit-low : (m q l o : ℕ) → q < m → l < 2 ^ m → bit q (l + 2 ^ m * o) 
 unfolding bit
 bit-low m q l o h b = ap (λ (d : ℕ). eqb d 1) (digit-low m q l o h b)
 
-pub join-div : (m l o : ℕ) → l < 2 ^ m → (l + 2 ^ m * o) / 2 ^ m ≡ o
+join-div : (m l o : ℕ) → l < 2 ^ m → (l + 2 ^ m * o) / 2 ^ m ≡ o
 join-div m l o b = add-mul-div-left l o (pow-pos m) ∙ ap (λ (z : ℕ). z + o) (div-eq-of-lt b) ∙ omega arith
 
 pub join-mod : (m l o : ℕ) → l < 2 ^ m → (l + 2 ^ m * o) % 2 ^ m ≡ l
@@ -40,10 +40,10 @@ bit-high-part m q l o h b =
     ap (λ (z : ℕ). bit z (l + 2 ^ m * o)) e ∙ bit-above m (q - m) l o b
 
 -- every number is joined from its parts
-pub join-parts : (m v : ℕ) → v % 2 ^ m + 2 ^ m * (v / 2 ^ m) ≡ v
+join-parts : (m v : ℕ) → v % 2 ^ m + 2 ^ m * (v / 2 ^ m) ≡ v
 join-parts m v = omega (arith, div-add-mod v (2 ^ m))
 
-pub low-lt : (m v : ℕ) → v % 2 ^ m < 2 ^ m
+low-lt : (m v : ℕ) → v % 2 ^ m < 2 ^ m
 low-lt m v = mod-lt v (pow-pos m)
 
 pub join-lt : (m n l o : ℕ) → l < 2 ^ m → o < 2 ^ n → l + 2 ^ m * o < 2 ^ (m + n)

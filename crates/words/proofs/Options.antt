@@ -1,4 +1,4 @@
--- An entry that is there, and one that isn't. Assumes nothing.
+-- An entry that is there, and one that isn't.
 use mathlib.Core.Path.{_≡_}
 use mathlib.Core.Bool.{true≢false}
 use mathlib.Core.Option.{none, some}

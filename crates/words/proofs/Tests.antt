@@ -1,4 +1,4 @@
--- Tests as facts: conjunction, disjunction, negation. Assumes nothing.
+-- Tests as facts: conjunction, disjunction, negation.
 use mathlib.Core.Bool.{Bool, true, false, not, _&&_, _||_, false≢true}
 use mathlib.Core.Logic.{_⊎_, inl, inr}
 use mathlib.Core.Path.{_≡_, refl, sym}
@@ -36,10 +36,6 @@ either false = inr tt
 pub not-both : (b : Bool) → T b → T (not b) → ⊥
 not-both true x y = y
 not-both false x y = x
-
-pub not-fails : (b : Bool) → (T b → ⊥) → T (not b)
-not-fails true f = f tt
-not-fails false f = tt
 
 pub true-of : (b : Bool) → T b → b ≡ true
 true-of true t = refl

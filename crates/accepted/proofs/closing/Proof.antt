@@ -1,7 +1,8 @@
+-- `accepted::closing` meets its contract.
 use mathlib.Core.Path.{refl}
+use borrow.Author.Needs.{needs}
 use denote.Ref.{now}
 use Rattle.accepted.proofs.Done.{closing-done}
-use borrow.Author.Needs.{needs}
 use Rattle.accepted.proofs.closing.Statement.{statement}
 use Rattle.accepted.proofs.closing.Tie as tie
 use Rattle.accepted.proofs.closing.Reads as reads

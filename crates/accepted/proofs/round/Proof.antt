@@ -1,8 +1,9 @@
+-- `accepted::round` meets its contract.
 use mathlib.Core.Path.{refl}
+use borrow.Author.Needs.{needs}
 use denote.Ref.{now}
 use Rattle.sheet.specs.RuleSheet.{requiredOf}
 use Rattle.accepted.proofs.Done.{verdicts-small, heard-firsts, round-done}
-use borrow.Author.Needs.{needs}
 use Rattle.accepted.proofs.round.Statement.{statement}
 use Rattle.accepted.proofs.round.Tie as tie
 

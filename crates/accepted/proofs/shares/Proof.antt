@@ -1,7 +1,8 @@
-use Prim.Native.Nat.{ℕ, _+_, _*_, _-_, _≤_}
+-- `accepted::shares` meets its contract.
 use mathlib.Core.Path.{_≡_, _∙_, ap}
-use lib.ListN.{getD}
+use Prim.Native.Nat.{ℕ, _+_, _*_, _-_, _≤_}
 use native.Mathlib.Omega.{arith}
+use lib.ListN.{getD}
 use Rattle.record.specs.Record.{share}
 use Rattle.record.proofs.Tallies.{record-is}
 use Rattle.accepted.proofs.Sharing.{SharesTo, shares-none, shares-more, shares-all}

@@ -1,14 +1,15 @@
-use Prim.Native.Nat.{_+_, _^_}
+-- `accepted::step` meets its contract.
 use mathlib.Core.Path.{sym, subst}
+use Prim.Native.Nat.{_+_, _^_}
+use borrow.Author.Needs.{needs}
 use denote.Ref.{now}
-use Rattle.lanes.specs.Coded.{sheetOf}
 use Rattle.completions.specs.Live.{Pairs}
 use Rattle.pairs.specs.Storage.{stored}
+use Rattle.lanes.specs.Coded.{sheetOf}
 use Rattle.rounds.specs.Rows.{among}
 use Rattle.rounds.specs.Round.{Rounded}
 use Rattle.accepted.proofs.Rounding.{next-first}
 use Rattle.accepted.proofs.Done.{later-step}
-use borrow.Author.Needs.{needs}
 use Rattle.accepted.proofs.step.Statement.{statement}
 use Rattle.accepted.proofs.step.Tie as tie
 

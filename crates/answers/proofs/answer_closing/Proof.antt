@@ -1,7 +1,8 @@
+-- `answers::answer_closing` meets its contract.
+use borrow.Author.Needs.{needs}
 use denote.Ref.{now}
 use Rattle.sheet.specs.Reading.{ruleSheet}
 use Rattle.answers.proofs.Serving.{serves-step, closing-step, closing-kept}
-use borrow.Author.Needs.{needs}
 use Rattle.answers.proofs.answer_closing.Statement.{statement}
 use Rattle.answers.proofs.answer_closing.Tie as tie
 use Rattle.answers.proofs.answer_closing.Reads as reads

@@ -1,8 +1,9 @@
+-- `answers::answer_round` meets its contract.
+use borrow.Author.Needs.{needs}
 use denote.Ref.{now}
 use Rattle.sheet.specs.Reading.{ruleSheet}
 use Rattle.claims.specs.ReadSheet.{RoundRead}
 use Rattle.answers.proofs.Serving.{serves-step, round-step, round-kept, after-form}
-use borrow.Author.Needs.{needs}
 use Rattle.answers.proofs.answer_round.Statement.{statement}
 use Rattle.answers.proofs.answer_round.Tie as tie
 use Rattle.answers.proofs.answer_round.Reads as reads

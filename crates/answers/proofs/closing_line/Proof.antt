@@ -1,8 +1,9 @@
+-- `answers::closing_line` meets its contract.
 use mathlib.Core.Path.{refl, sym}
 use native.Mathlib.Omega.{arith}
+use borrow.Author.Needs.{needs}
 use Rattle.accepted.proofs.Rounding.{sheet-outputs}
 use Rattle.answers.proofs.LineEnds.{refused-ends, closing-ends, room-least, over-bound}
-use borrow.Author.Needs.{needs}
 use Rattle.answers.proofs.closing_line.Statement.{statement}
 use Rattle.answers.proofs.closing_line.Tie as tie
 use Rattle.answers.proofs.closing_line.Reads as reads

@@ -1,9 +1,10 @@
+-- `answers::line_end` meets its contract.
 use mathlib.Core.Path.{refl}
 use native.Mathlib.Omega.{arith}
+use borrow.Author.Needs.{needs}
 use Rattle.text.proofs.WroteLaws.{wrote-none}
 use Rattle.pending.proofs.Standing.{scanned-blank, scanned-dot, scanned-round, scanned-short, scanned-spoiled}
 use Rattle.answers.proofs.LineEnds.{malformed-ends, blank-ends, room-least, over-bound}
-use borrow.Author.Needs.{needs}
 use Rattle.answers.proofs.line_end.Statement.{statement}
 use Rattle.answers.proofs.line_end.Tie as tie
 use Rattle.answers.proofs.line_end.Reads as reads

@@ -1,3 +1,4 @@
+-- `answers::malformed_line` meets its contract.
 use borrow.Author.Needs.{needs}
 use Rattle.answers.proofs.malformed_line.Statement.{statement}
 use Rattle.answers.proofs.malformed_line.Tie as tie

@@ -1,7 +1,8 @@
+-- `answers::round_line` meets its contract.
 use mathlib.Core.Path.{refl}
 use native.Mathlib.Omega.{arith}
-use Rattle.answers.proofs.LineEnds.{refused-ends, round-ends, room-least, over-bound}
 use borrow.Author.Needs.{needs}
+use Rattle.answers.proofs.LineEnds.{refused-ends, round-ends, room-least, over-bound}
 use Rattle.answers.proofs.round_line.Statement.{statement}
 use Rattle.answers.proofs.round_line.Tie as tie
 use Rattle.answers.proofs.round_line.Reads as reads

@@ -1,13 +1,13 @@
+-- `checks::check_closing` meets its contract.
 use mathlib.Core.Path.{sym, _∙_}
 use mathlib.Core.List.{[], _∷_}
 use native.Mathlib.Omega.{arith}
 use borrow.Author.Tests.{not-true, not-false}
+use borrow.Author.Needs.{needs}
 use Rattle.refusal.specs.declared.Outcome.the-variants.{Accepted, Refused}
 use Rattle.refusal.specs.declared.Refusal.the-variants.{Closed, NoRound, Record}
 use Rattle.checks.specs.Checks.{given, tallies, closed, noRound}
-use Rattle.checks.proofs.Checking.{nonzero}
-use Rattle.checks.proofs.Checking.{short-storage, past-storage, wrong-record, past-record, is-closed, past-closed, no-round, some-round}
-use borrow.Author.Needs.{needs}
+use Rattle.checks.proofs.Checking.{nonzero, short-storage, past-storage, wrong-record, past-record, is-closed, past-closed, no-round, some-round}
 use Rattle.checks.proofs.check_closing.Statement.{statement}
 use Rattle.checks.proofs.check_closing.Tie as tie
 use Rattle.checks.proofs.check_closing.Reads as reads

@@ -1,12 +1,13 @@
+-- `checks::check_round` meets its contract.
 use mathlib.Core.Path.{sym, _∙_}
 use mathlib.Core.List.{[], _∷_}
 use native.Mathlib.Omega.{arith}
 use borrow.Author.Tests.{not-true, not-false}
+use borrow.Author.Needs.{needs}
 use Rattle.refusal.specs.declared.Outcome.the-variants.{Accepted, Refused}
 use Rattle.refusal.specs.declared.Refusal.the-variants.{Letter, Closed, Full, Record}
 use Rattle.checks.specs.Checks.{given, tallies, closed, masks, full}
 use Rattle.checks.proofs.Checking.{short-storage, past-storage, wrong-record, past-record, is-closed, past-closed, wrong-masks, past-masks, is-full, not-full}
-use borrow.Author.Needs.{needs}
 use Rattle.checks.proofs.check_round.Statement.{statement}
 use Rattle.checks.proofs.check_round.Tie as tie
 use Rattle.checks.proofs.check_round.Reads as reads

@@ -1,9 +1,10 @@
+-- `circular::accept_sheet` meets its contract.
 use mathlib.Core.Path.{sym}
+use borrow.Author.Needs.{needs}
 use Rattle.sheet.specs.Reading.{ruleSheet}
 use Rattle.circular.specs.Circular.{CircularSheet}
 use Rattle.circular.proofs.Decided.{unread, round, level}
 use Rattle.circular.proofs.Masks.{sheet-circular, circular-sheet}
-use borrow.Author.Needs.{needs}
 use Rattle.circular.proofs.accept_sheet.Statement.{statement}
 use Rattle.circular.proofs.accept_sheet.Tie as tie
 

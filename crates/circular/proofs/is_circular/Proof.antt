@@ -1,5 +1,6 @@
-use Rattle.circular.proofs.Masks.{told-circular, circular-told}
+-- `circular::is_circular` meets its contract.
 use borrow.Author.Needs.{needs}
+use Rattle.circular.proofs.Masks.{told-circular, circular-told}
 use Rattle.circular.proofs.is_circular.Statement.{statement}
 use Rattle.circular.proofs.is_circular.Tie as tie
 

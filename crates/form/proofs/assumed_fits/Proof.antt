@@ -1,3 +1,4 @@
+-- `form::assumed_fits` meets its contract.
 use borrow.Author.Needs.{needs}
 use Rattle.form.proofs.assumed_fits.Statement.{statement}
 use Rattle.form.proofs.assumed_fits.Tie as tie

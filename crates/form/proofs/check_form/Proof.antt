@@ -1,11 +1,12 @@
+-- `form::check_form` meets its contract.
 use mathlib.Core.Path.{_≡_, sym, _∙_}
-use lib.ListN.{length}
 use native.Mathlib.Omega.{arith}
+use lib.ListN.{length}
+use borrow.Author.Tests.{not-true, not-false}
+use borrow.Author.Needs.{needs}
 use Rattle.sheet.proofs.Headers.{counts}
 use Rattle.form.specs.Form.{formOf}
 use Rattle.form.proofs.FormLaws.{checked-usable, when-so}
-use borrow.Author.Tests.{not-true, not-false}
-use borrow.Author.Needs.{needs}
 use Rattle.form.proofs.check_form.Statement.{statement}
 use Rattle.form.proofs.check_form.Tie as tie
 use Rattle.form.proofs.check_form.Reads as reads

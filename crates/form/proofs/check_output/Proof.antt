@@ -1,8 +1,9 @@
-use denote.Ref.{now}
-use lib.ListN.{getD}
+-- `form::check_output` meets its contract.
 use native.Mathlib.Omega.{arith}
 use native.Mathlib.Nat.{add-sub-cancel-left}
+use lib.ListN.{getD}
 use borrow.Author.Needs.{needs}
+use denote.Ref.{now}
 use Rattle.form.proofs.FormLaws.{size-below, size-above, size-within}
 use Rattle.form.proofs.check_output.Statement.{statement}
 use Rattle.form.proofs.check_output.Tie as tie

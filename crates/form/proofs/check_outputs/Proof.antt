@@ -1,12 +1,13 @@
-use Prim.Native.Nat.{_-_, _≤_}
+-- `form::check_outputs` meets its contract.
 use mathlib.Core.Path.{_≡_, refl, sym, _∙_}
-use denote.Ref.{now}
+use Prim.Native.Nat.{_-_, _≤_}
 use native.Mathlib.Omega.{arith}
 use native.Mathlib.Numerals.{add-one}
+use borrow.Author.Needs.{needs}
+use denote.Ref.{now}
 use Rattle.refusal.specs.declared.Outcome.the-variants.{Accepted}
 use Rattle.form.specs.Form.{outputsForm}
 use Rattle.form.proofs.FormLaws.{form-stops, form-more}
-use borrow.Author.Needs.{needs}
 use Rattle.form.proofs.check_outputs.Statement.{statement}
 use Rattle.form.proofs.check_outputs.Tie as tie
 use Rattle.form.proofs.check_outputs.Reads as reads

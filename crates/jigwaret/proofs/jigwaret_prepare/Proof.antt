@@ -1,15 +1,16 @@
+-- `jigwaret::jigwaret_prepare` meets its contract.
 use mathlib.Core.Path.{refl, sym, ap}
 use mathlib.Core.List.{_∷_, []}
-use denote.Ref.{now}
 use native.Mathlib.Omega.{arith}
 use lib.ListN.{set}
 use lib.Seq.{paste}
+use borrow.Author.Needs.{needs}
+use denote.Ref.{now}
 use Rattle.refusal.specs.Numbers.{outcomeNo}
 use Rattle.slices.specs.Slices.{numbersOf}
-use Rattle.jigwaret.specs.Journal.{slices, PreparationNumbered}
 use Rattle.slices.proofs.SliceLaws.{set-first, Sizes, sizes-tested}
+use Rattle.jigwaret.specs.Journal.{slices, PreparationNumbered}
 use Rattle.jigwaret.proofs.JournalLaws.{sizes-wrong, sizes-right, written, not-written, number-of}
-use borrow.Author.Needs.{needs}
 use Rattle.jigwaret.proofs.jigwaret_prepare.Statement.{statement}
 use Rattle.jigwaret.proofs.jigwaret_prepare.Tie as tie
 use Rattle.jigwaret.proofs.jigwaret_prepare.Reads as reads

@@ -1,19 +1,20 @@
-use Prim.Native.Nat.{_≤_}
+-- `jigwaret::jigwaret_round` meets its contract.
 use mathlib.Core.Path.{_≡_, refl, sym, ap, subst}
-use denote.Ref.{now}
+use Prim.Native.Nat.{_≤_}
 use native.Mathlib.Omega.{arith}
 use lib.ListN.{length}
 use lib.Seq.{paste}
+use borrow.Author.Needs.{needs}
+use denote.Ref.{now}
 use Rattle.refusal.specs.Numbers.{outcomeNo}
 use Rattle.sheet.specs.Checks.{outputsOf}
 use Rattle.record.specs.declared.JournalRecord.{JournalRecord}
-use Rattle.claims.specs.ReadSheet.{RoundBytes}
 use Rattle.slices.specs.Slices.{numbersOf}
 use Rattle.slices.proofs.SliceLaws.{Sizes, sizes-tested}
-use Rattle.jigwaret.specs.Journal.{slices, RoundNumbered}
 use Rattle.checks.specs.Checks.{given, roundChecks}
+use Rattle.claims.specs.ReadSheet.{RoundBytes}
+use Rattle.jigwaret.specs.Journal.{slices, RoundNumbered}
 use Rattle.jigwaret.proofs.JournalLaws.{sizes-wrong, sizes-right, written, not-written, number-of, sheet-long, few-outputs}
-use borrow.Author.Needs.{needs}
 use Rattle.jigwaret.proofs.jigwaret_round.Statement.{statement}
 use Rattle.jigwaret.proofs.jigwaret_round.Tie as tie
 use Rattle.jigwaret.proofs.jigwaret_round.Reads as reads

@@ -1,3 +1,4 @@
+-- `journal::run` meets its contract.
 use mathlib.Core.Path.{_≡_, sym}
 use lib.ListN.{length}
 use lib.Seq.{length-take-le}

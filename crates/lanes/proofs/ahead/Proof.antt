@@ -1,3 +1,4 @@
+-- `lanes::ahead` meets its contract.
 use borrow.Author.Needs.{needs}
 use Rattle.lanes.proofs.AroundLaws.{ahead-word}
 use Rattle.lanes.proofs.ahead.Statement.{statement}

@@ -1,3 +1,4 @@
+-- `lanes::beside` meets its contract.
 use borrow.Author.Needs.{needs}
 use Rattle.lanes.proofs.AroundLaws.{absent-beside, there-beside}
 use Rattle.lanes.proofs.beside.Statement.{statement}

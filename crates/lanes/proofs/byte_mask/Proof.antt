@@ -1,6 +1,6 @@
--- `lanes::byte_mask` meets its contract. Assumes nothing.
-use native.Mathlib.Omega.{arith}
+-- `lanes::byte_mask` meets its contract.
 use mathlib.Core.Path.{_∙_}
+use native.Mathlib.Omega.{arith}
 use borrow.Author.Needs.{needs}
 use Rattle.words.proofs.BitLaws.{bit-none}
 use Rattle.lanes.proofs.BlindLaws.{byte-elsewhere, byte-earlier}

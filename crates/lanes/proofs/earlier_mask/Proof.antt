@@ -1,7 +1,7 @@
--- `lanes::earlier_mask` meets its contract: the mask covers the reads of the first k expressions. Assumes nothing.
+-- `lanes::earlier_mask` meets its contract: the mask covers the reads of the first k expressions.
+use Prim.Native.Nat.{_+_, _-_, _≤_}
 use native.Mathlib.Omega.{arith}
 use borrow.Author.Needs.{needs}
-use Prim.Native.Nat.{_+_, _-_, _≤_}
 use Rattle.lanes.proofs.CodeLaws.{part-room, part-parses}
 use Rattle.lanes.proofs.BlindLaws.{Covers, covers-none, covers-more, covers-all, blind}
 use Rattle.lanes.proofs.earlier_mask.Statement.{statement}

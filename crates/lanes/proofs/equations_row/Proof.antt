@@ -1,7 +1,8 @@
-use native.Mathlib.Omega.{arith}
+-- `lanes::equations_row` meets its contract.
 use Prim.Native.Nat.{_<_}
-use Rattle.lanes.proofs.RowLaws.{room-two, room-four}
+use native.Mathlib.Omega.{arith}
 use borrow.Author.Needs.{needs}
+use Rattle.lanes.proofs.RowLaws.{room-two, room-four}
 use Rattle.lanes.proofs.equations_row.Statement.{statement}
 use Rattle.lanes.proofs.equations_row.Tie as tie
 use Rattle.lanes.proofs.equations_row.Reads as reads

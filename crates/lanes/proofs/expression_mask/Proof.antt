@@ -1,4 +1,4 @@
--- `lanes::expression_mask` meets its contract: the mask has the reads of the bytes passed. Assumes nothing.
+-- `lanes::expression_mask` meets its contract: the mask has the reads of the bytes passed.
 use Prim.Native.Nat.{_≤_, _-_}
 use native.Mathlib.Omega.{arith}
 use lib.ListN.{length}

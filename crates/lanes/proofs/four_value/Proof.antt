@@ -1,8 +1,9 @@
+-- `lanes::four_value` meets its contract.
 use mathlib.Core.Path.{_≡_, refl}
 use Prim.Native.Nat.{_-_}
-use borrow.Author.Needs.{needs}
 use native.Mathlib.Omega.{arith}
 use lib.ListN.{length}
+use borrow.Author.Needs.{needs}
 use Rattle.lanes.proofs.ParseLaws.{Done, none-done, one-done, all-done}
 use Rattle.lanes.proofs.four_value.Statement.{statement}
 use Rattle.lanes.proofs.four_value.Tie as tie

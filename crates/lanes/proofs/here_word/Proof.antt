@@ -1,9 +1,10 @@
+-- `lanes::here_word` meets its contract.
 use mathlib.Core.Path.{sym, ap, _∙_}
 use mathlib.Core.Bool.{Bool, cond}
 use Prim.Native.Nat.{_+_, _*_}
 use borrow.Author.Tests.{eq-eqb, ne-eqb}
-use Rattle.words.specs.Bits.{bit, digit}
 use borrow.Author.Needs.{needs}
+use Rattle.words.specs.Bits.{bit, digit}
 use Rattle.lanes.proofs.here_word.Statement.{statement}
 use Rattle.lanes.proofs.here_word.Tie as tie
 use Rattle.lanes.proofs.here_word.Reads as reads

@@ -1,9 +1,10 @@
+-- `lanes::keep_row` meets its contract.
 use mathlib.Core.Path.{_≡_, ap, ap₂, _∙_}
 use mathlib.Core.Bool.{Bool·beq, _&&_}
 use Prim.Native.Nat.{ℕ, _+_, _-_, _*_, _<_}
-use borrow.Author.Needs.{needs}
 use native.Mathlib.Omega.{arith}
 use lib.ListN.{getD}
+use borrow.Author.Needs.{needs}
 use Rattle.words.specs.Bits.{bit}
 use Rattle.words.proofs.BitLaws.{bit-and}
 use Rattle.lanes.specs.Around.{here}

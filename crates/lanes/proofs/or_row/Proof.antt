@@ -1,10 +1,11 @@
+-- `lanes::or_row` meets its contract.
 use mathlib.Core.Path.{_≡_}
 use Prim.Native.Nat.{_-_, _+_, _*_}
 use native.Mathlib.Omega.{arith}
-use borrow.Author.Needs.{needs}
-use Rattle.lanes.proofs.RowLaws.{Writing, writing-none, writing-by, writing-all}
 use lib.ListN.{getD}
 use lib.Bits.{bitOr}
+use borrow.Author.Needs.{needs}
+use Rattle.lanes.proofs.RowLaws.{Writing, writing-none, writing-by, writing-all}
 use Rattle.lanes.proofs.or_row.Statement.{statement}
 use Rattle.lanes.proofs.or_row.Tie as tie
 use Rattle.lanes.proofs.or_row.Reads as reads

@@ -1,3 +1,4 @@
+-- `lanes::read_word` meets its contract.
 use mathlib.Core.Path.{sym, _∙_}
 use Prim.Native.Nat.{_+_, _*_, _%_}
 use borrow.Author.Needs.{needs}

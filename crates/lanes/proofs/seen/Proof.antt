@@ -1,3 +1,4 @@
+-- `lanes::seen` meets its contract.
 use borrow.Author.Needs.{needs}
 use Rattle.lanes.proofs.AroundLaws.{seen-of}
 use Rattle.lanes.proofs.seen.Statement.{statement}

@@ -1,3 +1,4 @@
+-- `lanes::store_row` meets its contract.
 use Prim.Native.Nat.{_-_}
 use borrow.Author.Needs.{needs}
 use Rattle.lanes.proofs.RowLaws.{Storing, storing-none, storing-more, storing-all}

@@ -1,8 +1,9 @@
-use native.Mathlib.Omega.{arith}
-use borrow.Author.Needs.{needs}
-use Prim.Native.Nat.{_+_, _-_, _≤_}
+-- `lanes::two_equations` meets its contract.
 use mathlib.Core.Path.{_≡_, refl}
+use Prim.Native.Nat.{_+_, _-_, _≤_}
+use native.Mathlib.Omega.{arith}
 use lib.ListN.{length, length-take}
+use borrow.Author.Needs.{needs}
 use Rattle.lanes.specs.Coded.{Agree}
 use Rattle.lanes.proofs.CodeLaws.{part-room}
 use Rattle.lanes.proofs.EquationLaws.{agree-none, agree-more, agree-stop, agree-all}

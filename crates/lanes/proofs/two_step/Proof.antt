@@ -1,5 +1,6 @@
-use borrow.Author.Needs.{needs}
+-- `lanes::two_step` meets its contract.
 use native.Mathlib.Omega.{arith}
+use borrow.Author.Needs.{needs}
 use Rattle.lanes.proofs.StepLaws.{step-read, step-const, step-not, step-and, step-or, step-lacks}
 use Rattle.lanes.proofs.two_step.Statement.{statement}
 use Rattle.lanes.proofs.two_step.Tie as tie

@@ -1,9 +1,10 @@
-use lib.Pow.{pow-mono}
-use borrow.Author.Tests.{le-leb, lt-leb}
+-- `letters::bad_masks` meets its contract.
 use Prim.Native.Nat.{_≤_, _^_}
 use native.Mathlib.Omega.{arith}
-use Rattle.letters.specs.Masks.{badMasks}
+use lib.Pow.{pow-mono}
+use borrow.Author.Tests.{le-leb, lt-leb}
 use borrow.Author.Needs.{needs}
+use Rattle.letters.specs.Masks.{badMasks}
 use Rattle.letters.proofs.bad_masks.Statement.{statement}
 use Rattle.letters.proofs.bad_masks.Tie as tie
 use Rattle.letters.proofs.bad_masks.Reads as reads

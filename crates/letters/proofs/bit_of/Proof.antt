@@ -1,6 +1,7 @@
+-- `letters::bit_of` meets its contract.
 use mathlib.Core.Path.{refl}
-use Rattle.words.specs.Bits.{bit, digit}
 use borrow.Author.Needs.{needs}
+use Rattle.words.specs.Bits.{bit, digit}
 use Rattle.letters.proofs.bit_of.Statement.{statement}
 use Rattle.letters.proofs.bit_of.Tie as tie
 use Rattle.letters.proofs.bit_of.Reads as reads

@@ -1,11 +1,11 @@
-use Prim.Native.Nat.{_+_, _*_}
+-- `letters::narrowed` meets its contract.
 use mathlib.Core.Path.{_≡_, sym, _∙_, ap, ap₂}
-use mathlib.Core.Bool.{Bool, true, _&&_, Bool·beq, cond}
+use mathlib.Core.Bool.{Bool, true, _&&_, Bool·beq, cond, and-true}
+use Prim.Native.Nat.{_+_, _*_}
 use native.Mathlib.Omega.{arith}
-use mathlib.Core.Bool.{and-true}
+use borrow.Author.Needs.{needs}
 use Rattle.words.specs.Bits.{bit}
 use Rattle.words.proofs.BitLaws.{bit-and}
-use borrow.Author.Needs.{needs}
 use Rattle.letters.proofs.narrowed.Statement.{statement}
 use Rattle.letters.proofs.narrowed.Tie as tie
 use Rattle.letters.proofs.narrowed.Reads as reads

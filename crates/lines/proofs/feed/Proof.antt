@@ -1,13 +1,14 @@
+-- `lines::feed` meets its contract.
 use mathlib.Core.Path.{_≡_, refl}
 use mathlib.Core.List.{append-nil}
 use Prim.Native.Nat.{_+_, _*_, _-_, _≤_}
 use native.Mathlib.Omega.{arith}
-use denote.Ref.{now}
 use lib.ListN.{length, take}
 use lib.Seq.{take-all}
+use borrow.Author.Needs.{needs}
+use denote.Ref.{now}
 use Rattle.answers.specs.LineEnd.{held, room}
 use Rattle.lines.proofs.Feeding.{Way, seen-more, wrote-more, byte-more, line-more, line-over, over-all, stands-over, stands-midway, room-most}
-use borrow.Author.Needs.{needs}
 use Rattle.lines.proofs.feed.Statement.{statement}
 use Rattle.lines.proofs.feed.Tie as tie
 use Rattle.lines.proofs.feed.Reads as reads

@@ -1,10 +1,11 @@
+-- `lines::finish` meets its contract.
 use mathlib.Core.Path.{sym, subst}
 use mathlib.Core.List.{List, _++_}
 use Prim.Native.Nat.{ℕ}
 use native.Mathlib.Omega.{arith}
+use borrow.Author.Needs.{needs}
 use Rattle.answers.specs.Printed.{Printed}
 use Rattle.lines.proofs.Feeding.{over-last, stands-midway, none-last, line-last, room-most}
-use borrow.Author.Needs.{needs}
 use Rattle.lines.proofs.finish.Statement.{statement}
 use Rattle.lines.proofs.finish.Tie as tie
 use Rattle.lines.proofs.finish.Reads as reads

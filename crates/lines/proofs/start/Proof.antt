@@ -1,10 +1,11 @@
+-- `lines::start` meets its contract.
 use mathlib.Core.Path.{refl}
+use native.Mathlib.Omega.{arith}
+use borrow.Author.Needs.{needs}
 use denote.Ref.{now}
 use Rattle.claims.specs.ReadSheet.{Accepts}
-use native.Mathlib.Omega.{arith}
 use Rattle.answers.proofs.Serving.{serves-prepared}
 use Rattle.lines.proofs.Feeding.{refused-start, midway-start}
-use borrow.Author.Needs.{needs}
 use Rattle.lines.proofs.start.Statement.{statement}
 use Rattle.lines.proofs.start.Tie as tie
 use Rattle.lines.proofs.start.Reads as reads

@@ -1,10 +1,10 @@
--- `lola::step_bit` meets its contract. Assumes nothing.
-use native.Mathlib.Omega.{arith}
+-- `lola::step_bit` meets its contract.
 use mathlib.Core.Path.{_≡_, ap}
 use Prim.Native.Nat.{ℕ, _+_, _-_, _*_, _/_, _%_, _^_}
+use native.Mathlib.Omega.{arith}
+use borrow.Author.Needs.{needs}
 use Rattle.words.specs.Bits.{digit}
 use Rattle.lola.proofs.Stack.{xor-one}
-use borrow.Author.Needs.{needs}
 use Rattle.lola.proofs.step_bit.Statement.{statement}
 use Rattle.lola.proofs.step_bit.Tie as tie
 use Rattle.lola.proofs.step_bit.Reads as reads

@@ -1,4 +1,4 @@
--- `lola::value_bit` meets its contract: the stack of bits follows the stack of trees. Assumes nothing.
+-- `lola::value_bit` meets its contract: the stack of bits follows the stack of trees.
 use Prim.Native.Nat.{_-_}
 use native.Mathlib.Omega.{arith}
 use lib.ListN.{length}

@@ -1,12 +1,13 @@
-use denote.Ref.{now}
+-- `monitor::close` meets its contract.
 use lib.ListN.{length}
+use borrow.Author.Needs.{needs}
+use denote.Ref.{now}
 use Rattle.sheet.specs.RuleSheet.{RuleSheet}
 use Rattle.sheet.specs.Reading.{ruleSheet}
 use Rattle.checks.specs.Checks.{given, closingChecks}
 use Rattle.accepted.specs.Results.{ClosingDone}
 use Rattle.monitor.specs.Entries.{OfSheet}
 use Rattle.monitor.proofs.Entries.{sheet-refused, sheet-accepted, closing-of}
-use borrow.Author.Needs.{needs}
 use Rattle.monitor.proofs.close.Statement.{statement}
 use Rattle.monitor.proofs.close.Tie as tie
 use Rattle.monitor.proofs.close.Reads as reads

@@ -1,9 +1,10 @@
+-- `monitor::closing_on` meets its contract.
+use borrow.Author.Needs.{needs}
 use denote.Ref.{now}
 use Rattle.sheet.specs.Reading.{ruleSheet}
 use Rattle.checks.specs.Checks.{given}
 use Rattle.accepted.specs.Results.{ClosingDone}
 use Rattle.monitor.proofs.Entries.{closing-accepted}
-use borrow.Author.Needs.{needs}
 use Rattle.monitor.proofs.closing_on.Statement.{statement}
 use Rattle.monitor.proofs.closing_on.Tie as tie
 use Rattle.monitor.proofs.closing_on.Reads as reads

@@ -1,13 +1,14 @@
+-- `monitor::prepare` meets its contract.
 use mathlib.Core.Path.{refl}
-use denote.Ref.{now}
 use lib.ListN.{length}
+use borrow.Author.Needs.{needs}
+use denote.Ref.{now}
 use Rattle.sheet.specs.RuleSheet.{RuleSheet}
 use Rattle.sheet.specs.Reading.{ruleSheet}
 use Rattle.checks.specs.Checks.{given, prepareChecks}
 use Rattle.accepted.specs.Results.{Prepared}
 use Rattle.monitor.specs.Entries.{OfSheet}
 use Rattle.monitor.proofs.Entries.{sheet-refused, sheet-accepted, prepare-of}
-use borrow.Author.Needs.{needs}
 use Rattle.monitor.proofs.prepare.Statement.{statement}
 use Rattle.monitor.proofs.prepare.Tie as tie
 use Rattle.monitor.proofs.prepare.Reads as reads

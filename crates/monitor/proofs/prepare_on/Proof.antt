@@ -1,14 +1,15 @@
+-- `monitor::prepare_on` meets its contract.
 use mathlib.Core.Path.{refl}
 use mathlib.Core.List.{[]}
-use denote.Ref.{now}
 use lib.ListN.{length}
+use borrow.Author.Needs.{needs}
+use denote.Ref.{now}
 use Rattle.refusal.specs.declared.Outcome.the-variants.{Accepted}
 use Rattle.sheet.specs.Reading.{ruleSheet}
 use Rattle.checks.specs.Checks.{given}
-use Rattle.accepted.specs.Results.{Prepared}
 use Rattle.checks.proofs.Checking.{short-storage, past-storage, none-left}
+use Rattle.accepted.specs.Results.{Prepared}
 use Rattle.monitor.proofs.Entries.{prepare-accepted}
-use borrow.Author.Needs.{needs}
 use Rattle.monitor.proofs.prepare_on.Statement.{statement}
 use Rattle.monitor.proofs.prepare_on.Tie as tie
 use Rattle.monitor.proofs.prepare_on.Reads as reads

@@ -1,10 +1,11 @@
+-- `monitor::round_on` meets its contract.
 use mathlib.Core.Path.{refl}
+use borrow.Author.Needs.{needs}
 use denote.Ref.{now}
 use Rattle.sheet.specs.Reading.{ruleSheet}
 use Rattle.checks.specs.Checks.{given}
 use Rattle.accepted.specs.Results.{RoundDone}
 use Rattle.monitor.proofs.Entries.{round-accepted}
-use borrow.Author.Needs.{needs}
 use Rattle.monitor.proofs.round_on.Statement.{statement}
 use Rattle.monitor.proofs.round_on.Tie as tie
 use Rattle.monitor.proofs.round_on.Reads as reads

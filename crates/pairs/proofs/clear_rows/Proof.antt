@@ -1,3 +1,4 @@
+-- `pairs::clear_rows` meets its contract.
 use borrow.Author.Needs.{needs}
 use Rattle.pairs.proofs.Fill.{rows-cleared}
 use Rattle.pairs.proofs.clear_rows.Statement.{statement}

@@ -1,7 +1,8 @@
+-- `pairs::clear_words` meets its contract.
+use mathlib.Core.Path.{refl}
+use Prim.Native.Nat.{_-_}
 use native.Mathlib.Omega.{arith}
 use borrow.Author.Needs.{needs}
-use Prim.Native.Nat.{_-_}
-use mathlib.Core.Path.{refl}
 use Rattle.pairs.proofs.Fill.{Filling, filling-none, filling-more, zeroed}
 use Rattle.pairs.proofs.clear_words.Statement.{statement}
 use Rattle.pairs.proofs.clear_words.Tie as tie

@@ -1,11 +1,12 @@
-use native.Mathlib.Omega.{arith}
-use borrow.Author.Needs.{needs}
-use Prim.Native.Nat.{ℕ, _*_, _-_, _<_, _≤_, _^_}
+-- `pairs::count` meets its contract.
 use mathlib.Core.Path.{_≡_, refl, ap, _∙_}
+use Prim.Native.Nat.{ℕ, _*_, _-_, _<_, _≤_, _^_}
+use native.Mathlib.Omega.{arith}
 use lib.ListN.{getD}
 use lib.Count.{ones, ones-le}
-use Rattle.words.proofs.CountLaws.{sum-one}
+use borrow.Author.Needs.{needs}
 use Rattle.words.specs.Below.{sumBelow}
+use Rattle.words.proofs.CountLaws.{sum-one}
 use Rattle.completions.specs.Live.{countPairs}
 use Rattle.pairs.specs.Storage.{stored}
 use Rattle.pairs.proofs.PairCount.{pair-count}

@@ -1,5 +1,6 @@
-use Rattle.pairs.proofs.Sets.{has-bit}
+-- `pairs::has` meets its contract.
 use borrow.Author.Needs.{needs}
+use Rattle.pairs.proofs.Sets.{has-bit}
 use Rattle.pairs.proofs.has.Statement.{statement}
 use Rattle.pairs.proofs.has.Tie as tie
 

@@ -1,5 +1,6 @@
-use Rattle.pairs.proofs.Sets.{has-end-bit}
+-- `pairs::has_end` meets its contract.
 use borrow.Author.Needs.{needs}
+use Rattle.pairs.proofs.Sets.{has-end-bit}
 use Rattle.pairs.proofs.has_end.Statement.{statement}
 use Rattle.pairs.proofs.has_end.Tie as tie
 

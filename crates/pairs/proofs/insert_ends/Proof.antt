@@ -1,6 +1,7 @@
+-- `pairs::insert_ends` meets its contract.
 use native.Mathlib.Omega.{arith}
-use Rattle.pairs.proofs.Sets.{ends-inserted}
 use borrow.Author.Needs.{needs}
+use Rattle.pairs.proofs.Sets.{ends-inserted}
 use Rattle.pairs.proofs.insert_ends.Statement.{statement}
 use Rattle.pairs.proofs.insert_ends.Tie as tie
 

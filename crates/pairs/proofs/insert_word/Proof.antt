@@ -1,6 +1,7 @@
+-- `pairs::insert_word` meets its contract.
 use native.Mathlib.Omega.{arith}
-use Rattle.pairs.proofs.Sets.{word-inserted}
 use borrow.Author.Needs.{needs}
+use Rattle.pairs.proofs.Sets.{word-inserted}
 use Rattle.pairs.proofs.insert_word.Statement.{statement}
 use Rattle.pairs.proofs.insert_word.Tie as tie
 

@@ -1,8 +1,9 @@
-use native.Mathlib.Omega.{arith}
-use borrow.Author.Needs.{needs}
+-- `pairs::next_bit` meets its contract.
 use Prim.Native.Nat.{_+_, _/_, _%_, _^_}
+use native.Mathlib.Omega.{arith}
 use lib.Count.{trailing-le}
 use lib.ListN.{getD}
+use borrow.Author.Needs.{needs}
 use Rattle.pairs.proofs.BitSearch.{row-over, found-here, row-spent, row-found}
 use Rattle.pairs.proofs.next_bit.Statement.{statement}
 use Rattle.pairs.proofs.next_bit.Tie as tie

@@ -1,8 +1,9 @@
-use native.Mathlib.Omega.{arith}
-use borrow.Author.Needs.{needs}
+-- `pairs::next_word` meets its contract.
 use mathlib.Core.Path.{_≡_}
 use Prim.Native.Nat.{ℕ, _+_, _-_, _≤_, _<_}
+use native.Mathlib.Omega.{arith}
 use lib.ListN.{getD}
+use borrow.Author.Needs.{needs}
 use Rattle.pairs.proofs.BitSearch.{words-more}
 use Rattle.pairs.proofs.next_word.Statement.{statement}
 use Rattle.pairs.proofs.next_word.Tie as tie

@@ -1,6 +1,7 @@
+-- `pairs::note` meets its contract.
 use native.Mathlib.Omega.{arith}
-use Rattle.pairs.proofs.Sets.{noted}
 use borrow.Author.Needs.{needs}
+use Rattle.pairs.proofs.Sets.{noted}
 use Rattle.pairs.proofs.note.Statement.{statement}
 use Rattle.pairs.proofs.note.Tie as tie
 

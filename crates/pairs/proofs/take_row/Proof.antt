@@ -1,6 +1,7 @@
+-- `pairs::take_row` meets its contract.
 use native.Mathlib.Omega.{arith}
-use Rattle.pairs.proofs.Sets.{row-taken}
 use borrow.Author.Needs.{needs}
+use Rattle.pairs.proofs.Sets.{row-taken}
 use Rattle.pairs.proofs.take_row.Statement.{statement}
 use Rattle.pairs.proofs.take_row.Tie as tie
 

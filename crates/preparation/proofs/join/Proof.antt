@@ -1,6 +1,7 @@
+-- `preparation::join` meets its contract.
 use mathlib.Core.Path.{sym, _∙_}
-use Rattle.preparation.proofs.Joining.{joined-not, joined-both, occupied-more}
 use borrow.Author.Needs.{needs}
+use Rattle.preparation.proofs.Joining.{joined-not, joined-both, occupied-more}
 use Rattle.preparation.proofs.join.Statement.{statement}
 use Rattle.preparation.proofs.join.Tie as tie
 

@@ -1,7 +1,8 @@
-use Rattle.unions.proofs.Rows.{streams-low}
-use Rattle.preparation.proofs.Joining.{column-joins}
-use Rattle.unions.proofs.Uniting.{row-from, empty-row}
+-- `preparation::join_before` meets its contract.
 use borrow.Author.Needs.{needs}
+use Rattle.unions.proofs.Rows.{streams-low}
+use Rattle.unions.proofs.Uniting.{row-from, empty-row}
+use Rattle.preparation.proofs.Joining.{column-joins}
 use Rattle.preparation.proofs.join_before.Statement.{statement}
 use Rattle.preparation.proofs.join_before.Tie as tie
 

@@ -1,7 +1,8 @@
-use native.Mathlib.Omega.{arith}
+-- `preparation::join_end` meets its contract.
 use mathlib.Core.Path.{refl}
-use Rattle.preparation.proofs.Joining.{joins-both}
+use native.Mathlib.Omega.{arith}
 use borrow.Author.Needs.{needs}
+use Rattle.preparation.proofs.Joining.{joins-both}
 use Rattle.preparation.proofs.join_end.Statement.{statement}
 use Rattle.preparation.proofs.join_end.Tie as tie
 

@@ -1,9 +1,10 @@
-use native.Mathlib.Omega.{arith}
-use Prim.Native.Nat.{_*_, _-_}
+-- `preparation::join_ends` meets its contract.
 use mathlib.Core.Path.{_≡_, refl}
+use Prim.Native.Nat.{_*_, _-_}
+use native.Mathlib.Omega.{arith}
 use lib.ListN.{length}
-use Rattle.preparation.proofs.Joining.{Ends, ends-first, ends-more, ends-all}
 use borrow.Author.Needs.{needs}
+use Rattle.preparation.proofs.Joining.{Ends, ends-first, ends-more, ends-all}
 use Rattle.preparation.proofs.join_ends.Statement.{statement}
 use Rattle.preparation.proofs.join_ends.Tie as tie
 

@@ -1,11 +1,12 @@
-use native.Mathlib.Omega.{arith}
-use Prim.Native.Nat.{_*_, _-_, _≤_}
+-- `preparation::join_row` meets its contract.
 use mathlib.Core.Path.{_≡_, refl}
+use Prim.Native.Nat.{_*_, _-_, _≤_}
+use native.Mathlib.Omega.{arith}
 use lib.ListN.{length}
+use borrow.Author.Needs.{needs}
 use Rattle.pairs.specs.Storage.{stored}
 use Rattle.preparation.specs.Search.{newcomers, Joins, Occupied}
 use Rattle.preparation.proofs.Joining.{words-first, words-more, words-all}
-use borrow.Author.Needs.{needs}
 use Rattle.preparation.proofs.join_row.Statement.{statement}
 use Rattle.preparation.proofs.join_row.Tie as tie
 

@@ -1,12 +1,13 @@
-use native.Mathlib.Omega.{arith}
-use Prim.Native.Nat.{ℕ, _≤_, _<_}
+-- `preparation::join_word` meets its contract.
 use mathlib.Core.Path.{_≡_, refl}
+use Prim.Native.Nat.{ℕ, _≤_, _<_}
+use native.Mathlib.Omega.{arith}
 use lib.ListN.{length}
 use lib.Count.{trailing-le}
-use Rattle.preparation.specs.Search.{Occupied}
-use Rattle.words.proofs.BitLaws.{lane-less}
-use Rattle.preparation.proofs.Joining.{Lanes, lanes-first, lanes-next, lanes-more, lanes-all}
 use borrow.Author.Needs.{needs}
+use Rattle.words.proofs.BitLaws.{lane-less}
+use Rattle.preparation.specs.Search.{Occupied}
+use Rattle.preparation.proofs.Joining.{Lanes, lanes-first, lanes-next, lanes-more, lanes-all}
 use Rattle.preparation.proofs.join_word.Statement.{statement}
 use Rattle.preparation.proofs.join_word.Tie as tie
 

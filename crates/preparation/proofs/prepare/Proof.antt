@@ -1,18 +1,19 @@
-use native.Mathlib.Omega.{arith}
-use Prim.Native.Nat.{ℕ, _+_, _*_, _-_, _^_, _≤_, _<_}
+-- `preparation::prepare` meets its contract.
 use mathlib.Core.Path.{_≡_, refl}
 use mathlib.Core.Logic.{inl}
 use mathlib.Core.List.{List}
+use Prim.Native.Nat.{ℕ, _+_, _*_, _-_, _^_, _≤_, _<_}
+use native.Mathlib.Omega.{arith}
 use lib.ListN.{length, getD}
+use borrow.Author.Needs.{needs}
 use Rattle.sheet.specs.RuleSheet.{requiredOf}
-use Rattle.lanes.specs.Coded.{sheetOf}
 use Rattle.completions.specs.Live.{allowed}
+use Rattle.lanes.specs.Coded.{sheetOf}
 use Rattle.unions.specs.Rows.{Row}
-use Rattle.preparation.specs.Search.{Occupied, Apart}
 use Rattle.unions.proofs.Rows.{two-to}
+use Rattle.preparation.specs.Search.{Occupied, Apart}
 use Rattle.preparation.proofs.Searching.{Searching, rows-started, rows-none, apart-turned}
 use Rattle.preparation.proofs.Preparing.{search-bound, search-begin, search-step, layers-some, search-finish}
-use borrow.Author.Needs.{needs}
 use Rattle.preparation.proofs.prepare.Statement.{statement}
 use Rattle.preparation.proofs.prepare.Tie as tie
 

@@ -1,5 +1,6 @@
-use Rattle.preparation.proofs.Searching.{started}
+-- `preparation::start` meets its contract.
 use borrow.Author.Needs.{needs}
+use Rattle.preparation.proofs.Searching.{started}
 use Rattle.preparation.proofs.start.Statement.{statement}
 use Rattle.preparation.proofs.start.Tie as tie
 

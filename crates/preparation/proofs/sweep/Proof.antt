@@ -1,14 +1,15 @@
-use native.Mathlib.Omega.{arith}
-use Prim.Native.Nat.{ℕ, _*_, _-_, _≤_}
+-- `preparation::sweep` meets its contract.
 use mathlib.Core.Path.{_≡_, refl}
 use mathlib.Core.List.{List}
+use Prim.Native.Nat.{ℕ, _*_, _-_, _≤_}
+use native.Mathlib.Omega.{arith}
 use lib.ListN.{length}
-use Rattle.lanes.specs.Coded.{sheetOf}
+use borrow.Author.Needs.{needs}
 use Rattle.completions.specs.Live.{allowed}
+use Rattle.lanes.specs.Coded.{sheetOf}
 use Rattle.unions.specs.Rows.{Row}
 use Rattle.preparation.specs.Search.{Occupied, Swept}
 use Rattle.preparation.proofs.Joining.{occupied-beside, swept-first, swept-more}
-use borrow.Author.Needs.{needs}
 use Rattle.preparation.proofs.sweep.Statement.{statement}
 use Rattle.preparation.proofs.sweep.Tie as tie
 

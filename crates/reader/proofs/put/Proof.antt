@@ -1,6 +1,7 @@
+-- `reader::put` meets its contract.
 use Prim.Native.Nat.{_+_, _-_, _≤_}
-use lib.ListN.{length, length-set}
 use native.Mathlib.Omega.{arith}
+use lib.ListN.{length, length-set}
 use Rattle.reader.proofs.Packing.{PutSoFar, put-none, put-more, put-all}
 use Rattle.reader.proofs.put.Statement.{statement}
 use Rattle.reader.proofs.put.Tie as tie

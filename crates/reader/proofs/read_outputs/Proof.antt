@@ -1,9 +1,10 @@
-use native.Mathlib.Omega.{arith}
-use borrow.Author.Needs.{needs}
+-- `reader::read_outputs` meets its contract.
 use mathlib.Core.Path.{refl, sym, _∙_}
 use Prim.Native.Nat.{_-_}
-use denote.Ref.{now}
+use native.Mathlib.Omega.{arith}
 use native.Mathlib.Nat.{add-sub-cancel-left}
+use borrow.Author.Needs.{needs}
+use denote.Ref.{now}
 use Rattle.reader.proofs.AllOutputs.{OutputsTo, begins, lies, next, stopped, left-over, nothing-left, all-held}
 use Rattle.reader.proofs.read_outputs.Statement.{statement}
 use Rattle.reader.proofs.read_outputs.Tie as tie

@@ -1,12 +1,13 @@
-use native.Mathlib.Omega.{arith}
+-- `reader::read_sheet` meets its contract.
 use mathlib.Core.Path.{refl, sym, _∙_}
 use Prim.Native.Nat.{_+_}
+use native.Mathlib.Omega.{arith}
+use borrow.Author.Needs.{needs}
 use Rattle.sheet.specs.RuleSheet.{readSheet}
 use Rattle.sheet.specs.Reading.{treesOf}
 use Rattle.sheet.proofs.Headers.{fields}
 use Rattle.reader.proofs.AllOutputs.{reading-by}
 use Rattle.reader.proofs.Packing.{usable}
-use borrow.Author.Needs.{needs}
 use Rattle.reader.proofs.read_sheet.Statement.{statement}
 use Rattle.reader.proofs.read_sheet.Tie as tie
 use Rattle.reader.proofs.read_sheet.Reads as reads

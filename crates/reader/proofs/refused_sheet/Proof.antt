@@ -1,3 +1,4 @@
+-- `reader::refused_sheet` meets its contract.
 use mathlib.Core.Path.{refl}
 use Rattle.sheet.specs.Reading.{blank}
 use Rattle.reader.proofs.refused_sheet.Statement.{statement}

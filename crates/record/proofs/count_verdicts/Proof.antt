@@ -1,8 +1,9 @@
-use Prim.Native.Nat.{_+_, _*_, _-_, _≤_}
+-- `record::count_verdicts` meets its contract.
 use mathlib.Core.Path.{_≡_, sym, _∙_}
-use denote.Ref.{now}
-use lib.ListN.{length, getD, length-set}
+use Prim.Native.Nat.{_+_, _*_, _-_, _≤_}
 use native.Mathlib.Omega.{arith}
+use lib.ListN.{length, getD, length-set}
+use denote.Ref.{now}
 use Rattle.record.specs.Columns.{columnNo}
 use Rattle.record.proofs.Tallies.{CountedTo, counted-none, counted-more, counted-all, column-lt}
 use Rattle.record.proofs.count_verdicts.Statement.{statement}

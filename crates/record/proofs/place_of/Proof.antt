@@ -1,5 +1,6 @@
-use borrow.Author.Tests.{ne-eqb}
+-- `record::place_of` meets its contract.
 use native.Mathlib.Omega.{arith}
+use borrow.Author.Tests.{ne-eqb}
 use borrow.Author.Needs.{needs}
 use Rattle.record.proofs.place_of.Statement.{statement}
 use Rattle.record.proofs.place_of.Tie as tie

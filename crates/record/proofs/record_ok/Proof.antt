@@ -1,8 +1,9 @@
-use borrow.Author.Needs.{needs}
-use Prim.Native.Nat.{_-_, _≤_}
+-- `record::record_ok` meets its contract.
 use mathlib.Core.Path.{_≡_, refl, sym, _∙_, ap}
 use mathlib.Core.Bool.{true, false}
+use Prim.Native.Nat.{_-_, _≤_}
 use native.Mathlib.Omega.{arith}
+use borrow.Author.Needs.{needs}
 use Rattle.record.specs.Record.{addUp}
 use Rattle.record.proofs.Tallies.{add-up-more, add-up-not, too-many, by-counts}
 use Rattle.record.proofs.record_ok.Statement.{statement}

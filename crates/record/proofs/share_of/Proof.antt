@@ -1,7 +1,8 @@
+-- `record::share_of` meets its contract.
 use native.Mathlib.Omega.{arith}
+use borrow.Author.Needs.{needs}
 use Rattle.record.specs.Record.{share}
 use Rattle.record.proofs.Tallies.{share-small}
-use borrow.Author.Needs.{needs}
 use Rattle.record.proofs.share_of.Statement.{statement}
 use Rattle.record.proofs.share_of.Tie as tie
 use Rattle.record.proofs.share_of.Reads as reads

@@ -1,9 +1,10 @@
-use Prim.Native.Nat.{ℕ, _+_, _*_}
+-- `record::sum_at` meets its contract.
 use mathlib.Core.Path.{ap}
-use denote.Ref.{now}
-use lib.ListN.{getD}
+use Prim.Native.Nat.{ℕ, _+_, _*_}
 use native.Mathlib.Omega.{arith}
+use lib.ListN.{getD}
 use borrow.Author.Needs.{needs}
+use denote.Ref.{now}
 use Rattle.record.proofs.sum_at.Statement.{statement}
 use Rattle.record.proofs.sum_at.Tie as tie
 use Rattle.record.proofs.sum_at.Reads as reads

@@ -1,5 +1,6 @@
-use Rattle.record.proofs.Tallies.{countable, record-is}
+-- `record::with_round` meets its contract.
 use borrow.Author.Needs.{needs}
+use Rattle.record.proofs.Tallies.{countable, record-is}
 use Rattle.record.proofs.with_round.Statement.{statement}
 use Rattle.record.proofs.with_round.Tie as tie
 use Rattle.record.proofs.with_round.Reads as reads

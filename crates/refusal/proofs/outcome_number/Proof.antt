@@ -1,3 +1,4 @@
+-- `refusal::outcome_number` meets its contract.
 use borrow.Author.Needs.{needs}
 use Rattle.refusal.proofs.outcome_number.Statement.{statement}
 use Rattle.refusal.proofs.outcome_number.Tie as tie

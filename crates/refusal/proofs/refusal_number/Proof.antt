@@ -1,3 +1,4 @@
+-- `refusal::refusal_number` meets its contract.
 use borrow.Author.Needs.{needs}
 use Rattle.refusal.proofs.refusal_number.Statement.{statement}
 use Rattle.refusal.proofs.refusal_number.Tie as tie

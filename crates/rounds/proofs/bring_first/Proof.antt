@@ -1,7 +1,7 @@
--- `rounds::bring_first` meets its contract. Assumes nothing.
+-- `rounds::bring_first` meets its contract.
+use mathlib.Core.Option.{none}
 use native.Mathlib.Omega.{arith}
 use borrow.Author.Needs.{needs}
-use mathlib.Core.Option.{none}
 use Rattle.lanes.specs.Around.{unless}
 use Rattle.lanes.proofs.RowLaws.{room-most}
 use Rattle.rounds.proofs.bring_first.Statement.{statement}

@@ -1,7 +1,7 @@
--- `rounds::bring_pairs` meets its contract. Assumes nothing.
+-- `rounds::bring_pairs` meets its contract.
+use Prim.Native.Nat.{_+_, _/_, _^_, _<_, _≤_}
 use native.Mathlib.Omega.{arith}
 use borrow.Author.Needs.{needs}
-use Prim.Native.Nat.{_+_, _/_, _^_, _<_, _≤_}
 use Rattle.lanes.proofs.RowLaws.{room-two, room-four}
 use Rattle.rounds.proofs.bring_pairs.Statement.{statement}
 use Rattle.rounds.proofs.bring_pairs.Tie as tie

@@ -1,11 +1,11 @@
--- `rounds::bring_row` meets its contract: the members below b are done. Assumes nothing.
-use native.Mathlib.Omega.{arith}
-use borrow.Author.Needs.{needs}
+-- `rounds::bring_row` meets its contract: the members below b are done.
 use mathlib.Core.Path.{_≡_, refl}
-use Prim.Native.Nat.{ℕ, _+_, _-_, _*_, _^_, _≤_}
-use lib.ListN.{length}
 use mathlib.Core.List.{List}
 use mathlib.Core.Option.{Option}
+use Prim.Native.Nat.{ℕ, _+_, _-_, _*_, _^_, _≤_}
+use native.Mathlib.Omega.{arith}
+use lib.ListN.{length}
+use borrow.Author.Needs.{needs}
 use Rattle.lanes.specs.Around.{Before}
 use Rattle.lanes.specs.Coded.{sheetOf}
 use Rattle.rounds.proofs.RowLaws.{Bringing, bring-first, bring-more, bring-all, rows-end}

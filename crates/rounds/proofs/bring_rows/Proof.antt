@@ -1,11 +1,11 @@
--- `rounds::bring_rows` meets its contract: the groups below g are done, and rows between them have nothing. Assumes nothing.
-use native.Mathlib.Omega.{arith}
-use borrow.Author.Needs.{needs}
+-- `rounds::bring_rows` meets its contract: the groups below g are done, and rows between them have nothing.
 use mathlib.Core.Path.{_≡_, refl}
 use mathlib.Core.List.{List}
 use mathlib.Core.Option.{some}
 use Prim.Native.Nat.{ℕ, _+_, _-_, _*_, _^_, _≤_, min}
+use native.Mathlib.Omega.{arith}
 use lib.ListN.{length}
+use borrow.Author.Needs.{needs}
 use Rattle.pairs.specs.Storage.{stored}
 use Rattle.pairs.specs.Changes.{Adds}
 use Rattle.lanes.specs.Around.{unless}

@@ -1,10 +1,10 @@
--- `rounds::clear_groups` meets its contract: the groups below g are emptied. Assumes nothing.
-use native.Mathlib.Omega.{arith}
-use borrow.Author.Needs.{needs}
+-- `rounds::clear_groups` meets its contract: the groups below g are emptied.
 use mathlib.Core.Path.{_≡_, refl}
 use mathlib.Core.Bool.{true}
 use Prim.Native.Nat.{_-_, _*_, _≤_, _<_}
+use native.Mathlib.Omega.{arith}
 use lib.ListN.{length}
+use borrow.Author.Needs.{needs}
 use Rattle.pairs.specs.Changes.{rowBit}
 use Rattle.rounds.proofs.GroupLaws.{Emptying, emptying-none, emptying-more, emptying-all}
 use Rattle.rounds.proofs.clear_groups.Statement.{statement}

@@ -1,7 +1,7 @@
--- `rounds::first_round` meets its contract. Assumes nothing.
-use borrow.Author.Needs.{needs}
+-- `rounds::first_round` meets its contract.
 use Prim.Native.Nat.{_+_}
 use lib.Pow.{pow-pos}
+use borrow.Author.Needs.{needs}
 use Rattle.rounds.proofs.RoundLaws.{rounded-first}
 use Rattle.rounds.proofs.first_round.Statement.{statement}
 use Rattle.rounds.proofs.first_round.Tie as tie

@@ -1,14 +1,14 @@
--- `rounds::gain_row` meets its contract: the words below j are done. Assumes nothing.
-use native.Mathlib.Omega.{arith}
-use borrow.Author.Needs.{needs}
-use borrow.Author.Tests.{not-true}
+-- `rounds::gain_row` meets its contract: the words below j are done.
 use mathlib.Core.Path.{_≡_, refl, ap, _∙_}
 use mathlib.Core.Bool.{_&&_}
 use mathlib.Core.List.{List}
 use mathlib.Core.Option.{Option}
 use Prim.Native.Nat.{ℕ, _+_, _-_, _*_, _^_, _≤_}
+use native.Mathlib.Omega.{arith}
 use lib.Dec.{eqb, ltb}
 use lib.ListN.{length}
+use borrow.Author.Needs.{needs}
+use borrow.Author.Tests.{not-true}
 use Rattle.pairs.specs.Storage.{stored}
 use Rattle.pairs.specs.Changes.{Adds}
 use Rattle.lanes.specs.Around.{room, Seen}

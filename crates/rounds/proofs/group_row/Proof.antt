@@ -1,4 +1,4 @@
--- `rounds::group_row` meets its contract: where nothing was heard, nothing is left to join. Assumes nothing.
+-- `rounds::group_row` meets its contract: where nothing was heard, nothing is left to join.
 use native.Mathlib.Omega.{arith}
 use borrow.Author.Needs.{needs}
 use Rattle.rounds.proofs.RowLaws.{sparse-noted}

@@ -1,10 +1,10 @@
--- `rounds::group_rows` meets its contract: the rows below a have joined. Assumes nothing.
-use native.Mathlib.Omega.{arith}
-use borrow.Author.Needs.{needs}
+-- `rounds::group_rows` meets its contract: the rows below a have joined.
 use mathlib.Core.Path.{_≡_, refl}
 use Prim.Native.Nat.{_+_, _-_, _*_, _≤_, min}
+use native.Mathlib.Omega.{arith}
 use lib.ListN.{length}
 use lib.Bits.{and-le-l}
+use borrow.Author.Needs.{needs}
 use Rattle.pairs.specs.Storage.{stored}
 use Rattle.pairs.specs.Changes.{Adds}
 use Rattle.rounds.specs.Rows.{among, grouped, Sparse}

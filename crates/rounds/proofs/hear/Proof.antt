@@ -1,9 +1,9 @@
--- `rounds::hear` meets its contract: the words below j are done. Assumes nothing.
-use native.Mathlib.Omega.{arith}
-use borrow.Author.Needs.{needs}
+-- `rounds::hear` meets its contract: the words below j are done.
 use mathlib.Core.Path.{_≡_, refl}
 use Prim.Native.Nat.{_-_, _*_, _≤_}
+use native.Mathlib.Omega.{arith}
 use lib.ListN.{length}
+use borrow.Author.Needs.{needs}
 use Rattle.pairs.specs.Changes.{Adds}
 use Rattle.rounds.specs.Rows.{among, heardFirst}
 use Rattle.rounds.proofs.RoundLaws.{heard-none, heard-more, heard-all}

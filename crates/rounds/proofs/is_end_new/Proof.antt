@@ -1,8 +1,8 @@
--- `rounds::is_end_new` meets its contract: no end is new in the words below j. Assumes nothing.
-use native.Mathlib.Omega.{arith}
-use borrow.Author.Needs.{needs}
+-- `rounds::is_end_new` meets its contract: no end is new in the words below j.
 use mathlib.Core.Bool.{true≢false}
 use Prim.Native.Nat.{_-_, _*_, _≤_}
+use native.Mathlib.Omega.{arith}
+use borrow.Author.Needs.{needs}
 use Rattle.pairs.specs.Storage.{stored}
 use Rattle.rounds.specs.Rows.{NoEndNew}
 use Rattle.rounds.proofs.EndLaws.{no-end-more}

@@ -1,8 +1,8 @@
--- `rounds::is_quiet` meets its contract: if the words below k joined give nothing, they are 0. Assumes nothing.
-use native.Mathlib.Omega.{arith}
-use borrow.Author.Needs.{needs}
+-- `rounds::is_quiet` meets its contract: if the words below k joined give nothing, they are 0.
 use mathlib.Core.Bool.{true≢false}
 use Prim.Native.Nat.{_+_, _-_, _*_, _≤_}
+use native.Mathlib.Omega.{arith}
+use borrow.Author.Needs.{needs}
 use borrow.Author.Tests.{eqb-true}
 use Rattle.rounds.proofs.WordLaws.{Joining, joining-none, joining-more, joining-quiet}
 use Rattle.rounds.proofs.is_quiet.Statement.{statement}

@@ -1,9 +1,9 @@
--- `rounds::join_row` meets its contract: the words below j have joined. Assumes nothing.
-use native.Mathlib.Omega.{arith}
-use borrow.Author.Needs.{needs}
+-- `rounds::join_row` meets its contract: the words below j have joined.
 use mathlib.Core.Path.{_≡_, refl}
 use Prim.Native.Nat.{_-_, _*_, _≤_}
+use native.Mathlib.Omega.{arith}
 use lib.ListN.{length}
+use borrow.Author.Needs.{needs}
 use Rattle.pairs.specs.Changes.{Adds}
 use Rattle.rounds.proofs.WordLaws.{Joined, joined-none, joined-more, joined-all}
 use Rattle.rounds.proofs.join_row.Statement.{statement}

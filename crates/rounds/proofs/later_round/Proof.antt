@@ -1,8 +1,8 @@
--- `rounds::later_round` meets its contract: the steps are those of a round on groups. Assumes nothing.
-use native.Mathlib.Omega.{arith}
-use borrow.Author.Needs.{needs}
+-- `rounds::later_round` meets its contract: the steps are those of a round on groups.
 use mathlib.Core.Path.{refl}
 use mathlib.Core.List.{[]}
+use native.Mathlib.Omega.{arith}
+use borrow.Author.Needs.{needs}
 use Rattle.rounds.proofs.RoundLaws.{rounded-later, cleared-sparse, sparse-kept}
 use Rattle.rounds.proofs.GroupLaws.{sparse-brought, no-ends}
 use Rattle.rounds.proofs.later_round.Statement.{statement}

@@ -1,7 +1,7 @@
--- `rounds::row_lanes` meets its contract. Assumes nothing.
+-- `rounds::row_lanes` meets its contract.
 use native.Mathlib.Omega.{arith}
-use Rattle.rounds.proofs.WordLaws.{row-one, row-two, row-four}
 use borrow.Author.Needs.{needs}
+use Rattle.rounds.proofs.WordLaws.{row-one, row-two, row-four}
 use Rattle.rounds.proofs.row_lanes.Statement.{statement}
 use Rattle.rounds.proofs.row_lanes.Tie as tie
 

@@ -1,6 +1,6 @@
--- `rounds::row_words` meets its contract. Assumes nothing.
-use Rattle.rounds.proofs.RoundLaws.{wide}
+-- `rounds::row_words` meets its contract.
 use borrow.Author.Needs.{needs}
+use Rattle.rounds.proofs.RoundLaws.{wide}
 use Rattle.rounds.proofs.row_words.Statement.{statement}
 use Rattle.rounds.proofs.row_words.Tie as tie
 

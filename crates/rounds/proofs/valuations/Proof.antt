@@ -1,4 +1,4 @@
--- `rounds::valuations` meets its contract. Assumes nothing.
+-- `rounds::valuations` meets its contract.
 use borrow.Author.Needs.{needs}
 use Rattle.rounds.proofs.RoundLaws.{two-to}
 use Rattle.rounds.proofs.valuations.Statement.{statement}

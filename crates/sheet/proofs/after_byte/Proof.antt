@@ -1,3 +1,4 @@
+-- `sheet::after_byte` meets its contract.
 use borrow.Author.Needs.{needs}
 use borrow.Author.Tests.{lt-ltb, le-ltb}
 use Rattle.sheet.specs.Depth.{depthAfter}

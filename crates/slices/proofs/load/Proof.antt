@@ -1,10 +1,11 @@
-use Prim.Native.Nat.{_-_, _≤_}
+-- `slices::load` meets its contract.
 use mathlib.Core.Path.{_≡_, refl}
-use denote.Ref.{now}
-use lib.ListN.{drop}
-use Rattle.slices.proofs.SliceLaws.{TakenTo, taken-more, taken-all}
+use Prim.Native.Nat.{_-_, _≤_}
 use native.Mathlib.Omega.{arith}
+use lib.ListN.{drop}
 use borrow.Author.Needs.{needs}
+use denote.Ref.{now}
+use Rattle.slices.proofs.SliceLaws.{TakenTo, taken-more, taken-all}
 use Rattle.slices.proofs.load.Statement.{statement}
 use Rattle.slices.proofs.load.Tie as tie
 use Rattle.slices.proofs.load.Reads as reads

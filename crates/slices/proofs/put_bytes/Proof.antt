@@ -1,9 +1,10 @@
-use Prim.Native.Nat.{_-_, _≤_}
+-- `slices::put_bytes` meets its contract.
 use mathlib.Core.Path.{_≡_}
-use denote.Ref.{now}
-use Rattle.slices.proofs.SliceLaws.{PutTo, put-none, put-more}
+use Prim.Native.Nat.{_-_, _≤_}
 use native.Mathlib.Omega.{arith}
 use borrow.Author.Needs.{needs}
+use denote.Ref.{now}
+use Rattle.slices.proofs.SliceLaws.{PutTo, put-none, put-more}
 use Rattle.slices.proofs.put_bytes.Statement.{statement}
 use Rattle.slices.proofs.put_bytes.Tie as tie
 use Rattle.slices.proofs.put_bytes.Reads as reads

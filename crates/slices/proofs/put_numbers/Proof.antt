@@ -1,8 +1,9 @@
-use Prim.Native.Nat.{_-_, _≤_}
+-- `slices::put_numbers` meets its contract.
 use mathlib.Core.Path.{_≡_, refl}
+use Prim.Native.Nat.{_-_, _≤_}
+use native.Mathlib.Omega.{arith}
 use denote.Ref.{now}
 use Rattle.slices.proofs.SliceLaws.{PutTo, put-none, put-more}
-use native.Mathlib.Omega.{arith}
 use Rattle.slices.proofs.put_numbers.Statement.{statement}
 use Rattle.slices.proofs.put_numbers.Tie as tie
 use Rattle.slices.proofs.put_numbers.Reads as reads

@@ -1,3 +1,4 @@
+-- `slices::rounds_by` meets its contract.
 use borrow.Author.Tests.{lt-ltb, le-ltb}
 use borrow.Author.Needs.{needs}
 use Rattle.slices.proofs.rounds_by.Statement.{statement}

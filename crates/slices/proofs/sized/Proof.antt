@@ -1,3 +1,4 @@
+-- `slices::sized` meets its contract.
 use borrow.Author.Tests.{eq-eqb, ne-eqb}
 use Rattle.slices.proofs.sized.Statement.{statement}
 use Rattle.slices.proofs.sized.Tie as tie

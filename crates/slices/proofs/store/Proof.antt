@@ -1,10 +1,11 @@
+-- `slices::store` meets its contract.
 use mathlib.Core.Path.{_≡_, sym, _∙_, ap}
-use denote.Ref.{now}
 use native.Mathlib.Omega.{arith}
 use lib.ListN.{length, set, length-set}
 use lib.Seq.{length-paste}
-use Rattle.slices.proofs.SliceLaws.{stored-numbers}
 use borrow.Author.Needs.{needs}
+use denote.Ref.{now}
+use Rattle.slices.proofs.SliceLaws.{stored-numbers}
 use Rattle.slices.proofs.store.Statement.{statement}
 use Rattle.slices.proofs.store.Tie as tie
 use Rattle.slices.proofs.store.Reads as reads

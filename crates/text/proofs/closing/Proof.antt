@@ -1,6 +1,7 @@
+-- `text::closing` meets its contract.
 use native.Mathlib.Omega.{arith}
-use Rattle.text.proofs.WroteLaws.{wrote-then}
 use borrow.Author.Needs.{needs}
+use Rattle.text.proofs.WroteLaws.{wrote-then}
 use Rattle.text.proofs.closing.Statement.{statement}
 use Rattle.text.proofs.closing.Tie as tie
 use Rattle.text.proofs.closing.Reads as reads

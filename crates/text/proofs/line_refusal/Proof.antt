@@ -1,7 +1,8 @@
+-- `text::line_refusal` meets its contract.
 use native.Mathlib.Omega.{arith}
+use borrow.Author.Needs.{needs}
 use Rattle.text.proofs.WroteLaws.{wrote-then}
 use Rattle.text.proofs.DecimalLaws.{decimal-length}
-use borrow.Author.Needs.{needs}
 use Rattle.text.proofs.line_refusal.Statement.{statement}
 use Rattle.text.proofs.line_refusal.Tie as tie
 use Rattle.text.proofs.line_refusal.Reads as reads

@@ -1,9 +1,10 @@
-use native.Mathlib.Omega.{arith}
-use Rattle.text.proofs.WroteLaws.{wrote-then}
+-- `text::output_number` meets its contract.
 use mathlib.Core.Path.{ap}
+use native.Mathlib.Omega.{arith}
 use lib.ListN.{length}
-use Rattle.text.proofs.DecimalLaws.{decimal-small}
 use borrow.Author.Needs.{needs}
+use Rattle.text.proofs.WroteLaws.{wrote-then}
+use Rattle.text.proofs.DecimalLaws.{decimal-small}
 use Rattle.text.proofs.output_number.Statement.{statement}
 use Rattle.text.proofs.output_number.Tie as tie
 use Rattle.text.proofs.output_number.Reads as reads

@@ -1,8 +1,9 @@
+-- `text::refused` meets its contract.
 use native.Mathlib.Omega.{arith}
+use borrow.Author.Needs.{needs}
 use Rattle.text.proofs.WroteLaws.{wrote-then}
 use Rattle.text.proofs.DecimalLaws.{decimal-length}
 use Rattle.text.proofs.RefusalLaws.{refusal-short}
-use borrow.Author.Needs.{needs}
 use Rattle.text.proofs.refused.Statement.{statement}
 use Rattle.text.proofs.refused.Tie as tie
 use Rattle.text.proofs.refused.Reads as reads

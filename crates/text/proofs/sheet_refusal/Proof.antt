@@ -1,6 +1,7 @@
+-- `text::sheet_refusal` meets its contract.
 use native.Mathlib.Omega.{arith}
-use Rattle.text.proofs.WroteLaws.{wrote-then}
 use borrow.Author.Needs.{needs}
+use Rattle.text.proofs.WroteLaws.{wrote-then}
 use Rattle.text.proofs.sheet_refusal.Statement.{statement}
 use Rattle.text.proofs.sheet_refusal.Tie as tie
 use Rattle.text.proofs.sheet_refusal.Reads as reads

@@ -1,9 +1,10 @@
-use denote.Ref.{now}
-use Rattle.text.proofs.TallyLaws.{wrote-trues}
+-- `text::tally_line` meets its contract.
 use native.Mathlib.Omega.{arith}
-use Rattle.text.proofs.WroteLaws.{wrote-then}
-use Rattle.text.specs.Text.{tallyLine}
 use borrow.Author.Needs.{needs}
+use denote.Ref.{now}
+use Rattle.text.specs.Text.{tallyLine}
+use Rattle.text.proofs.TallyLaws.{wrote-trues}
+use Rattle.text.proofs.WroteLaws.{wrote-then}
 use Rattle.text.proofs.tally_line.Statement.{statement}
 use Rattle.text.proofs.tally_line.Tie as tie
 use Rattle.text.proofs.tally_line.Reads as reads

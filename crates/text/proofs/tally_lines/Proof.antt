@@ -1,3 +1,4 @@
+-- `text::tally_lines` meets its contract.
 use Prim.Native.Nat.{_≤_, _+_, _*_, _-_}
 use native.Mathlib.Omega.{arith}
 use native.Mathlib.Nat.{le-antisymm}

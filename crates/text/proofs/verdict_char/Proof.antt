@@ -1,6 +1,7 @@
-use Rattle.text.proofs.VerdictLaws.{char-broken}
+-- `text::verdict_char` meets its contract.
 use native.Mathlib.Omega.{arith}
 use borrow.Author.Needs.{needs}
+use Rattle.text.proofs.VerdictLaws.{char-broken}
 use Rattle.text.proofs.verdict_char.Statement.{statement}
 use Rattle.text.proofs.verdict_char.Tie as tie
 use Rattle.text.proofs.verdict_char.Reads as reads

@@ -1,6 +1,7 @@
-use Prim.Native.Nat.{_≤_, _+_, _-_}
+-- `text::verdict_line` meets its contract.
 use mathlib.Core.Path.{_≡_}
 use mathlib.Core.List.{map}
+use Prim.Native.Nat.{_≤_, _+_, _-_}
 use native.Mathlib.Omega.{arith}
 use native.Mathlib.Nat.{le-antisymm}
 use borrow.Author.Needs.{needs}

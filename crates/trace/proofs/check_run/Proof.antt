@@ -1,8 +1,8 @@
--- `trace::check_run` meets its contract. Assumes nothing.
-use native.Mathlib.Omega.{arith}
+-- `trace::check_run` meets its contract.
 use mathlib.Core.Logic.{inl, inr}
-use Rattle.trace.proofs.Decided.{extent-broken, letter-broken, run-accepted}
+use native.Mathlib.Omega.{arith}
 use borrow.Author.Needs.{needs}
+use Rattle.trace.proofs.Decided.{extent-broken, letter-broken, run-accepted}
 use Rattle.trace.proofs.check_run.Statement.{statement}
 use Rattle.trace.proofs.check_run.Tie as tie
 

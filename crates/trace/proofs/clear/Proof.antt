@@ -1,7 +1,7 @@
--- `trace::clear` meets its contract. Assumes nothing.
-use native.Mathlib.Omega.{arith}
-use Prim.Native.Nat.{ℕ, _-_, _≤_, _<_}
+-- `trace::clear` meets its contract.
 use mathlib.Core.Path.{_≡_, refl, _∙_}
+use Prim.Native.Nat.{ℕ, _-_, _≤_, _<_}
+use native.Mathlib.Omega.{arith}
 use lib.ListN.{length, getD, set, length-set}
 use Rattle.words.proofs.ListLaws.{set-more}
 use Rattle.trace.proofs.clear.Statement.{statement}

@@ -1,10 +1,10 @@
--- `trace::evaluate` meets its contract. Assumes nothing.
+-- `trace::evaluate` meets its contract.
+use mathlib.Core.Path.{refl}
+use lib.ListN.{length}
+use borrow.Author.Needs.{needs}
 use Rattle.sheet.specs.Reading.{ruleSheet}
 use Rattle.trace.proofs.Decided.{inputs-byte, sheet-refused, run-decided}
 use Rattle.trace.proofs.Whole.{evaluated-of, left-length}
-use mathlib.Core.Path.{refl}
-use borrow.Author.Needs.{needs}
-use lib.ListN.{length}
 use Rattle.trace.proofs.evaluate.Statement.{statement}
 use Rattle.trace.proofs.evaluate.Tie as tie
 

@@ -1,6 +1,6 @@
--- `trace::fill` meets its contract. Assumes nothing.
-use Rattle.trace.proofs.Whole.{setting-of, told-reads, part-length, cleared-room, bytes-start, written-of}
+-- `trace::fill` meets its contract.
 use borrow.Author.Needs.{needs}
+use Rattle.trace.proofs.Whole.{setting-of, told-reads, part-length, cleared-room, bytes-start, written-of}
 use Rattle.trace.proofs.fill.Statement.{statement}
 use Rattle.trace.proofs.fill.Tie as tie
 

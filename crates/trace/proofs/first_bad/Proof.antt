@@ -1,9 +1,9 @@
--- `trace::first_bad` meets its contract. Assumes nothing.
-use native.Mathlib.Omega.{arith}
+-- `trace::first_bad` meets its contract.
 use Prim.Native.Nat.{ℕ, _-_, _^_, _≤_, _<_}
+use native.Mathlib.Omega.{arith}
+use lib.ListN.{length, getD}
 use borrow.Author.Count.{below-more}
 use borrow.Author.Needs.{needs}
-use lib.ListN.{length, getD}
 use Rattle.trace.proofs.Rounds.{letter-small, letter-large}
 use Rattle.trace.proofs.first_bad.Statement.{statement}
 use Rattle.trace.proofs.first_bad.Tie as tie

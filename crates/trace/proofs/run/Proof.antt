@@ -1,4 +1,4 @@
--- `trace::run` meets its contract. Assumes nothing.
+-- `trace::run` meets its contract.
 use mathlib.Core.Path.{refl}
 use borrow.Author.Needs.{needs}
 use Rattle.trace.proofs.run.Statement.{statement}

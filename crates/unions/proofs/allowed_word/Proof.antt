@@ -1,9 +1,10 @@
-use native.Mathlib.Omega.{arith}
+-- `unions::allowed_word` meets its contract.
 use mathlib.Core.Path.{ap₂, _∙_}
 use mathlib.Core.Bool.{_&&_}
+use native.Mathlib.Omega.{arith}
+use borrow.Author.Needs.{needs}
 use Rattle.words.proofs.BitLaws.{bit-and}
 use Rattle.unions.proofs.Rows.{allowed-nothing, allowed-by, below-output}
-use borrow.Author.Needs.{needs}
 use Rattle.unions.proofs.allowed_word.Statement.{statement}
 use Rattle.unions.proofs.allowed_word.Tie as tie
 

@@ -1,8 +1,9 @@
-use native.Mathlib.Omega.{arith}
-use Prim.Native.Nat.{_-_, _≤_}
+-- `unions::covers` meets its contract.
 use mathlib.Core.Bool.{true≢false}
-use Rattle.unions.proofs.Rows.{Covering, covering-more, covered}
+use Prim.Native.Nat.{_-_, _≤_}
+use native.Mathlib.Omega.{arith}
 use borrow.Author.Needs.{needs}
+use Rattle.unions.proofs.Rows.{Covering, covering-more, covered}
 use Rattle.unions.proofs.covers.Statement.{statement}
 use Rattle.unions.proofs.covers.Tie as tie
 

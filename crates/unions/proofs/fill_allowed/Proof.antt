@@ -1,14 +1,14 @@
-use lib.ListN.{length-set}
-use native.Mathlib.Omega.{arith}
-use Prim.Native.Nat.{ℕ, _-_, _≤_}
+-- `unions::fill_allowed` meets its contract.
 use mathlib.Core.Path.{_≡_, refl}
 use mathlib.Core.List.{List}
-use lib.ListN.{length}
-use Rattle.sheet.specs.RuleSheet.{requiredOf}
-use Rattle.lanes.specs.Coded.{sheetOf}
-use Rattle.completions.specs.Live.{allowed}
-use Rattle.unions.proofs.Rows.{LanesTo, lanes-none, lanes-more, lanes-all}
+use Prim.Native.Nat.{ℕ, _-_, _≤_}
+use native.Mathlib.Omega.{arith}
+use lib.ListN.{length-set, length}
 use borrow.Author.Needs.{needs}
+use Rattle.sheet.specs.RuleSheet.{requiredOf}
+use Rattle.completions.specs.Live.{allowed}
+use Rattle.lanes.specs.Coded.{sheetOf}
+use Rattle.unions.proofs.Rows.{LanesTo, lanes-none, lanes-more, lanes-all}
 use Rattle.unions.proofs.fill_allowed.Statement.{statement}
 use Rattle.unions.proofs.fill_allowed.Tie as tie
 

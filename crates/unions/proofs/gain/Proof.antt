@@ -1,14 +1,15 @@
-use native.Mathlib.Omega.{arith}
-use Prim.Native.Nat.{_-_, _≤_}
+-- `unions::gain` meets its contract.
 use mathlib.Core.Path.{_≡_, refl, ap, _∙_}
 use mathlib.Core.Bool.{Bool, _&&_, _||_}
+use Prim.Native.Nat.{_-_, _≤_}
+use native.Mathlib.Omega.{arith}
 use lib.Bits.{bitAnd}
 use lib.ListN.{length, length-set, getD}
+use borrow.Author.Needs.{needs}
 use Rattle.words.specs.Bits.{bit}
 use Rattle.words.proofs.BitLaws.{bit-and, bit-or}
 use Rattle.pairs.specs.Changes.{rowBit}
 use Rattle.unions.proofs.Rows.{LanesTo, row-lane, gains-none, gains-more, gains-all}
-use borrow.Author.Needs.{needs}
 use Rattle.unions.proofs.gain.Statement.{statement}
 use Rattle.unions.proofs.gain.Tie as tie
 use Rattle.unions.proofs.gain.Reads as reads

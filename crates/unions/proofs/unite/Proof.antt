@@ -1,15 +1,16 @@
+-- `unions::unite` meets its contract.
 use mathlib.Core.Path.{refl, ap}
-use native.Mathlib.Omega.{arith}
-use Rattle.lanes.proofs.RowLaws.{room-most}
-use Rattle.unions.proofs.Rows.{lanes-row}
 use mathlib.Core.Bool.{Bool, _&&_}
 use mathlib.Core.Option.{some}
-use Rattle.pairs.specs.Changes.{rowBit}
+use native.Mathlib.Omega.{arith}
+use borrow.Author.Needs.{needs}
 use Rattle.lola.specs.Equations.{holds}
+use Rattle.pairs.specs.Changes.{rowBit}
 use Rattle.lanes.specs.Around.{unless}
 use Rattle.lanes.specs.Coded.{sheetOf}
+use Rattle.lanes.proofs.RowLaws.{room-most}
+use Rattle.unions.proofs.Rows.{lanes-row}
 use Rattle.unions.proofs.Uniting.{united-old, united-as}
-use borrow.Author.Needs.{needs}
 use Rattle.unions.proofs.unite.Statement.{statement}
 use Rattle.unions.proofs.unite.Tie as tie
 use Rattle.unions.proofs.unite.Reads as reads

@@ -1,9 +1,10 @@
-use native.Mathlib.Omega.{arith}
+-- `unions::unite_row` meets its contract.
 use mathlib.Core.Path.{sym, _∙_}
+use native.Mathlib.Omega.{arith}
 use borrow.Author.Tests.{not-true, not-false}
+use borrow.Author.Needs.{needs}
 use Rattle.lanes.specs.Around.{unless}
 use Rattle.unions.proofs.Uniting.{united-no-end, united-end}
-use borrow.Author.Needs.{needs}
 use Rattle.unions.proofs.unite_row.Statement.{statement}
 use Rattle.unions.proofs.unite_row.Tie as tie
 

@@ -1,12 +1,13 @@
-use native.Mathlib.Omega.{arith}
-use Prim.Native.Nat.{ℕ, _+_, _*_, _-_, _≤_}
+-- `unions::unite_valuations` meets its contract.
 use mathlib.Core.Path.{_≡_, refl}
 use mathlib.Core.List.{List}
+use Prim.Native.Nat.{ℕ, _+_, _*_, _-_, _≤_}
+use native.Mathlib.Omega.{arith}
 use lib.ListN.{length}
+use borrow.Author.Needs.{needs}
 use Rattle.lanes.specs.Around.{unless}
 use Rattle.lanes.specs.Coded.{sheetOf}
 use Rattle.unions.proofs.Uniting.{Uniting, uniting-first, uniting-more, uniting-all}
-use borrow.Author.Needs.{needs}
 use Rattle.unions.proofs.unite_valuations.Statement.{statement}
 use Rattle.unions.proofs.unite_valuations.Tie as tie
 

@@ -1,3 +1,4 @@
+-- `vectors::main` meets its contract.
 use mathlib.Core.Path.{_≡_}
 use lib.ListN.{length}
 use borrow.Author.Needs.{needs}

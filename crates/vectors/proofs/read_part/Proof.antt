@@ -1,5 +1,6 @@
-use native.Mathlib.Omega.{arith}
+-- `vectors::read_part` meets its contract.
 use mathlib.Core.Path.{sym}
+use native.Mathlib.Omega.{arith}
 use lib.Seq.{length-take-le}
 use borrow.Author.Needs.{needs}
 use Rattle.vectors.proofs.read_part.Statement.{statement}

@@ -1,4 +1,4 @@
--- `verdicts::closing_verdicts` meets its contract. Assumes nothing.
+-- `verdicts::closing_verdicts` meets its contract.
 use native.Mathlib.Omega.{arith}
 use borrow.Author.Needs.{needs}
 use Rattle.verdicts.proofs.VerdictLaws.{verdicts-as, ends-verdict}

@@ -1,10 +1,10 @@
--- `verdicts::ends` meets its contract: the words below j are done. Assumes nothing.
-use borrow.Author.Needs.{needs}
+-- `verdicts::ends` meets its contract: the words below j are done.
 use mathlib.Core.Path.{refl}
-use Prim.Native.Nat.{_-_}
 use mathlib.Core.Option.{none}
 use mathlib.Core.Bool.{_&&_}
+use Prim.Native.Nat.{_-_}
 use lib.Dec.{ltb}
+use borrow.Author.Needs.{needs}
 use Rattle.pairs.specs.Storage.{stored}
 use Rattle.verdicts.proofs.VerdictLaws.{Filling, filling-none, filling-more, filling-all, ends-lane}
 use Rattle.verdicts.proofs.ends.Statement.{statement}

@@ -1,10 +1,10 @@
--- `verdicts::firsts` meets its contract: the words below j are done. Assumes nothing.
-use native.Mathlib.Omega.{arith}
-use borrow.Author.Needs.{needs}
+-- `verdicts::firsts` meets its contract: the words below j are done.
 use mathlib.Core.Path.{refl}
-use Prim.Native.Nat.{_-_}
 use mathlib.Core.Bool.{_&&_}
+use Prim.Native.Nat.{_-_}
+use native.Mathlib.Omega.{arith}
 use lib.Dec.{ltb}
+use borrow.Author.Needs.{needs}
 use Rattle.completions.specs.Steps.{anyNext}
 use Rattle.pairs.specs.Storage.{stored}
 use Rattle.rounds.specs.Rows.{among}

@@ -1,8 +1,8 @@
--- `verdicts::firsts_word` meets its contract: the lanes that are no longer in `rest` are done. Assumes nothing.
-use native.Mathlib.Omega.{arith}
+-- `verdicts::firsts_word` meets its contract: the lanes that are no longer in `rest` are done.
 use mathlib.Core.Path.{ap, _∙_}
 use mathlib.Core.Bool.{Bool, _&&_}
 use Prim.Native.Nat.{_+_, _*_}
+use native.Mathlib.Omega.{arith}
 use lib.Bits.{and-le-l}
 use lib.Count.{trailing-le}
 use Rattle.words.proofs.BitLaws.{lane-less}

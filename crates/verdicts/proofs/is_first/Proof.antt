@@ -1,8 +1,8 @@
--- `verdicts::is_first` meets its contract. Assumes nothing.
-use native.Mathlib.Omega.{arith}
+-- `verdicts::is_first` meets its contract.
 use mathlib.Core.Path.{sym, _∙_}
-use Rattle.verdicts.proofs.VerdictLaws.{first-end, first-rest}
+use native.Mathlib.Omega.{arith}
 use borrow.Author.Needs.{needs}
+use Rattle.verdicts.proofs.VerdictLaws.{first-end, first-rest}
 use Rattle.verdicts.proofs.is_first.Statement.{statement}
 use Rattle.verdicts.proofs.is_first.Tie as tie
 

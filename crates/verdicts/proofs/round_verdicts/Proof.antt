@@ -1,4 +1,4 @@
--- `verdicts::round_verdicts` meets its contract. Assumes nothing.
+-- `verdicts::round_verdicts` meets its contract.
 use native.Mathlib.Omega.{arith}
 use borrow.Author.Needs.{needs}
 use Rattle.verdicts.proofs.VerdictLaws.{verdicts-as, firsts-verdict}

@@ -1,9 +1,9 @@
--- `verdicts::shown` meets its contract: no word below j shows it. Assumes nothing.
+-- `verdicts::shown` meets its contract: no word below j shows it.
+use mathlib.Core.Path.{_≡_, refl, sym, ap, ap₂, _∙_}
+use mathlib.Core.Bool.{Bool, false, not, _||_, Bool·beq}
+use Prim.Native.Nat.{ℕ, _-_, _≤_}
 use native.Mathlib.Omega.{arith}
 use borrow.Author.Needs.{needs}
-use mathlib.Core.Path.{_≡_, refl, sym, ap, ap₂, _∙_}
-use Prim.Native.Nat.{ℕ, _-_, _≤_}
-use mathlib.Core.Bool.{Bool, false, not, _||_, Bool·beq}
 use borrow.Author.Tests.{ne-eqb, eq-eqb}
 use Rattle.words.specs.Below.{anyBelow}
 use Rattle.words.proofs.AnyLaws.{some-any, any-one}

@@ -1,7 +1,7 @@
--- `verdicts::verdict` meets its contract. Assumes nothing.
+-- `verdicts::verdict` meets its contract.
 use mathlib.Core.Path.{sym, _∙_}
-use Rattle.verdicts.proofs.VerdictLaws.{verdict-is}
 use borrow.Author.Needs.{needs}
+use Rattle.verdicts.proofs.VerdictLaws.{verdict-is}
 use Rattle.verdicts.proofs.verdict.Statement.{statement}
 use Rattle.verdicts.proofs.verdict.Tie as tie
 

@@ -1,8 +1,8 @@
--- `verdicts::verdicts` meets its contract: the outputs below k are done. Assumes nothing.
-use borrow.Author.Needs.{needs}
-use Prim.Native.Nat.{ℕ, _+_, _-_}
+-- `verdicts::verdicts` meets its contract: the outputs below k are done.
 use mathlib.Core.Path.{ap, _∙_}
 use mathlib.Core.Bool.{true, false}
+use Prim.Native.Nat.{ℕ, _+_, _-_}
+use borrow.Author.Needs.{needs}
 use Rattle.refusal.specs.Numbers.{verdictNo}
 use Rattle.completions.specs.Steps.{verdictOf}
 use Rattle.verdicts.specs.Firsts.{shows}

@@ -1,4 +1,4 @@
--- `verdicts::with_lane` meets its contract. Assumes nothing.
+-- `verdicts::with_lane` meets its contract.
 use borrow.Author.Needs.{needs}
 use Rattle.verdicts.proofs.VerdictLaws.{lane-set, lane-kept}
 use Rattle.verdicts.proofs.with_lane.Statement.{statement}

@@ -1,3 +1,4 @@
+-- `words::agree` meets its contract.
 use mathlib.Core.Path.{_∙_}
 use Rattle.words.specs.Bits.{bit}
 use Rattle.words.proofs.BitLaws.{bit-not}

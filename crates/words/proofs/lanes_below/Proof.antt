@@ -1,9 +1,9 @@
--- `words::lanes_below` meets its contract. Assumes nothing.
-use native.Mathlib.Omega.{arith}
-use borrow.Author.Needs.{needs}
+-- `words::lanes_below` meets its contract.
 use mathlib.Core.Path.{_≡_, ap, _∙_}
 use Prim.Native.Nat.{ℕ, _-_, _*_, _%_, _^_}
+use native.Mathlib.Omega.{arith}
 use lib.Pow.{pow-pos}
+use borrow.Author.Needs.{needs}
 use Rattle.words.specs.Bits.{bit}
 use Rattle.words.proofs.BitLaws.{one-shl}
 use Rattle.words.proofs.BelowLaws.{lanes-none, lanes-all, lanes-some}

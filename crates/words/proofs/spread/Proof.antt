@@ -1,3 +1,4 @@
+-- `words::spread` meets its contract.
 use mathlib.Core.Path.{sym, _∙_}
 use Rattle.words.proofs.BitLaws.{bit-all, bit-none}
 use Rattle.words.proofs.spread.Statement.{statement}

@@ -1,7 +1,8 @@
+-- `words::stream_word` meets its contract.
 use mathlib.Core.Path.{_∙_}
 use native.Mathlib.Omega.{arith}
-use Rattle.words.proofs.LaneLaws.{stream-at, stream-high}
 use borrow.Author.Needs.{needs}
+use Rattle.words.proofs.LaneLaws.{stream-at, stream-high}
 use Rattle.words.proofs.stream_word.Statement.{statement}
 use Rattle.words.proofs.stream_word.Tie as tie
 use Rattle.words.proofs.stream_word.Reads as reads

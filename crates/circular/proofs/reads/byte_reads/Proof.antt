@@ -1,3 +1,4 @@
+-- `circular::reads::byte_reads` meets its contract.
 use mathlib.Core.Path.{sym, _∙_}
 use native.Mathlib.Omega.{arith}
 use borrow.Author.Needs.{needs}

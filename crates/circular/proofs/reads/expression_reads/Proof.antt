@@ -1,3 +1,4 @@
+-- `circular::reads::expression_reads` meets its contract.
 use Prim.Native.Nat.{_≤_, _-_}
 use native.Mathlib.Omega.{arith}
 use lib.ListN.{length}

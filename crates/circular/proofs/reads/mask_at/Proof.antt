@@ -1,3 +1,4 @@
+-- `circular::reads::mask_at` meets its contract.
 use borrow.Author.Needs.{needs}
 use Rattle.circular.proofs.Masks.{mask-bits}
 use Rattle.circular.proofs.reads.mask_at.Statement.{statement}

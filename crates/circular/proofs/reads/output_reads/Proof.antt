@@ -1,9 +1,10 @@
+-- `circular::reads::output_reads` meets its contract.
 use Prim.Native.Nat.{_*_}
 use native.Mathlib.Nat.{add-sub-cancel-left}
 use native.Mathlib.Omega.{arith}
+use lib.ListN.{getD}
 use borrow.Author.Needs.{needs}
 use borrow.Author.Tests.{lt-ltb, le-ltb}
-use lib.ListN.{getD}
 use Rattle.circular.proofs.Masks.{marks-none}
 use Rattle.circular.proofs.reads.output_reads.Statement.{statement}
 use Rattle.circular.proofs.reads.output_reads.Tie as tie

@@ -1,3 +1,4 @@
+-- `circular::reads::sheet_masks` meets its contract.
 use borrow.Author.Needs.{needs}
 use Rattle.circular.proofs.Masks.{tells}
 use Rattle.circular.proofs.reads.sheet_masks.Statement.{statement}

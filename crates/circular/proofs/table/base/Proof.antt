@@ -1,10 +1,11 @@
+-- `circular::table::base` meets its contract.
 use mathlib.Core.Path.{_≡_, ap, _∙_}
 use Prim.Native.Nat.{ℕ, _/_, _%_}
 use native.Mathlib.Omega.{arith}
 use lib.Dec.{eqb}
-use Rattle.circular.specs.Table.{baseN, topN}
-use Rattle.words.specs.Bits.{bit, digit}
 use borrow.Author.Needs.{needs}
+use Rattle.words.specs.Bits.{bit, digit}
+use Rattle.circular.specs.Table.{baseN, topN}
 use Rattle.circular.proofs.table.base.Statement.{statement}
 use Rattle.circular.proofs.table.base.Tie as tie
 

@@ -1,7 +1,8 @@
-use native.Mathlib.Omega.{arith}
-use borrow.Author.Needs.{needs}
+-- `circular::table::base_row` meets its contract.
 use mathlib.Core.Path.{_≡_, sym, _∙_}
 use Prim.Native.Nat.{_+_, _*_, _-_, _≤_}
+use native.Mathlib.Omega.{arith}
+use borrow.Author.Needs.{needs}
 use Rattle.circular.specs.Table.{baseN, readsOfWord, Small, Part}
 use Rattle.circular.proofs.Codes.{base-le}
 use Rattle.circular.proofs.Masks.{mask-base}

@@ -1,5 +1,6 @@
-use native.Mathlib.Omega.{arith}
+-- `circular::table::based` meets its contract.
 use Prim.Native.Nat.{_-_, _≤_}
+use native.Mathlib.Omega.{arith}
 use Rattle.circular.specs.Table.{baseN, readsOfWords, Small}
 use Rattle.circular.proofs.Rows.{FirstRows, rows-none, rows-more, small-zeros}
 use Rattle.circular.proofs.table.based.Statement.{statement}

@@ -1,6 +1,7 @@
-use borrow.Author.Needs.{needs}
+-- `circular::table::circular` meets its contract.
 use mathlib.Core.Path.{sym, _∙_}
 use mathlib.Core.Bool.{false≢true}
+use borrow.Author.Needs.{needs}
 use borrow.Author.Tests.{not-true}
 use Rattle.circular.proofs.Codes.{none-reads, none-rises, scan-circular, scan-not-circular}
 use Rattle.circular.proofs.table.circular.Statement.{statement}

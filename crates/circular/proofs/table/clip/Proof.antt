@@ -1,7 +1,8 @@
+-- `circular::table::clip` meets its contract.
 use native.Mathlib.Omega.{arith}
 use borrow.Author.Tests.{lt-leb}
-use Rattle.circular.specs.Table.{clipN}
 use borrow.Author.Needs.{needs}
+use Rattle.circular.specs.Table.{clipN}
 use Rattle.circular.proofs.table.clip.Statement.{statement}
 use Rattle.circular.proofs.table.clip.Tie as tie
 

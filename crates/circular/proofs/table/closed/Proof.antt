@@ -1,6 +1,7 @@
+-- `circular::table::closed` meets its contract.
+use Prim.Native.Nat.{_-_, _≤_}
 use native.Mathlib.Omega.{arith}
 use borrow.Author.Needs.{needs}
-use Prim.Native.Nat.{_-_, _≤_}
 use Rattle.circular.specs.Table.{baseN, readsOfWords, Small}
 use Rattle.circular.proofs.Codes.{Stage, stage-start, stage-next, stage-closed}
 use Rattle.circular.proofs.table.closed.Statement.{statement}

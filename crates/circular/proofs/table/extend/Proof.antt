@@ -1,7 +1,8 @@
-use native.Mathlib.Omega.{arith}
-use borrow.Author.Needs.{needs}
+-- `circular::table::extend` meets its contract.
 use mathlib.Core.Path.{_≡_, sym, ap₂, _∙_}
 use Prim.Native.Nat.{_+_, _*_, _-_, _≤_}
+use native.Mathlib.Omega.{arith}
+use borrow.Author.Needs.{needs}
 use denote.Ref.{now}
 use Rattle.circular.specs.Table.{largerN, Small, Part, joinedN}
 use Rattle.circular.proofs.Codes.{larger-le, plus-le}

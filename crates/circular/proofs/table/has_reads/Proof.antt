@@ -1,9 +1,10 @@
-use native.Mathlib.Omega.{arith}
+-- `circular::table::has_reads` meets its contract.
 use mathlib.Core.Path.{_≡_, sym}
 use mathlib.Core.Bool.{false, false≢true}
 use Prim.Native.Nat.{ℕ, _-_, _≤_, _<_}
-use Rattle.circular.specs.Table.{readsOfWords}
+use native.Mathlib.Omega.{arith}
 use borrow.Author.Count.{below-more}
+use Rattle.circular.specs.Table.{readsOfWords}
 use Rattle.circular.proofs.Masks.{no-reads}
 use Rattle.circular.proofs.table.has_reads.Statement.{statement}
 use Rattle.circular.proofs.table.has_reads.Tie as tie

@@ -1,5 +1,6 @@
-use Rattle.circular.specs.Table.{largerN}
+-- `circular::table::larger` meets its contract.
 use borrow.Author.Needs.{needs}
+use Rattle.circular.specs.Table.{largerN}
 use Rattle.circular.proofs.table.larger.Statement.{statement}
 use Rattle.circular.proofs.table.larger.Tie as tie
 

@@ -1,8 +1,9 @@
-use native.Mathlib.Omega.{arith}
+-- `circular::table::level_in_both` meets its contract.
 use mathlib.Core.Path.{_≡_, refl, sym}
 use mathlib.Core.Bool.{false}
 use mathlib.Core.Logic.{⊎-elim}
 use Prim.Native.Nat.{_-_, _≤_}
+use native.Mathlib.Omega.{arith}
 use Rattle.words.specs.Below.{anyBelow}
 use Rattle.circular.specs.Table.{levelBoth}
 use Rattle.circular.proofs.Codes.{any-more, level-at, not-first, not-second}

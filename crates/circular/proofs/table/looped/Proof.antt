@@ -1,6 +1,7 @@
+-- `circular::table::looped` meets its contract.
 use borrow.Author.Tests.{le-leb, lt-leb}
-use Rattle.circular.specs.Table.{loopN}
 use borrow.Author.Needs.{needs}
+use Rattle.circular.specs.Table.{loopN}
 use Rattle.circular.proofs.table.looped.Statement.{statement}
 use Rattle.circular.proofs.table.looped.Tie as tie
 

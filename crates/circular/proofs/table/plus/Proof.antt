@@ -1,5 +1,6 @@
-use Rattle.circular.specs.Table.{plusN}
+-- `circular::table::plus` meets its contract.
 use borrow.Author.Needs.{needs}
+use Rattle.circular.specs.Table.{plusN}
 use Rattle.circular.proofs.table.plus.Statement.{statement}
 use Rattle.circular.proofs.table.plus.Tie as tie
 

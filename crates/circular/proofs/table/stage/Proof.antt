@@ -1,6 +1,7 @@
-use native.Mathlib.Omega.{arith}
+-- `circular::table::stage` meets its contract.
 use mathlib.Core.Path.{refl, sym, _∙_}
 use Prim.Native.Nat.{_-_, _≤_}
+use native.Mathlib.Omega.{arith}
 use Rattle.circular.specs.Table.{cellN, Small}
 use Rattle.circular.proofs.Rows.{FirstRows, rows-none, rows-more, part-as, joined-cell, tails-small}
 use Rattle.circular.proofs.table.stage.Statement.{statement}

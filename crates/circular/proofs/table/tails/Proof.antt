@@ -1,10 +1,11 @@
-use native.Mathlib.Omega.{arith}
-use borrow.Author.Needs.{needs}
+-- `circular::table::tails` meets its contract.
 use mathlib.Core.Path.{_≡_, refl}
 use Prim.Native.Nat.{ℕ, _+_, _*_, _-_, _≤_, _<_}
+use native.Mathlib.Omega.{arith}
 use lib.ListN.{length, getD, length-set}
-use Rattle.circular.specs.Table.{loopN}
+use borrow.Author.Needs.{needs}
 use Rattle.words.proofs.ListLaws.{set-more}
+use Rattle.circular.specs.Table.{loopN}
 use Rattle.circular.proofs.table.tails.Statement.{statement}
 use Rattle.circular.proofs.table.tails.Tie as tie
 

@@ -1,5 +1,6 @@
-use Rattle.circular.specs.Table.{topN}
+-- `circular::table::top` meets its contract.
 use borrow.Author.Needs.{needs}
+use Rattle.circular.specs.Table.{topN}
 use Rattle.circular.proofs.table.top.Statement.{statement}
 use Rattle.circular.proofs.table.top.Tie as tie
 

@@ -1,3 +1,4 @@
+-- `pending::Pending::dot` meets its contract.
 use mathlib.Core.Path.{refl}
 use Rattle.pending.proofs.Scanning.{dot-scanned}
 use Rattle.pending.proofs.Pending.dot.Statement.{statement}

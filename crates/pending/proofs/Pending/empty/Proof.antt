@@ -1,3 +1,4 @@
+-- `pending::Pending::empty` meets its contract.
 use mathlib.Core.Path.{refl}
 use Rattle.pending.proofs.Scanning.{empty-scanned}
 use Rattle.pending.proofs.Pending.empty.Statement.{statement}

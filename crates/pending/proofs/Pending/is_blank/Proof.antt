@@ -1,3 +1,4 @@
+-- `pending::Pending::is_blank` meets its contract.
 use mathlib.Core.Bool.{false≢true}
 use borrow.Author.Tests.{eqb-true, eqb-false}
 use Rattle.pending.proofs.Standing.{scanned-blank, not-blank, some-marks}

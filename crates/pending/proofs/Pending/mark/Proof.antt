@@ -1,6 +1,7 @@
+-- `pending::Pending::mark` meets its contract.
 use mathlib.Core.Path.{refl}
-use Rattle.pending.proofs.Scanning.{zero-mark, one-mark, open-mark, no-mark, mark-none}
 use borrow.Author.Needs.{needs}
+use Rattle.pending.proofs.Scanning.{zero-mark, one-mark, open-mark, no-mark, mark-none}
 use Rattle.pending.proofs.Pending.mark.Statement.{statement}
 use Rattle.pending.proofs.Pending.mark.Tie as tie
 use Rattle.pending.proofs.Pending.mark.Reads as reads

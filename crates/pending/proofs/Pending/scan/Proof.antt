@@ -1,6 +1,7 @@
+-- `pending::Pending::scan` meets its contract.
 use native.Mathlib.Omega.{arith}
-use Rattle.pending.proofs.Scanning.{past, first-dot, late-dot, one-more}
 use borrow.Author.Needs.{needs}
+use Rattle.pending.proofs.Scanning.{past, first-dot, late-dot, one-more}
 use Rattle.pending.proofs.Pending.scan.Statement.{statement}
 use Rattle.pending.proofs.Pending.scan.Tie as tie
 use Rattle.pending.proofs.Pending.scan.Reads as reads

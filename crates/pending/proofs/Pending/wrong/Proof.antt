@@ -1,3 +1,4 @@
+-- `pending::Pending::wrong` meets its contract.
 use mathlib.Core.Path.{refl}
 use Rattle.pending.proofs.Scanning.{scanned-wrong}
 use Rattle.pending.proofs.Pending.wrong.Statement.{statement}

@@ -1,17 +1,18 @@
-use native.Mathlib.Omega.{arith}
-use borrow.Author.Needs.{needs}
+-- `text::put::decimal` meets its contract.
 use mathlib.Core.Path.{ap}
-use lib.ListN.{length}
-use Rattle.text.proofs.WroteLaws.{wrote-then}
-use Rattle.text.proofs.DecimalLaws.{decimal-small, decimal-large, decimal-large-length}
 use Prim.Native.Nat.{ℕ, _<_}
+use native.Mathlib.Omega.{arith}
+use lib.ListN.{length}
+use borrow.Author.Needs.{needs}
 use borrow.Fn.Kinds.{In}
 use borrow.Fn.PlainCycle.{Measures, is, falls, and}
-use Rattle.text.proofs.put.decimal.Reads as decimal
+use Rattle.text.proofs.WroteLaws.{wrote-then}
+use Rattle.text.proofs.DecimalLaws.{decimal-small, decimal-large, decimal-large-length}
 use Rattle.text.proofs.put.decimal.Kinds as decimal-kinds
 use Rattle.text.proofs.put.+decimal.Lts-decimal as decimal-lts
-use Rattle.text.proofs.put.byte.Reads as byte-reads
 use Rattle.text.proofs.put.+decimal.{statement}
+use Rattle.text.proofs.put.decimal.Reads as decimal
+use Rattle.text.proofs.put.byte.Reads as byte-reads
 use Rattle.text.proofs.put.+decimal.Tie.{close}
 
 abbrev μ-decimal : Measures 1 decimal-kinds.ps ℕ

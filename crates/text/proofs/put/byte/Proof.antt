@@ -1,5 +1,6 @@
-use Rattle.text.proofs.WroteLaws.{wrote-byte}
+-- `text::put::byte` meets its contract.
 use borrow.Author.Needs.{needs}
+use Rattle.text.proofs.WroteLaws.{wrote-byte}
 use Rattle.text.proofs.put.byte.Statement.{statement}
 use Rattle.text.proofs.put.byte.Tie as tie
 use Rattle.text.proofs.put.byte.Reads as reads

@@ -1,11 +1,12 @@
-use Prim.Native.Nat.{_≤_, _+_, _-_}
+-- `text::put::bytes` meets its contract.
 use mathlib.Core.Path.{_≡_}
+use Prim.Native.Nat.{_≤_, _+_, _-_}
 use native.Mathlib.Omega.{arith}
 use lib.ListN.{length, take}
 use lib.Seq.{take-all}
+use borrow.Author.Needs.{needs}
 use Rattle.text.specs.Wrote.{Wrote}
 use Rattle.text.proofs.WroteLaws.{wrote-none, wrote-next}
-use borrow.Author.Needs.{needs}
 use Rattle.text.proofs.put.bytes.Statement.{statement}
 use Rattle.text.proofs.put.bytes.Tie as tie
 use Rattle.text.proofs.put.bytes.Reads as reads

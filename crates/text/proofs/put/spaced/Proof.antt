@@ -1,7 +1,8 @@
+-- `text::put::spaced` meets its contract.
 use native.Mathlib.Omega.{arith}
+use borrow.Author.Needs.{needs}
 use Rattle.text.proofs.WroteLaws.{wrote-then}
 use Rattle.text.proofs.DecimalLaws.{decimal-length}
-use borrow.Author.Needs.{needs}
 use Rattle.text.proofs.put.spaced.Statement.{statement}
 use Rattle.text.proofs.put.spaced.Tie as tie
 use Rattle.text.proofs.put.spaced.Reads as reads

@@ -1,4 +1,4 @@
--- `trace::order::ahead` meets its contract. Assumes nothing.
+-- `trace::order::ahead` meets its contract.
 use native.Mathlib.Omega.{arith}
 use borrow.Author.Needs.{needs}
 use Rattle.trace.proofs.Leads.{ahead-none, ahead-unbounded, ahead-of}

@@ -1,6 +1,6 @@
--- `trace::order::farthest` meets its contract. Assumes nothing.
-use native.Mathlib.Omega.{arith}
+-- `trace::order::farthest` meets its contract.
 use mathlib.Core.Logic.{inl, inr, ⊎-elim}
+use native.Mathlib.Omega.{arith}
 use Rattle.trace.proofs.Leads.{toward-most, farthest-of}
 use Rattle.trace.proofs.order.farthest.Statement.{statement}
 use Rattle.trace.proofs.order.farthest.Tie as tie

@@ -1,7 +1,7 @@
--- `trace::order::is_due` meets its contract. Assumes nothing.
-use native.Mathlib.Omega.{arith}
+-- `trace::order::is_due` meets its contract.
 use mathlib.Core.Path.{sym}
 use mathlib.Core.Bool.{true≢false}
+use native.Mathlib.Omega.{arith}
 use borrow.Author.Tests.{eq-eqb, eqb-true}
 use borrow.Author.Needs.{needs}
 use Rattle.trace.proofs.order.is_due.Statement.{statement}

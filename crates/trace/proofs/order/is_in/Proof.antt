@@ -1,4 +1,4 @@
--- `trace::order::is_in` meets its contract. Assumes nothing.
+-- `trace::order::is_in` meets its contract.
 use mathlib.Core.Path.{refl}
 use borrow.Author.Needs.{needs}
 use Rattle.words.specs.Bits.{bit, digit}

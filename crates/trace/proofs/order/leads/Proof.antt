@@ -1,6 +1,6 @@
--- `trace::order::leads` meets its contract. Assumes nothing.
-use native.Mathlib.Omega.{arith}
+-- `trace::order::leads` meets its contract.
 use Prim.Native.Nat.{_-_, _≤_}
+use native.Mathlib.Omega.{arith}
 use borrow.Author.Needs.{needs}
 use Rattle.trace.proofs.Leads.{steady-of, steady-none}
 use Rattle.trace.proofs.order.leads.Statement.{statement}

@@ -1,9 +1,9 @@
--- `trace::order::order_of` meets its contract. Assumes nothing.
-use native.Mathlib.Omega.{arith}
-use Prim.Native.Nat.{_-_}
+-- `trace::order::order_of` meets its contract.
 use mathlib.Core.Path.{refl, sym, _∙_}
 use mathlib.Core.Logic.{⊎-elim}
 use mathlib.Core.Bool.{true≢false}
+use Prim.Native.Nat.{_-_}
+use native.Mathlib.Omega.{arith}
 use borrow.Author.Needs.{needs}
 use Rattle.trace.proofs.Listing.{Listing, listing-start, listing-push, listing-skip, listing-end}
 use Rattle.trace.proofs.order.order_of.Statement.{statement}

@@ -1,9 +1,9 @@
--- `trace::order::raise` meets its contract. Assumes nothing.
-use native.Mathlib.Omega.{arith}
-use Prim.Native.Nat.{ℕ, _-_, _≤_, _<_}
+-- `trace::order::raise` meets its contract.
 use mathlib.Core.Path.{_≡_}
-use borrow.Author.Needs.{needs}
+use Prim.Native.Nat.{ℕ, _-_, _≤_, _<_}
+use native.Mathlib.Omega.{arith}
 use lib.ListN.{length, length-set, getD}
+use borrow.Author.Needs.{needs}
 use Rattle.words.proofs.ListLaws.{set-more}
 use Rattle.trace.specs.Order.{Raised}
 use Rattle.trace.proofs.order.raise.Statement.{statement}

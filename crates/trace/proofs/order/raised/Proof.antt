@@ -1,10 +1,10 @@
--- `trace::order::raised` meets its contract. Assumes nothing.
-use native.Mathlib.Omega.{arith}
-use Prim.Native.Nat.{_-_, _≤_}
-use borrow.Author.Needs.{needs}
+-- `trace::order::raised` meets its contract.
 use mathlib.Core.Path.{_≡_, sym, _∙_}
-use borrow.Author.Tests.{not-false}
 use mathlib.Core.Logic.{⊎-elim}
+use Prim.Native.Nat.{_-_, _≤_}
+use native.Mathlib.Omega.{arith}
+use borrow.Author.Needs.{needs}
+use borrow.Author.Tests.{not-false}
 use Rattle.trace.specs.Order.{Raised}
 use Rattle.trace.proofs.Leads.{raised-none, raised-settled, raised-read}
 use Rattle.trace.proofs.order.raised.Statement.{statement}

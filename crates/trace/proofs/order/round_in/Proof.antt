@@ -1,7 +1,7 @@
--- `trace::order::round_in` meets its contract. Assumes nothing.
+-- `trace::order::round_in` meets its contract.
+use mathlib.Core.Logic.{inl, inr}
 use native.Mathlib.Omega.{arith}
 use borrow.Author.Needs.{needs}
-use mathlib.Core.Logic.{inl, inr}
 use Rattle.trace.proofs.Listing.{round-none, round-up, round-down}
 use Rattle.trace.proofs.order.round_in.Statement.{statement}
 use Rattle.trace.proofs.order.round_in.Tie as tie

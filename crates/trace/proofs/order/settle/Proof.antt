@@ -1,8 +1,8 @@
--- `trace::order::settle` meets its contract. Assumes nothing.
-use native.Mathlib.Omega.{arith}
-use Prim.Native.Nat.{_-_, _≤_}
-use borrow.Author.Needs.{needs}
+-- `trace::order::settle` meets its contract.
 use mathlib.Core.Logic.{⊎-elim}
+use Prim.Native.Nat.{_-_, _≤_}
+use native.Mathlib.Omega.{arith}
+use borrow.Author.Needs.{needs}
 use Rattle.trace.specs.Order.{Settled}
 use Rattle.trace.proofs.Leads.{settled-none, settled-more}
 use Rattle.trace.proofs.order.settle.Statement.{statement}

@@ -1,7 +1,7 @@
--- `trace::place::beside` meets its contract. Assumes nothing.
-use Rattle.trace.proofs.Rounds.{valuation-small, beside-none, before-first, after-last, beside-some}
+-- `trace::place::beside` meets its contract.
 use native.Mathlib.Omega.{arith}
 use borrow.Author.Needs.{needs}
+use Rattle.trace.proofs.Rounds.{valuation-small, beside-none, before-first, after-last, beside-some}
 use Rattle.trace.proofs.place.beside.Statement.{statement}
 use Rattle.trace.proofs.place.beside.Tie as tie
 

@@ -1,7 +1,7 @@
--- `trace::place::environment` meets its contract. Assumes nothing.
-use Rattle.trace.proofs.Rounds.{environment-of}
+-- `trace::place::environment` meets its contract.
 use native.Mathlib.Omega.{arith}
 use borrow.Author.Needs.{needs}
+use Rattle.trace.proofs.Rounds.{environment-of}
 use Rattle.trace.proofs.place.environment.Statement.{statement}
 use Rattle.trace.proofs.place.environment.Tie as tie
 

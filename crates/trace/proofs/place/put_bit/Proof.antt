@@ -1,4 +1,4 @@
--- `trace::place::put_bit` meets its contract. Assumes nothing.
+-- `trace::place::put_bit` meets its contract.
 use mathlib.Core.Logic.{inl, inr, ⊎-elim}
 use lib.ListN.{getD}
 use borrow.Author.Needs.{needs}

@@ -1,8 +1,8 @@
--- `trace::place::refresh` meets its contract. Assumes nothing.
-use Rattle.trace.proofs.Rounds.{part-short, place-value}
-use Rattle.trace.proofs.Passes.{renewed-put}
+-- `trace::place::refresh` meets its contract.
 use native.Mathlib.Omega.{arith}
 use borrow.Author.Needs.{needs}
+use Rattle.trace.proofs.Rounds.{part-short, place-value}
+use Rattle.trace.proofs.Passes.{renewed-put}
 use Rattle.trace.proofs.place.refresh.Statement.{statement}
 use Rattle.trace.proofs.place.refresh.Tie as tie
 

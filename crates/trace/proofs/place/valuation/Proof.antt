@@ -1,7 +1,7 @@
--- `trace::place::valuation` meets its contract. Assumes nothing.
-use Rattle.trace.proofs.Rounds.{product-small, product-is}
+-- `trace::place::valuation` meets its contract.
 use native.Mathlib.Omega.{arith}
 use borrow.Author.Needs.{needs}
+use Rattle.trace.proofs.Rounds.{product-small, product-is}
 use Rattle.trace.proofs.place.valuation.Statement.{statement}
 use Rattle.trace.proofs.place.valuation.Tie as tie
 

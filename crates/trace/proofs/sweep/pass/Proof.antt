@@ -1,9 +1,9 @@
--- `trace::sweep::pass` meets its contract. Assumes nothing.
-use native.Mathlib.Omega.{arith}
-use Prim.Native.Nat.{_+_, _-_, _≤_, _<_}
+-- `trace::sweep::pass` meets its contract.
 use mathlib.Core.Path.{sym, _∙_}
 use mathlib.Core.Bool.{true≢false}
 use mathlib.Core.Logic.{⊎-elim}
+use Prim.Native.Nat.{_+_, _-_, _≤_, _<_}
+use native.Mathlib.Omega.{arith}
 use lib.ListN.{length}
 use Rattle.trace.specs.Passes.{Passed, sides}
 use Rattle.trace.proofs.Passes.{passed-none, passed-then, passed-as, bytes-kept, next-round}

@@ -1,9 +1,9 @@
--- `trace::sweep::passes` meets its contract. Assumes nothing.
-use native.Mathlib.Omega.{arith}
-use Prim.Native.Nat.{_-_, _≤_}
+-- `trace::sweep::passes` meets its contract.
 use mathlib.Core.Path.{_∙_}
-use borrow.Author.Tests.{not-true}
+use Prim.Native.Nat.{_-_, _≤_}
+use native.Mathlib.Omega.{arith}
 use lib.ListN.{length}
+use borrow.Author.Tests.{not-true}
 use Rattle.trace.specs.Passes.{sides}
 use Rattle.trace.proofs.Passes.{bytes-kept}
 use Rattle.trace.proofs.Solving.{Going, going-start, going-more, going-quiet, going-end, most-small}

@@ -1,9 +1,9 @@
--- `trace::sweep::refresh_block` meets its contract. Assumes nothing.
-use native.Mathlib.Omega.{arith}
-use Prim.Native.Nat.{_-_, _≤_}
+-- `trace::sweep::refresh_block` meets its contract.
 use mathlib.Core.Path.{_≡_, refl}
-use borrow.Author.Needs.{needs}
+use Prim.Native.Nat.{_-_, _≤_}
+use native.Mathlib.Omega.{arith}
 use lib.ListN.{length}
+use borrow.Author.Needs.{needs}
 use Rattle.trace.specs.Order.{Done}
 use Rattle.trace.specs.Passes.{Sweeps, sides}
 use Rattle.trace.proofs.Passes.{bytes-kept}

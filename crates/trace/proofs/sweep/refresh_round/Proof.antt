@@ -1,12 +1,12 @@
--- `trace::sweep::refresh_round` meets its contract. Assumes nothing.
+-- `trace::sweep::refresh_round` meets its contract.
 use mathlib.Core.Path.{_≡_, sym, _∙_}
 use mathlib.Core.Bool.{true≢false}
 use mathlib.Core.Logic.{⊎-elim}
+use Prim.Native.Nat.{_-_, _≤_, _<_}
+use native.Mathlib.Omega.{arith}
 use lib.ListN.{length}
 use Rattle.trace.specs.Passes.{Passed, sides}
 use Rattle.trace.proofs.Passes.{passed-none, passed-then, passed-as, passed-one, bytes-kept, next-place}
-use native.Mathlib.Omega.{arith}
-use Prim.Native.Nat.{_-_, _≤_, _<_}
 use Rattle.trace.proofs.sweep.refresh_round.Statement.{statement}
 use Rattle.trace.proofs.sweep.refresh_round.Tie as tie
 

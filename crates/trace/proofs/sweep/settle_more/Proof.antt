@@ -1,4 +1,4 @@
--- `trace::sweep::settle_more` meets its contract. Assumes nothing.
+-- `trace::sweep::settle_more` meets its contract.
 use borrow.Author.Needs.{needs}
 use Rattle.trace.proofs.Sweeps.{extends-sweep}
 use Rattle.trace.proofs.sweep.settle_more.Statement.{statement}

@@ -1,6 +1,6 @@
--- `trace::sweep::solve` meets its contract. Assumes nothing.
-use borrow.Author.Needs.{needs}
+-- `trace::sweep::solve` meets its contract.
 use mathlib.Core.Path.{_∙_}
+use borrow.Author.Needs.{needs}
 use Rattle.trace.proofs.Passes.{bytes-kept}
 use Rattle.trace.proofs.Solving.{solved-all, solved-after}
 use Rattle.trace.proofs.sweep.solve.Statement.{statement}

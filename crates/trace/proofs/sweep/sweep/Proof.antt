@@ -1,8 +1,8 @@
--- `trace::sweep::sweep` meets its contract. Assumes nothing.
-use native.Mathlib.Omega.{arith}
+-- `trace::sweep::sweep` meets its contract.
 use Prim.Native.Nat.{_-_, _≤_}
-use borrow.Author.Needs.{needs}
+use native.Mathlib.Omega.{arith}
 use lib.ListN.{length}
+use borrow.Author.Needs.{needs}
 use Rattle.trace.specs.Order.{InSet, Done}
 use Rattle.trace.specs.Passes.{Sweeps, sides}
 use Rattle.trace.proofs.Passes.{bytes-kept}

@@ -1,8 +1,8 @@
--- `trace::sweep::sweeps` meets its contract. Assumes nothing.
-use native.Mathlib.Omega.{arith}
+-- `trace::sweep::sweeps` meets its contract.
 use Prim.Native.Nat.{_-_, _≤_}
-use borrow.Author.Tests.{eqb-true}
+use native.Mathlib.Omega.{arith}
 use lib.ListN.{length}
+use borrow.Author.Tests.{eqb-true}
 use Rattle.trace.specs.Order.{InSet}
 use Rattle.trace.specs.Passes.{Extends, sides}
 use Rattle.trace.proofs.Passes.{bytes-kept}

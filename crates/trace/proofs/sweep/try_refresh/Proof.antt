@@ -1,6 +1,6 @@
--- `trace::sweep::try_refresh` meets its contract. Assumes nothing.
-use native.Mathlib.Omega.{arith}
+-- `trace::sweep::try_refresh` meets its contract.
 use mathlib.Core.Path.{refl}
+use native.Mathlib.Omega.{arith}
 use borrow.Author.Needs.{needs}
 use Rattle.trace.proofs.sweep.try_refresh.Statement.{statement}
 use Rattle.trace.proofs.sweep.try_refresh.Tie as tie

@@ -2,19 +2,24 @@
 // word, bit byte - 0x40 for the read byte; the reads of one family, of the round itself, one earlier or one later, are of the lane's own valuation
 // instead.
 ghost use mathlib.Core.Path.{_≡_};
-ghost use mathlib.Core.Bool.{true, false, not, Bool·beq, _&&_};
-ghost use mathlib.Core.List.{List, []};
+ghost use mathlib.Core.List.{List};
 ghost use mathlib.Core.Option.{Option, none, some};
-ghost use Prim.Native.Nat.{ℕ, _+_, _*_, _%_, _<_, _≤_};
-ghost use lib.Bits.{bitAnd, bitOr};
+ghost use Prim.Native.Nat.{ℕ, _+_, _*_, _<_, _≤_};
+ghost use lib.Bits.{bitAnd};
 ghost use lib.ListN.{length, getD};
 ghost use Rattle.words.specs.Bits.{bit};
-ghost use Rattle.sheet.specs.Expression.{Expr, parse, tree};
-ghost use Rattle.lola.specs.Reads.{hasRead};
 ghost use Rattle.lola.specs.Equations.{holds};
-ghost use Rattle.lanes.specs.Around.{readAt, Stepped, Filled, Stored, room, here, Beside, Before, Seen, Ahead, unless, earlierByte};
-ghost use Rattle.lanes.specs.Coded.{Coded, sheetOf, Values, Agree};
+ghost use Rattle.lanes.specs.Around.{room, Beside, Before, Seen, Ahead, unless};
+ghost use Rattle.lanes.specs.Coded.{Coded, sheetOf, Agree};
+use expression::four_equations;
+use expression::two_equations;
+use mask::expression_mask;
+use mask::wide;
 use sheet::OutputNo;
+
+mod expression; // expression.rt: expressions and equations on rows of two words and of four
+mod mask; // mask.rt: the streams that expressions read one round earlier
+mod row; // row.rt: one row of words
 
 // The families of reads that may be of the lane's valuation.
 const NOW: u8 = 0;
@@ -22,179 +27,6 @@ const NOW: u8 = 0;
 const EARLIER: u8 = 1;
 
 const LATER: u8 = 2;
-
-// ---- Rows
-
-// The value of the read byte e in the lanes of the valuations from 64 * j on.
-fn read_word(env: u64, f: u8, j: usize, e: u8) -> u64
-    requires { ⌜ j < 4 ⌝ }
-    ensures { λ r. ⌜ ((i : ℕ) → i < 64 → bit i r ≡ readAt env f (64 * j + i) (e % 64)) ⌝ }
-{
-    let k = e % 64;
-    if k / 16 == f {
-        return words::stream_word((k % 8) as usize, j);
-    }
-    words::spread((env >> k) % 2 == 1)
-}
-
-// From here on, a row is its first w words.
-fn fill_row(row: &mut [u64], w: usize, x: u64)
-    requires { ⌜ (w ≤ 4) × (length (now row) ≡ 4) ⌝ }
-    ensures { λ r. ⌜ Filled w (λ j. x) (now (row .exit)) ⌝ }
-{
-    let mut j: usize = 0;
-    while j < w {
-        row[j] = x;
-        j += 1;
-    }
-}
-
-fn not_row(row: &mut [u64], w: usize)
-    requires { ⌜ (w ≤ 4) × (length (now row) ≡ 4) ⌝ }
-    ensures { λ r. ⌜ ((j i : ℕ) → j < w → i < 64 → bit i (getD (now (row .exit)) j 0) ≡ not (bit i (getD (now (row .entry)) j 0))) ⌝ }
-{
-    let mut j: usize = 0;
-    while j < w {
-        row[j] = !row[j];
-        j += 1;
-    }
-}
-
-// Row k of the stack and the row, or either of them.
-fn and_row(row: &mut [u64], w: usize, st: &[u64], k: usize)
-    requires { ⌜ (w ≤ 4) × (length (now row) ≡ 4) × (w * k + w ≤ length (now st)) ⌝ }
-    ensures { λ r. ⌜ Filled w (λ j. bitAnd (getD (now (st .entry)) (w * k + j) 0) (getD (now (row .entry)) j 0)) (now (row .exit)) ⌝ }
-{
-    let mut j: usize = 0;
-    while j < w {
-        row[j] = st[w * k + j] & row[j];
-        j += 1;
-    }
-}
-
-fn or_row(row: &mut [u64], w: usize, st: &[u64], k: usize)
-    requires { ⌜ (w ≤ 4) × (length (now row) ≡ 4) × (w * k + w ≤ length (now st)) ⌝ }
-    ensures { λ r. ⌜ Filled w (λ j. bitOr (getD (now (st .entry)) (w * k + j) 0) (getD (now (row .entry)) j 0)) (now (row .exit)) ⌝ }
-{
-    let mut j: usize = 0;
-    while j < w {
-        row[j] = st[w * k + j] | row[j];
-        j += 1;
-    }
-}
-
-// Puts the row into the stack as row k.
-fn store_row(st: &mut [u64], w: usize, k: usize, row: &[u64])
-    requires { ⌜ (w ≤ 4) × (length (now row) ≡ 4) × (w * k + w ≤ length (now st)) ⌝ }
-    ensures { λ r. ⌜ Stored w k (now (row .entry)) (now (st .entry)) (now (st .exit)) ⌝ }
-{
-    let mut j: usize = 0;
-    while j < w {
-        st[w * k + j] = row[j];
-        j += 1;
-    }
-}
-
-fn read_row(row: &mut [u64], w: usize, env: u64, f: u8, e: u8)
-    requires { ⌜ (w ≤ 4) × (length (now row) ≡ 4) ⌝ }
-    ensures { λ r. ⌜ ((j i : ℕ) → j < w → i < 64 → bit i (getD (now (row .exit)) j 0) ≡ readAt env f (64 * j + i) (e % 64)) ⌝ }
-{
-    let mut j: usize = 0;
-    while j < w {
-        row[j] = read_word(env, f, j, e);
-        j += 1;
-    }
-}
-
-// ---- Two words
-
-// One expression byte on a stack of rows of two words: the top is in `top`, what lies below it, `used` rows, in st. Returns how many then do.
-fn two_step(st: &mut [u64], top: &mut [u64], used: usize, env: u64, f: u8, e: u8) -> usize
-    requires { ⌜ (length (now top) ≡ 4) × (2 * used + 2 ≤ length (now st)) ⌝ }
-    ensures { λ r. ⌜ Stepped 2 env f e (now (st .entry)) (now (top .entry)) used (now (st .exit)) (now (top .exit)) r ⌝ }
-{
-    if 0x40 <= e {
-        store_row(st, 2, used, top);
-        read_row(top, 2, env, f, e);
-        return used + 1;
-    }
-    if e == 2 {
-        not_row(top, 2);
-        return used;
-    }
-    if e < 2 {
-        store_row(st, 2, used, top);
-        fill_row(top, 2, words::spread(e == 1));
-        return used + 1;
-    }
-    if used == 0 {
-        return 0;
-    }
-    if e == 3 {
-        and_row(top, 2, st, used - 1);
-        return used - 1;
-    }
-    or_row(top, 2, st, used - 1);
-    used - 1
-}
-
-// The value of an expression in each lane of two words, left in `top`; st is room to work in.
-fn two_value(st: &mut [u64], top: &mut [u64], env: u64, f: u8, expr: &[u8])
-    requires { ⌜ (length (now expr) ≤ 64) × (128 ≤ length (now st)) × (length (now top) ≡ 4) ⌝ }
-    ensures { λ r. ⌜ Values 2 env f (now (expr .entry)) (now (top .exit)) ⌝ }
-{
-    let mut used: usize = 0;
-    let mut k: usize = 0;
-    while k < expr.len() {
-        used = two_step(st, top, used, env, f, expr[k]);
-        k += 1;
-    }
-}
-
-// ---- Four words
-
-// One expression byte on a stack of rows of four words: the top is in `top`, what lies below it, `used` rows, in st. Returns how many then do.
-fn four_step(st: &mut [u64], top: &mut [u64], used: usize, env: u64, f: u8, e: u8) -> usize
-    requires { ⌜ (length (now top) ≡ 4) × (4 * used + 4 ≤ length (now st)) ⌝ }
-    ensures { λ r. ⌜ Stepped 4 env f e (now (st .entry)) (now (top .entry)) used (now (st .exit)) (now (top .exit)) r ⌝ }
-{
-    if 0x40 <= e {
-        store_row(st, 4, used, top);
-        read_row(top, 4, env, f, e);
-        return used + 1;
-    }
-    if e == 2 {
-        not_row(top, 4);
-        return used;
-    }
-    if e < 2 {
-        store_row(st, 4, used, top);
-        fill_row(top, 4, words::spread(e == 1));
-        return used + 1;
-    }
-    if used == 0 {
-        return 0;
-    }
-    if e == 3 {
-        and_row(top, 4, st, used - 1);
-        return used - 1;
-    }
-    or_row(top, 4, st, used - 1);
-    used - 1
-}
-
-// The value of an expression in each lane of four words, left in `top`; st is room to work in.
-fn four_value(st: &mut [u64], top: &mut [u64], env: u64, f: u8, expr: &[u8])
-    requires { ⌜ (length (now expr) ≤ 64) × (256 ≤ length (now st)) × (length (now top) ≡ 4) ⌝ }
-    ensures { λ r. ⌜ Values 4 env f (now (expr .entry)) (now (top .exit)) ⌝ }
-{
-    let mut used: usize = 0;
-    let mut k: usize = 0;
-    while k < expr.len() {
-        used = four_step(st, top, used, env, f, expr[k]);
-        k += 1;
-    }
-}
 
 // ---- The equations
 
@@ -207,113 +39,7 @@ pub fn output_stream(m: usize, k: usize) -> usize
     q.0 as usize
 }
 
-// Stream q of the round itself in the lanes of the valuations from 64 * j on: of b, or of the lane's own valuation where that is the round's.
-fn here_word(f: u8, b: usize, q: usize, j: usize) -> u64
-    requires { ⌜ (q < 8) × (j < 4) ⌝ }
-    ensures { λ r. ⌜ ((i : ℕ) → i < 64 → bit i r ≡ bit q (here f b (64 * j + i))) ⌝ }
-{
-    if f == NOW {
-        return words::stream_word(q, j);
-    }
-    words::spread((b >> q) % 2 == 1)
-}
-
-// The lanes in which x and y are alike.
-fn alike(x: u64, y: u64) -> u64
-    ensures { λ r. ⌜ ((i : ℕ) → i < 64 → bit i r ≡ Bool·beq (bit i x) (bit i y)) ⌝ }
-{
-    x & y | !(x | y)
-}
-
-// The lanes of acc in which x is stream q of the round itself.
-fn keep_row(acc: &mut [u64], w: usize, x: &[u64], f: u8, b: usize, q: usize)
-    requires { ⌜ (w ≤ 4) × (length (now acc) ≡ 4) × (length (now x) ≡ 4) × (q < 8) ⌝ }
-    ensures { λ r. ⌜ ((j i : ℕ) → j < w → i < 64 → bit i (getD (now (acc .exit)) j 0) ≡ (bit i (getD (now (acc .entry)) j 0) && Bool·beq (bit i (getD (now (x .entry)) j 0)) (bit q (here f b (64 * j + i))))) ⌝ }
-{
-    let mut j: usize = 0;
-    while j < w {
-        acc[j] = acc[j] & alike(x[j], here_word(f, b, q, j));
-        j += 1;
-    }
-}
-
-fn is_empty(row: &[u64], w: usize) -> bool
-    requires { ⌜ (w ≤ 4) × (length (now row) ≡ 4) ⌝ }
-    ensures { λ r. ⌜ (r ≡ true → (j i : ℕ) → j < w → bit i (getD (now (row .entry)) j 0) ≡ false) ⌝ }
-{
-    let mut j: usize = 0;
-    while j < w {
-        if row[j] != 0 {
-            return false;
-        }
-        j += 1;
-    }
-    true
-}
-
-// The lanes of two words in which the n outputs, streams m on of b, have the values of their expressions, left in acc.
-fn two_equations(
-    acc: &mut [u64],
-    st: &mut [u64],
-    env: u64,
-    f: u8,
-    code: &[u8],
-    len: &[usize],
-    m: usize,
-    n: usize,
-    b: usize,
-)
-    requires { ⌜ Coded m n (now code) (now len) ⌝ }
-    requires { ⌜ (length (now acc) ≡ 4) × (128 ≤ length (now st)) ⌝ }
-    ensures { λ r. ⌜ Agree 2 env f m n (now (code .entry)) (now (len .entry)) b (now (acc .exit)) n ⌝ }
-{
-    let mut x = [0u64; 4];
-    fill_row(acc, 2, 0xffff_ffff_ffff_ffff);
-    let mut k: usize = 0;
-    while k < n {
-        let from = 64 * k;
-        let to = from + len[k];
-        two_value(st, &mut x, env, f, &code[from..to]);
-        keep_row(acc, 2, &x, f, b, output_stream(m, k));
-        if is_empty(acc, 2) {
-            return;
-        }
-        k += 1;
-    }
-}
-
-// The same in four words.
-fn four_equations(
-    acc: &mut [u64],
-    st: &mut [u64],
-    env: u64,
-    f: u8,
-    code: &[u8],
-    len: &[usize],
-    m: usize,
-    n: usize,
-    b: usize,
-)
-    requires { ⌜ Coded m n (now code) (now len) ⌝ }
-    requires { ⌜ (length (now acc) ≡ 4) × (256 ≤ length (now st)) ⌝ }
-    ensures { λ r. ⌜ Agree 4 env f m n (now (code .entry)) (now (len .entry)) b (now (acc .exit)) n ⌝ }
-{
-    let mut x = [0u64; 4];
-    fill_row(acc, 4, 0xffff_ffff_ffff_ffff);
-    let mut k: usize = 0;
-    while k < n {
-        let from = 64 * k;
-        let to = from + len[k];
-        four_value(st, &mut x, env, f, &code[from..to]);
-        keep_row(acc, 4, &x, f, b, output_stream(m, k));
-        if is_empty(acc, 4) {
-            return;
-        }
-        k += 1;
-    }
-}
-
-// The same in as many words as are wanted.
+// The lanes of w words in which the n outputs, streams m on of b, have the values of their expressions, left in acc.
 fn equations_row(
     acc: &mut [u64],
     st: &mut [u64],
@@ -445,38 +171,6 @@ pub fn predecessors(
 }
 
 // ---- What the equations see of the round before
-
-// The stream that a byte reads one round earlier, as a mask.
-fn byte_mask(e: u8) -> u8
-    ensures { λ r. ⌜ ((q : ℕ) → bit q r ≡ earlierByte e q) ⌝ }
-{
-    if e < 0x50 {
-        return 0;
-    }
-    if e >= 0x60 {
-        return 0;
-    }
-    1u8 << (e % 8)
-}
-
-// The streams that an expression reads one round earlier.
-fn expression_mask(expr: &[u8]) -> u8
-    ensures { λ r. ⌜ ((s : ℕ) (x : Expr) → parse s [] (now (expr .entry)) ≡ tree x → (q : ℕ) → bit q r ≡ hasRead x q 0) ⌝ }
-{
-    let mut w: u8 = 0;
-    let mut i: usize = 0;
-    while i < expr.len() {
-        w = w | byte_mask(expr[i]);
-        i += 1;
-    }
-    w
-}
-
-fn wide(x: u8) -> usize
-    ensures { λ r. ⌜ r ≡ x ⌝ }
-{
-    x as usize
-}
 
 // The streams that some expression reads one round earlier: the equations see no other of the round before.
 pub fn earlier_mask(code: &[u8], len: &[usize], m: usize, n: usize) -> usize

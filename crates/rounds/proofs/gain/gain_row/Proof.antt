@@ -1,0 +1,150 @@
+-- `rounds::gain::gain_row` meets its contract: the words below j are done.
+use mathlib.Core.Path.{_≡_, refl, ap, _∙_}
+use mathlib.Core.Bool.{_&&_}
+use mathlib.Core.List.{List}
+use mathlib.Core.Option.{Option}
+use Prim.Native.Nat.{ℕ, _+_, _-_, _*_, _^_, _≤_}
+use native.Mathlib.Omega.{arith}
+use lib.Dec.{eqb, ltb}
+use lib.ListN.{length}
+use borrow.Author.Needs.{needs}
+use borrow.Author.Tests.{not-true}
+use Rattle.pairs.specs.Storage.{stored}
+use Rattle.pairs.specs.Changes.{Adds}
+use Rattle.lanes.specs.Around.{room, Seen}
+use Rattle.lanes.specs.Coded.{sheetOf}
+use Rattle.rounds.specs.Rows.{cut, gains}
+use Rattle.rounds.proofs.WordLaws.{live-masked, row-full, word-gained}
+use Rattle.rounds.proofs.RowLaws.{row-none, row-more, row-all}
+use Rattle.rounds.proofs.gain.gain_row.Statement.{statement}
+use Rattle.rounds.proofs.gain.gain_row.Tie as tie
+use Rattle.rounds.proofs.gain.gain_row.Reads as reads
+use Rattle.rounds.proofs.gain.gain_row.Lts as lts
+use Rattle.lanes.proofs.successors.Reads as successors-reads
+use Rattle.pairs.proofs.insert_word.Reads as insert-word-reads
+use Rattle.rounds.proofs.gain.is_new.Reads as is-new-reads
+use Rattle.rounds.proofs.row_words.Reads as row-words-reads
+use Rattle.rounds.proofs.valuations.Reads as valuations-reads
+use Rattle.words.proofs.lanes_below.Reads as lanes-below-reads
+
+abbrev Inv-loop : tie.InvT-loop
+Inv-loop s₀ st code len m n env b w low x j₀ s j =
+    (j ≤ w)
+    × (length s ≡ length s₀)
+    × ((p : Option ℕ) → Seen env p b → (ks : List ℕ)
+    → Adds 1028 s₀ s (gains (sheetOf m n code len ks) (λ a. eqb a b) (cut (λ c. ltb c (64 * j) && ltb c (2 ^ (m + n)))) (stored s₀ 0) p))
+
+abbrev μ-loop : tie.MeasureT-loop
+μ-loop s₀ st code len m n env b w low x j₀ s j = w - j
+
+row-words-requires : tie.Need-row-words-requires Inv-loop μ-loop
+row-words-requires c κs = search needs
+
+is-new-requires : tie.Need-is-new-requires Inv-loop μ-loop
+is-new-requires c κs = search needs
+
+same-length : tie.Need-same-length Inv-loop μ-loop
+same-length c = search needs
+
+returns : tie.Need-returns Inv-loop μ-loop
+returns c = λ p seen ks.
+    row-full _ _ _ _ p (λ k h. c .before .is-new .ensures (not-true _ (c .if1 .taken)) k (omega (arith, c .before .before .before .row-words .ensures .under)))
+
+valuations-requires : tie.Need-valuations-requires Inv-loop μ-loop
+valuations-requires c κs = search needs
+
+lanes-below-requires : tie.Need-lanes-below-requires Inv-loop μ-loop
+lanes-below-requires c κs = (c .valuations .ensures .1, omega arith)
+
+slice-aggregate-successors : tie.Need-slice-aggregate-successors Inv-loop μ-loop
+slice-aggregate-successors c = search needs
+
+successors-requires : tie.Need-successors-requires Inv-loop μ-loop
+successors-requires c κs =
+    let after-row-words = c .before .before .before .before .before .before .before in
+    let q = after-row-words .before .before .before .before .before .pre in
+    (q .0, (after-row-words .row-words .ensures .most, refl, omega (arith, ap room (after-row-words .row-words .ensures .count))))
+
+loop-holds : tie.Need-loop-holds Inv-loop μ-loop
+loop-holds c = (omega arith, refl, λ p seen ks. row-none _ _ _ _ p)
+
+mul-live : tie.Need-mul-live Inv-loop μ-loop
+mul-live c = search needs
+
+add-live : tie.Need-add-live Inv-loop μ-loop
+add-live c = search needs
+
+mul-live-2 : tie.Need-mul-live-2 Inv-loop μ-loop
+mul-live-2 c = search needs
+
+slice-read-live : tie.Need-slice-read-live Inv-loop μ-loop
+slice-read-live c = search needs
+
+mul-insert-word : tie.Need-mul-insert-word Inv-loop μ-loop
+mul-insert-word c = search needs
+
+array-read-insert-word : tie.Need-array-read-insert-word Inv-loop μ-loop
+array-read-insert-word c = search needs
+
+insert-word-requires : tie.Need-insert-word-requires Inv-loop μ-loop
+insert-word-requires c κs = search needs
+
+add-j : tie.Need-add-j Inv-loop μ-loop
+add-j c = search needs
+
+loop-less : tie.Need-loop-less Inv-loop μ-loop
+loop-less c = search needs
+
+loop-again : tie.Need-loop-again Inv-loop μ-loop
+loop-again c =
+    let tested = c .before .before .before .before .before in
+    let turn = tested .before in
+    let after-successors = turn .before .before .before .before in
+    let after-lanes-below = after-successors .before .before .before in
+    let after-valuations = after-lanes-below .before in
+    let after-row-words = after-valuations .before .before .before .before in (
+      omega arith,
+      omega arith,
+      λ p seen ks.
+          row-more _ _ _ _ _ _ _ p (turn .loop .inv .2 p seen ks)
+          (word-gained _ _ _ _ _ (live-masked _ _ _ _ _ _ (after-row-words .row-words .ensures) (tested .loop-test .taken) (λ i h. after-lanes-below .lanes-below .ensures i h ∙ ap (ltb (64 * 0 + i)) (after-valuations .valuations .ensures .0)))
+          _ p _ _ (λ i h. after-successors .successors .ensures p seen ks (turn .loop .j) i (tested .loop-test .taken) h) (c .before .before .insert-word .ensures)),
+    )
+
+same-length-2 : tie.Need-same-length-2 Inv-loop μ-loop
+same-length-2 c = search needs
+
+same-length-3 : tie.Need-same-length-3 Inv-loop μ-loop
+same-length-3 c = search needs
+
+returns-2 : tie.Need-returns-2 Inv-loop μ-loop
+returns-2 c = λ p seen ks. row-all _ _ _ _ _ _ _ p refl (omega (arith, c .before .before .before .before .before .before .before .before .before .before .before .before .before .row-words .ensures .under)) (c .before .loop .inv .2 p seen ks)
+
+pub gain-row-spec : {M : Type 1} → statement M
+gain-row-spec =
+    tie.close
+    (tie.spec
+    Inv-loop
+    μ-loop
+    row-words-requires
+    is-new-requires
+    same-length
+    returns
+    valuations-requires
+    lanes-below-requires
+    slice-aggregate-successors
+    successors-requires
+    loop-holds
+    mul-live
+    add-live
+    mul-live-2
+    slice-read-live
+    mul-insert-word
+    array-read-insert-word
+    insert-word-requires
+    add-j
+    loop-less
+    loop-again
+    same-length-2
+    same-length-3
+    returns-2)

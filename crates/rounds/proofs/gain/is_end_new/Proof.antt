@@ -1,0 +1,97 @@
+-- `rounds::gain::is_end_new` meets its contract: no end is new in the words below j.
+use mathlib.Core.Bool.{true≢false}
+use Prim.Native.Nat.{_-_, _*_, _≤_}
+use native.Mathlib.Omega.{arith}
+use borrow.Author.Needs.{needs}
+use Rattle.pairs.specs.Storage.{stored}
+use Rattle.rounds.specs.Rows.{NoEndNew}
+use Rattle.rounds.proofs.EndLaws.{no-end-more}
+use Rattle.rounds.proofs.gain.is_end_new.Statement.{statement}
+use Rattle.rounds.proofs.gain.is_end_new.Tie as tie
+use Rattle.rounds.proofs.gain.is_end_new.Reads as reads
+use Rattle.rounds.proofs.gain.is_end_new.Lts as lts
+
+abbrev Inv-loop : tie.InvT-loop
+Inv-loop s w g j₀ j = (j ≤ w) × NoEndNew (stored s 0) (stored s 1028) (stored s 2056) (64 * j) g
+
+abbrev μ-loop : tie.MeasureT-loop
+μ-loop s w g j₀ j = w - j
+
+loop-holds : tie.Need-loop-holds Inv-loop μ-loop
+loop-holds c = (omega arith, λ k h. absurd (omega arith))
+
+mul-if1 : tie.Need-mul-if1 Inv-loop μ-loop
+mul-if1 c = search needs
+
+add-if1 : tie.Need-add-if1 Inv-loop μ-loop
+add-if1 c = search needs
+
+add-if1-2 : tie.Need-add-if1-2 Inv-loop μ-loop
+add-if1-2 c = search needs
+
+mul-if1-2 : tie.Need-mul-if1-2 Inv-loop μ-loop
+mul-if1-2 c = search needs
+
+shared-slice-read-if1 : tie.Need-shared-slice-read-if1 Inv-loop μ-loop
+shared-slice-read-if1 c = search needs
+
+add-if1-3 : tie.Need-add-if1-3 Inv-loop μ-loop
+add-if1-3 c = search needs
+
+mul-if1-3 : tie.Need-mul-if1-3 Inv-loop μ-loop
+mul-if1-3 c = search needs
+
+shared-slice-read-if1-2 : tie.Need-shared-slice-read-if1-2 Inv-loop μ-loop
+shared-slice-read-if1-2 c = search needs
+
+add-if1-4 : tie.Need-add-if1-4 Inv-loop μ-loop
+add-if1-4 c = search needs
+
+add-if1-5 : tie.Need-add-if1-5 Inv-loop μ-loop
+add-if1-5 c = search needs
+
+mul-if1-4 : tie.Need-mul-if1-4 Inv-loop μ-loop
+mul-if1-4 c = search needs
+
+shared-slice-read-if1-3 : tie.Need-shared-slice-read-if1-3 Inv-loop μ-loop
+shared-slice-read-if1-3 c = search needs
+
+returns : tie.Need-returns Inv-loop μ-loop
+returns c = λ e. absurd (true≢false cc)
+
+add-j : tie.Need-add-j Inv-loop μ-loop
+add-j c = search needs
+
+loop-less : tie.Need-loop-less Inv-loop μ-loop
+loop-less c = search needs
+
+loop-again : tie.Need-loop-again Inv-loop μ-loop
+loop-again c = (omega arith, no-end-more _ _ _ (c .before .before .before .before .before .loop .inv .1) (c .before .shared-slice-known3 .given _ .fits) (c .if1 .left))
+
+returns-2 : tie.Need-returns-2 Inv-loop μ-loop
+returns-2 c = λ e k h. c .before .loop .inv .1 k (omega arith)
+
+pub is-end-new-spec : {M : Type 1} → statement M
+is-end-new-spec =
+    tie.close
+    (tie.spec
+    Inv-loop
+    μ-loop
+    loop-holds
+    mul-if1
+    add-if1
+    add-if1-2
+    mul-if1-2
+    shared-slice-read-if1
+    add-if1-3
+    mul-if1-3
+    shared-slice-read-if1-2
+    add-if1-4
+    add-if1-5
+    mul-if1-4
+    shared-slice-read-if1-3
+    returns
+    add-j
+    loop-less
+    loop-again
+    returns-2)

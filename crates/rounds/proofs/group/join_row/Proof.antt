@@ -1,0 +1,74 @@
+-- `rounds::group::join_row` meets its contract: the words below j have joined.
+use mathlib.Core.Path.{_≡_, refl}
+use Prim.Native.Nat.{_-_, _*_, _≤_}
+use native.Mathlib.Omega.{arith}
+use lib.ListN.{length}
+use borrow.Author.Needs.{needs}
+use Rattle.pairs.specs.Changes.{Adds}
+use Rattle.rounds.proofs.WordLaws.{Joined, joined-none, joined-more, joined-all}
+use Rattle.rounds.proofs.group.join_row.Statement.{statement}
+use Rattle.rounds.proofs.group.join_row.Tie as tie
+
+abbrev Inv-loop : tie.InvT-loop
+Inv-loop s₀ w letters a g j₀ s j = (j ≤ w) × (length s ≡ length s₀) × Adds 2056 s₀ s (Joined s₀ letters a g (64 * j))
+
+abbrev μ-loop : tie.MeasureT-loop
+μ-loop s₀ w letters a g j₀ s j = w - j
+
+loop-holds : tie.Need-loop-holds Inv-loop μ-loop
+loop-holds c = (omega arith, refl, joined-none _ _ _ _ (c .before .pre .1))
+
+mul-x : tie.Need-mul-x Inv-loop μ-loop
+mul-x c = search needs
+
+add-x : tie.Need-add-x Inv-loop μ-loop
+add-x c = search needs
+
+add-x-2 : tie.Need-add-x-2 Inv-loop μ-loop
+add-x-2 c = search needs
+
+mul-x-2 : tie.Need-mul-x-2 Inv-loop μ-loop
+mul-x-2 c = search needs
+
+slice-read-x : tie.Need-slice-read-x Inv-loop μ-loop
+slice-read-x c = search needs
+
+insert-word-requires : tie.Need-insert-word-requires Inv-loop μ-loop
+insert-word-requires c κs = search needs
+
+add-j : tie.Need-add-j Inv-loop μ-loop
+add-j c = search needs
+
+loop-less : tie.Need-loop-less Inv-loop μ-loop
+loop-less c = search needs
+
+loop-again : tie.Need-loop-again Inv-loop μ-loop
+loop-again c =
+    let turn = c .before .before .before .before .before .before in
+    let start = turn .before .before in
+    (omega arith, omega arith, joined-more _ _ _ _ (start .pre .1) _ _ _ (omega arith) (turn .loop .inv .2) (c .before .before .insert-word .ensures))
+
+same-length : tie.Need-same-length Inv-loop μ-loop
+same-length c = search needs
+
+returns : tie.Need-returns Inv-loop μ-loop
+returns c = joined-all _ _ _ _ (c .before .before .before .pre .1) _ _ _ (c .before .loop .inv .0) (c .loop-test .left) (c .before .loop .inv .2)
+
+pub join-row-spec : {M : Type 1} → statement M
+join-row-spec =
+    tie.close
+    (tie.spec
+    Inv-loop
+    μ-loop
+    loop-holds
+    mul-x
+    add-x
+    add-x-2
+    mul-x-2
+    slice-read-x
+    insert-word-requires
+    add-j
+    loop-less
+    loop-again
+    same-length
+    returns)

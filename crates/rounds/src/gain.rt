@@ -1,0 +1,106 @@
+// What the reached set gains: by one valuation with its successors, and by the ends of a row.
+ghost use mathlib.Core.Path.{_≡_};
+ghost use mathlib.Core.Bool.{true, false};
+ghost use mathlib.Core.List.{List};
+ghost use mathlib.Core.Option.{Option, none};
+ghost use Prim.Native.Nat.{ℕ, _+_, _*_, _/_, _^_, _<_, _≤_};
+ghost use lib.Dec.{eqb, ltb};
+ghost use lib.ListN.{length};
+ghost use Rattle.pairs.specs.Storage.{stored};
+ghost use Rattle.pairs.specs.Changes.{Adds, eqNext};
+ghost use Rattle.lanes.specs.Around.{room, Before, Seen};
+ghost use Rattle.lanes.specs.Coded.{Coded, sheetOf};
+ghost use Rattle.rounds.specs.Rows.{Earlier, cut, gains, NoneNew, NoEndNew, inRow};
+use super::row_words;
+use super::valuations;
+
+// Whether row b of the live set, w words of it, may have a valuation that the reached set lacks.
+fn is_new(s: &[u64], w: usize, b: usize) -> bool
+    requires { ⌜ (w ≤ 4) × (b < 256) × (3084 ≤ length (now s)) ⌝ }
+    ensures { λ r. ⌜ (r ≡ false → NoneNew (stored (now (s .entry)) 0) (stored (now (s .entry)) 1028) (64 * w) b) ⌝ }
+{
+    let mut j: usize = 0;
+    while j < w {
+        if s[4 * b + j] & !s[1028 + (4 * b + j)] != 0 {
+            return true;
+        }
+        j += 1;
+    }
+    false
+}
+
+// Row b of the reached set gains the live valuations before which the equations hold at b.
+pub fn gain_row(
+    s: &mut [u64],
+    st: &mut [u64],
+    code: &[u8],
+    len: &[usize],
+    m: usize,
+    n: usize,
+    env: u64,
+    b: usize,
+)
+    requires { ⌜ Coded m n (now code) (now len) ⌝ }
+    requires { ⌜ (room ((2 ^ (m + n) + 63) / 64) ≤ length (now st)) × (3084 ≤ length (now s)) × (b < 256) ⌝ }
+    ensures { λ r. ⌜ ((p : Option ℕ) → Seen env p b → (ks : List ℕ) → Adds 1028 (now (s .entry)) (now (s .exit)) (gains (sheetOf m n (now (code .entry)) (now (len .entry)) ks) (λ x. eqb x b) (cut (λ c. ltb c (2 ^ (m + n)))) (stored (now (s .entry)) 0) p)) ⌝ }
+{
+    let w = row_words(m, n);
+    if !is_new(s, w, b) {
+        return;
+    }
+    let low = words::lanes_below(valuations(m, n), 0);
+    let mut x = [0u64; 4];
+    lanes::successors(&mut x, st, w, code, len, m, n, env, b);
+    let mut j: usize = 0;
+    while j < w {
+        let live = s[4 * b + j] & low;
+        pairs::insert_word(s, 1028, b, j, live & x[j]);
+        j += 1;
+    }
+}
+
+// Whether row g of the scratch set, w words of it, may have a valuation whose end is live and that the reached set lacks.
+fn is_end_new(s: &[u64], w: usize, g: usize) -> bool
+    requires { ⌜ (w ≤ 4) × (g < 256) × (3084 ≤ length (now s)) ⌝ }
+    ensures { λ r. ⌜ (r ≡ false → NoEndNew (stored (now (s .entry)) 0) (stored (now (s .entry)) 1028) (stored (now (s .entry)) 2056) (64 * w) g) ⌝ }
+{
+    let mut j: usize = 0;
+    while j < w {
+        if s[2056 + (4 * g + j)] & s[1024 + j] & !s[1028 + (1024 + j)] != 0 {
+            return true;
+        }
+        j += 1;
+    }
+    false
+}
+
+// The reached set gains (b, end) for the b of row g of the scratch set for which that is live and the equations hold with nothing after b.
+pub fn gain_ends(
+    s: &mut [u64],
+    st: &mut [u64],
+    code: &[u8],
+    len: &[usize],
+    m: usize,
+    n: usize,
+    before: u64,
+    g: usize,
+)
+    requires { ⌜ Coded m n (now code) (now len) ⌝ }
+    requires { ⌜ (room ((2 ^ (m + n) + 63) / 64) ≤ length (now st)) × (3084 ≤ length (now s)) × (g < 256) × Earlier before ⌝ }
+    ensures { λ r. ⌜ ((p : Option ℕ) → Before before p → (ks : List ℕ) → Adds 1028 (now (s .entry)) (now (s .exit)) (gains (sheetOf m n (now (code .entry)) (now (len .entry)) ks) (inRow (stored (now (s .entry)) 2056) (2 ^ (m + n)) g) (λ y. eqNext y none) (stored (now (s .entry)) 0) p)) ⌝ }
+{
+    let w = row_words(m, n);
+    if !is_end_new(s, w, g) {
+        return;
+    }
+    let low = words::lanes_below(valuations(m, n), 0);
+    let mut x = [0u64; 4];
+    lanes::enders(&mut x, st, w, code, len, m, n, before);
+    let mut j: usize = 0;
+    while j < w {
+        let live = s[1024 + j];
+        let heard = s[2056 + (4 * g + j)] & low;
+        pairs::insert_ends(s, 1028, j, live & heard & x[j]);
+        j += 1;
+    }
+}

@@ -1,0 +1,84 @@
+// Rows of the reached set, joined in the scratch set by groups: those that agree in the streams that are read one round earlier.
+ghost use mathlib.Core.Path.{_≡_};
+ghost use mathlib.Core.Bool.{true, false, _&&_};
+ghost use Prim.Native.Nat.{ℕ, _+_, _*_, _<_, _≤_};
+ghost use lib.Dec.{eqb};
+ghost use lib.ListN.{length};
+ghost use Rattle.pairs.specs.Storage.{stored};
+ghost use Rattle.pairs.specs.Changes.{Adds, RowsCleared};
+ghost use Rattle.rounds.specs.Rows.{among, heardIn, grouped, Sparse, NoEnds, Quiet};
+use super::row_lanes;
+
+// Row a of the reached set, what was heard of its w words, joins row g of the scratch set.
+fn join_row(s: &mut [u64], w: usize, letters: u64, a: usize, g: usize)
+    requires { ⌜ (w ≤ 4) × (a < 256) × (g < 256) × (3084 ≤ length (now s)) ⌝ }
+    ensures { λ r. ⌜ Adds 2056 (now (s .entry)) (now (s .exit)) (λ x y. eqb x g && heardIn (stored (now (s .entry)) 1028) (among letters) (64 * w) a y) ⌝ }
+{
+    let mut j: usize = 0;
+    while j < w {
+        let x = s[1028 + (4 * a + j)];
+        pairs::insert_word(s, 2056, g, j, x & letters);
+        j += 1;
+    }
+}
+
+// The same; where anything was heard, g is noted among the groups.
+fn group_row(s: &mut [u64], groups: &mut [u64], w: usize, letters: u64, a: usize, g: usize)
+    requires { ⌜ (1 ≤ w) × (w ≤ 4) × (w ≡ 3 → ⊥) × (a < 256) × (g < 256) × (length (now groups) ≡ 4) × (3084 ≤ length (now s)) ⌝ }
+    ensures joined { λ r. ⌜ Adds 2056 (now (s .entry)) (now (s .exit)) (λ x y. eqb x g && heardIn (stored (now (s .entry)) 1028) (among letters) (64 * w) a y) ⌝ }
+    ensures sparse { λ r. ⌜ ((v : ℕ) → v ≤ 256 → Sparse v (now (groups .entry)) (stored (now (s .entry)) 2056) → Sparse v (now (groups .exit)) (stored (now (s .exit)) 2056)) ⌝ }
+{
+    if row_lanes(s, 1028, w, a) & letters == 0 {
+        return;
+    }
+    join_row(s, w, letters, a, g);
+    pairs::note(groups, g);
+}
+
+// Whether the four rows from a on of the reached set have nothing: rows that don't begin a block of four are not looked at. Most rows are empty
+// where little is unknown, and four at once are quickly passed over.
+fn is_quiet(s: &[u64], a: usize) -> bool
+    requires { ⌜ (a < 256) × (3084 ≤ length (now s)) ⌝ }
+    ensures { λ r. ⌜ (r ≡ true → Quiet (stored (now (s .entry)) 1028) a (a + 4)) ⌝ }
+{
+    if a % 4 != 0 {
+        return false;
+    }
+    let at = 1028 + 4 * a;
+    let mut any: u64 = 0;
+    let mut k: usize = 0;
+    while k < 16 {
+        any = any | s[at + k];
+        k += 1;
+    }
+    any == 0
+}
+
+// Each row below v of the reached set joins the row of its group: rows that agree in the streams of the mask.
+pub fn group_rows(s: &mut [u64], groups: &mut [u64], v: usize, w: usize, letters: u64, mask: usize)
+    requires { ⌜ (v ≤ 256) × (1 ≤ w) × (w ≤ 4) × (w ≡ 3 → ⊥) × (length (now groups) ≡ 4) × (3084 ≤ length (now s)) ⌝ }
+    ensures joined { λ r. ⌜ Adds 2056 (now (s .entry)) (now (s .exit)) (grouped (stored (now (s .entry)) 1028) (among letters) mask (64 * w) v) ⌝ }
+    ensures sparse { λ r. ⌜ (Sparse v (now (groups .entry)) (stored (now (s .entry)) 2056) → Sparse v (now (groups .exit)) (stored (now (s .exit)) 2056)) ⌝ }
+{
+    let mut a: usize = 0;
+    while a < v {
+        if is_quiet(s, a) {
+            a += 4;
+            continue;
+        }
+        group_row(s, groups, w, letters, a, a & mask);
+        a += 1;
+    }
+}
+
+// Empties the rows of the groups, where no other row below v of the scratch set has anything.
+pub fn clear_groups(s: &mut [u64], groups: &[u64], v: usize, w: usize)
+    requires { ⌜ (v ≤ 64 * w) × (w ≤ 4) × (v ≤ 256) × (length (now groups) ≡ 4) × (3084 ≤ length (now s)) × Sparse v (now groups) (stored (now s) 2056) × NoEnds (stored (now s) 2056) ⌝ }
+    ensures { λ r. ⌜ RowsCleared 2056 v (now (s .entry)) (now (s .exit)) ⌝ }
+{
+    let mut g = pairs::next_bit(groups, 0, w, 0);
+    while g < v {
+        pairs::take_row(s, 2056, g);
+        g = pairs::next_bit(groups, 0, w, g + 1);
+    }
+}

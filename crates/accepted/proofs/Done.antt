@@ -31,8 +31,7 @@ use Rattle.rounds.specs.Round.{Rounded}
 use Rattle.verdicts.specs.Firsts.{Passing}
 use Rattle.checks.specs.Checks.{given}
 use Rattle.checks.specs.Ready.{RoundReady}
-use Rattle.accepted.specs.Results.{width, heard, nextSet, RoundDone, ClosingDone}
-use Rattle.accepted.specs.Shares.{Shares}
+use Rattle.accepted.specs.Results.{width, heard, nextSet, RoundDone, ClosingDone, Shares}
 use Rattle.accepted.specs.declared.RoundAnswer.{RoundAnswer}
 use Rattle.accepted.specs.declared.ClosingAnswer.{ClosingAnswer}
 use Rattle.accepted.proofs.Rounding.{sheet-outputs, sheet-width, heard-as, next-later, pairs-verdict-as, reached-below, only-heard}
@@ -104,9 +103,11 @@ module _ (x : Sheet) (u : Usable x) where
       record {
         verdicts = verdicts-of _ (λ k. endsVerdict (width X) (stored s 1028) (output X k)) (a .verdicts)
             (λ k. ap (λ (w : ℕ). endsVerdict w (stored s 1028) (bit (x .inputs + k))) (sym (sheet-width x))) v;
-        sizes = h .size;
-        shares = λ k l. h .each k (omega (arith, sheet-outputs x));
-        others = λ k l. h .beyond k (omega (arith, sheet-outputs x));
+        shares = record {
+          size = h .size;
+          each = λ k l. h .each k (omega (arith, sheet-outputs x));
+          beyond = λ k l. h .beyond k (omega (arith, sheet-outputs x));
+        };
         rounds = e₁;
         closed = e₂;
         counts = e₃;

@@ -9,7 +9,7 @@ use Rattle.refusal.specs.declared.Verdict.the-variants.{True}
 use Rattle.words.proofs.ListLaws.{zeros, set-more}
 use Rattle.record.specs.Record.{countAt, share}
 use Rattle.record.specs.declared.JournalRecord.{JournalRecord}
-use Rattle.accepted.specs.Shares.{Shares}
+use Rattle.accepted.specs.Results.{Shares}
 
 pub record SharesTo (k : ℕ) (counts : List ℕ) (t : ℕ) (xs : List ℕ) : Type 0 where
   pub size : length xs ≡ 7

@@ -67,12 +67,16 @@ pub record RoundDone (x : RuleSheet) (s t : List ℕ) (r : JournalRecord) (known
   pub closed : a .record .closed ≡ r .closed
   pub counts : Counted (outputs x) (a .verdicts) (r .counts) (a .record .counts)
 
+-- the shares of n outputs in an answer of seven, and 0 for outputs that the sheet doesn't have
+pub record Shares (n : ℕ) (r : JournalRecord) (xs : List ℕ) : Type 0 where
+  pub size : length xs ≡ 7
+  pub each : (k : ℕ) → k < n → getD xs k 0 ≡ share (countAt (r .counts) k True) (r .rounds)
+  pub beyond : (k : ℕ) → n ≤ k → getD xs k 0 ≡ 0
+
 -- A closing: each output's verdict is read off the pairs with the end mark; counts and storage are left alone.
 pub record ClosingDone (x : RuleSheet) (s : List ℕ) (r : JournalRecord) (a : ClosingAnswer) : Type 0 where
   pub verdicts : Verdicts (outputs x) (λ k. endsVerdict (width x) (stored s 1028) (output x k)) (a .verdicts)
-  pub sizes : length (a .shares) ≡ 7
-  pub shares : (k : ℕ) → k < outputs x → getD (a .shares) k 0 ≡ share (countAt (r .counts) k True) (r .rounds)
-  pub others : (k : ℕ) → outputs x ≤ k → getD (a .shares) k 0 ≡ 0
+  pub shares : Shares (outputs x) r (a .shares)
   pub rounds : a .record .rounds ≡ r .rounds
   pub closed : a .record .closed ≡ true
   pub counts : a .record .counts ≡ r .counts

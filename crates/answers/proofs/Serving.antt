@@ -123,5 +123,5 @@ closing-kept x s r a (d, z) = go (a .outcome) d z
   where
     go : (o : Outcome) → AfterForm (formOf x) (Decided (CallBroken (x .inputs) (x .outputs) (given (length s) r 0 0)) callRule closingChecks) o → ClosingResult (ClosingDone (ruleSheet x) s r a) r a o
         → whenAccepted o ((r .closed ≡ false) × (a .record .closed ≡ true) × (a .record .counts ≡ r .counts) × (length (a .verdicts) ≡ 7) × (length (a .shares) ≡ 7))
-    go Accepted h w = (open-before x (given (length s) r 0 0) (formOf x) h, w .closed, w .counts, w .verdicts .size, w .sizes)
+    go Accepted h w = (open-before x (given (length s) r 0 0) (formOf x) h, w .closed, w .counts, w .verdicts .size, w .shares .size)
     go (Refused e) h w = tt

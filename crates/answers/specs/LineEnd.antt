@@ -1,4 +1,4 @@
--- For contracts: what the end of a line does.
+-- For the contracts of inner functions: what the end of a line does.
 use mathlib.Core.Bool.{Bool, true, false, cond}
 use mathlib.Core.List.{List, _∷_, _++_}
 use Prim.Native.Nat.{ℕ}

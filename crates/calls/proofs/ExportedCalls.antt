@@ -117,7 +117,7 @@ module _ (bs : List ℕ) (h k : HeldSlices) (y : Reply) (w : Stands (h .numbers)
         let few : n ≤ 7 = few-outputs bs (λ (u : RuleSheet). readSheet bs ≡ accepted u) (x, e, e) in
         let room : n + n ≤ length (y .before) = omega arith in
         let many : n ≤ length (a .verdicts) = omega (arith, d .verdicts .size) in
-        let enough : n ≤ length (a .shares) = omega (arith, d .sizes) in (
+        let enough : n ≤ length (a .shares) = omega (arith, d .shares .size) in (
           r,
           ap (take n) (p .1) ∙ both-first n (y .before) (a .verdicts) room many (a .shares) enough ∙ verdicts-shown n (a .verdicts) (counts-of bs x e .1) few (d .verdicts),
           ap (λ (l : List ℕ). take n (drop n l)) (p .1) ∙ both-second n (y .before) (a .verdicts) room many (a .shares) enough ∙ take-numbers n 0 (a .shares) (omega arith),

@@ -1,4 +1,4 @@
--- For the contracts of functions that one crate offers another.
+-- For the contracts of inner functions: what an accepted round and an accepted closing may take for granted.
 use mathlib.Core.Path.{_≡_}
 use mathlib.Core.Bool.{true, false}
 use Prim.Native.Nat.{ℕ, _<_, _≤_}

@@ -1,4 +1,4 @@
--- The reads of an expression as the bits of a word, for the contracts of private functions: bit 3 q + o tells whether a byte of the
+-- For the contracts of inner functions: the reads of an expression as the bits of a word. Bit 3 q + o tells whether a byte of the
 -- expression is a read of stream q at the offset whose number is o.
 use mathlib.Core.Path.{_≡_}
 use mathlib.Core.Bool.{Bool, cond}

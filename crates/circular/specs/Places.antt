@@ -1,6 +1,6 @@
--- A trace as the values of its outputs by output and round, rounds counted from 1; right sides that look at the places that are read; values
--- that are right but for the chains of reads. The proofs here that a sheet has exactly one trace over its inputs are about these, and the
--- contracts of private functions of `trace` cite them.
+-- For the contracts of inner functions: a trace as the values of its outputs by output and round, rounds counted from 1; right sides that
+-- look at the places that are read; values that are right but for the chains of reads. The proofs here that a sheet has exactly one trace over
+-- its inputs are about these, and contracts of `trace` cite them.
 use mathlib.Core.Path.{_≡_}
 use mathlib.Core.Bool.{Bool, cond, _&&_}
 use Prim.Native.Nat.{ℕ, suc, _+_, _-_, _≤_, _<_}

@@ -1,5 +1,5 @@
--- The tables of the circularity check, for the contracts of private functions. A table has 8 rows of 8 entries; the entry at 8 * s + q
--- tells the largest weight of a walk from output s to output q: 0 there is no walk, 1024 + w the weight w, 4096 the weights have no bound.
+-- For the contracts of inner functions: the tables of the circularity check. A table has 8 rows of 8 entries; the entry at 8 * s + q tells
+-- the largest weight of a walk from output s to output q: 0 there is no walk, 1024 + w the weight w, 4096 the weights have no bound.
 use mathlib.Core.Path.{_≡_}
 use mathlib.Core.Bool.{Bool, true, false, _&&_}
 use mathlib.Core.List.{List}

@@ -73,7 +73,7 @@ second-demand bs ls old new d (x, e, w) =
     let few : length ls ≤ length old = enough bs ls (length old) d in
     let byte = inputs-byte bs x e in
     let letters : Letters (x .inputs) ls = letters-from (x .inputs) ls (λ i h. rw byte at (letter-ok bs ls (length old) d i h)) in
-    let long : length (take (length ls) new) ≡ length ls = length-take-le (length ls) new (omega (arith, w .len, few)) in
+    let long : length (take (length ls) new) ≡ length ls = length-take-le (length ls) new (omega (arith, w .same-length, few)) in
     let one = accepted-one-trace bs x (sheet-ok bs ls (length old) d) e ls letters in
     let t : TraceOf x ls (joined (x .inputs) ls (take (length ls) new)) = record { letters = joined-letters x ls (take (length ls) new) letters (omega (arith, long)); satisfies = w .satisfies } in
     (x, e, t, λ vs h. one .only vs (joined (x .inputs) ls (take (length ls) new)) h t)

@@ -204,7 +204,7 @@ module _ (bs : List ℕ) (x : RuleSheet) (ok : SheetOk bs x) where
                 right = λ k y e.
                     let g = numbers-at (a .shares) 0 (outputsOf bs) k y e in
                     let l : k < n = omega (arith, g .0, same-outputs) in
-                    g .1 ∙ ap (λ (z : ℕ). getD (a .shares) z 0) (zero-add k) ∙ d .shares k l ∙ ap₂ share (tr .matches .counts k True l) (tr .matches .rounds);
+                    g .1 ∙ ap (λ (z : ℕ). getD (a .shares) z 0) (zero-add k) ∙ d .shares .each k l ∙ ap₂ share (tr .matches .counts k True l) (tr .matches .rounds);
               });
           tracks = record {
             matches = record {

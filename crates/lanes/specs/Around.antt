@@ -1,4 +1,4 @@
--- For the contracts of private functions: the reads of a round in one word, bit byte - 0x40 for the read byte, and stacks of words.
+-- For the contracts of inner functions: the reads of a round in one word, bit byte - 0x40 for the read byte, and stacks of words.
 -- The reads of one family, of the round itself, one earlier or one later, may differ from lane to lane: each lane stands for a valuation of
 -- that round.
 use mathlib.Core.Path.{_≡_}

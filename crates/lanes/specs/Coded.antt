@@ -1,4 +1,4 @@
--- For the contracts of private functions: a sheet as the slices and numbers that the code hands on.
+-- For the contracts of inner functions: a sheet as the slices and numbers that the code hands on.
 use mathlib.Core.Bool.{Bool, true, _&&_, Bool·beq}
 use mathlib.Core.Path.{_≡_}
 use mathlib.Core.List.{List, [], _∷_}

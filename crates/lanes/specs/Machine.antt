@@ -1,4 +1,4 @@
--- For the contracts of private functions: what an expression byte does to a stack of truth values. It is total: an operator that
+-- For the contracts of inner functions: what an expression byte does to a stack of truth values. It is total: an operator that
 -- lacks a value leaves the stack as it is, and a byte that is no operation counts as one. On an expression that parses, the stack
 -- follows the stack of trees (proofs/ParseLaws.antt).
 use mathlib.Core.Bool.{Bool, not, _&&_, _||_, cond}

@@ -1,4 +1,4 @@
--- For the contracts of private functions: a letter against masks, input by input.
+-- For the contracts of inner functions: a letter against masks, input by input.
 use mathlib.Core.Bool.{Bool, true, cond, _&&_, Bool·beq}
 use Prim.Native.Nat.{ℕ, zero, suc}
 use Rattle.words.specs.Bits.{bit}

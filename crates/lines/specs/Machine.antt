@@ -1,4 +1,4 @@
--- For contracts: where a run of the program stands.
+-- For the contracts of inner functions: where a run of the program stands.
 use mathlib.Core.Path.{_≡_}
 use mathlib.Core.Bool.{Bool, true, false}
 use mathlib.Core.List.{List, [], _++_}

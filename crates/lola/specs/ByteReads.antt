@@ -1,4 +1,4 @@
--- The reads of an expression's bytes, for the contracts of private functions.
+-- For the contracts of inner functions: the reads of an expression's bytes.
 use mathlib.Core.Bool.{Bool, false, _&&_, _||_}
 use mathlib.Core.List.{List, [], _∷_}
 use Prim.Native.Nat.{ℕ}

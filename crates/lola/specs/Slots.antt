@@ -1,4 +1,4 @@
--- For the contracts of private functions: the reads of a round in one word, and the stack of bits in one word.
+-- For the contracts of inner functions: the reads of a round in one word, and the stack of bits in one word.
 use mathlib.Core.Path.{_≡_}
 use mathlib.Core.Bool.{Bool, true, false}
 use Prim.Native.Nat.{ℕ, _+_, _-_, _*_, _/_, _%_, _≤_, _<_}

@@ -1,4 +1,4 @@
--- What the functions on stored sets do: for the contracts of private functions.
+-- For the contracts of inner functions: what the functions on stored sets do.
 use mathlib.Core.Path.{_≡_}
 use mathlib.Core.Bool.{Bool, true, false, cond, not, _&&_, _||_}
 use mathlib.Core.List.{List}

@@ -1,4 +1,4 @@
--- For contracts: what the program keeps of the line that it is reading.
+-- For the contracts of inner functions: what the program keeps of the line that it is reading.
 use mathlib.Core.Path.{_≡_}
 use mathlib.Core.Bool.{true}
 use mathlib.Core.List.{List, [], _∷_, _++_}

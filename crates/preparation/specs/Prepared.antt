@@ -1,4 +1,4 @@
--- For the contract of an inner function: what preparation leaves in the storage, and the numbers that it returns (01, "Completions and verdicts").
+-- For the contracts of inner functions: what preparation leaves in the storage, and the numbers that it returns.
 use mathlib.Core.Path.{_≡_}
 use mathlib.Core.List.{List}
 use mathlib.Core.Option.{Option}

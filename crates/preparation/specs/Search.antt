@@ -1,4 +1,4 @@
--- One layer of the search for live pairs: for the contracts of private functions.
+-- For the contracts of inner functions: one layer of the search for live pairs.
 use mathlib.Core.Path.{_≡_}
 use mathlib.Core.Logic.{_⊎_}
 use mathlib.Core.Bool.{Bool, true, false, not, _&&_, _||_}

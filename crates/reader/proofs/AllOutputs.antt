@@ -126,7 +126,7 @@ module _ (bs : List ℕ) (s n : ℕ) (len code : List ℕ) (at k : ℕ) (kept : 
         held =
             record {
               sizes = length-set len k l ∙ z .sizes;
-              room = put .size ∙ z .room;
+              room = put .same-length ∙ z .room;
               small = set-more (λ j v. v ≤ 64) len k l (omega (arith, z .sizes)) (i .short) (z .small);
               parts =
                   below-more (λ (j : ℕ). Parses s (codeAt new (set len k l) j)) k

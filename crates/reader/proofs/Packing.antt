@@ -13,23 +13,23 @@ use Rattle.reader.specs.Answer.{Put, Held}
 
 -- the first i bytes of e are copied
 pub record PutSoFar (from : ℕ) (e old new : List ℕ) (i : ℕ) : Type 0 where
-  pub size : length new ≡ length old
+  pub same-length : length new ≡ length old
   pub part : (j : ℕ) → j < i → getD new (from + j) 0 ≡ getD e j 0
   pub below : (j : ℕ) → j < from → getD new j 0 ≡ getD old j 0
 
 pub put-none : (from : ℕ) (e old : List ℕ) → PutSoFar from e old old 0
-put-none from e old = record { size = refl; part = λ j h. absurd (omega arith); below = λ j h. refl }
+put-none from e old = record { same-length = refl; part = λ j h. absurd (omega arith); below = λ j h. refl }
 
 pub put-more : (from : ℕ) (e old new : List ℕ) (i : ℕ) → from + i < length new → PutSoFar from e old new i → PutSoFar from e old (set new (from + i) (getD e i 0)) (i + 1)
 put-more from e old new i h x =
     record {
-      size = length-set new (from + i) (getD e i 0) ∙ x .size;
+      same-length = length-set new (from + i) (getD e i 0) ∙ x .same-length;
       part = set-more-from (λ j v. v ≡ getD e j 0) from new i (getD e i 0) h refl (x .part);
       below = λ j l. getD-set-other new (from + i) j (getD e i 0) 0 (omega arith) ∙ x .below j l;
     }
 
 pub put-all : (from : ℕ) (e old new : List ℕ) (i : ℕ) → length e ≤ i → PutSoFar from e old new i → Put from e old new
-put-all from e old new i h x = record { size = x .size; part = λ j l. x .part j (omega arith); below = x .below }
+put-all from e old new i h x = record { same-length = x .same-length; part = λ j l. x .part j (omega arith); below = x .below }
 
 -- parts that agree place by place are equal
 same-part : (a b : List ℕ) (i j n : ℕ) → i + n ≤ length a → j + n ≤ length b → ((k : ℕ) → k < n → getD a (i + k) 0 ≡ getD b (j + k) 0) → take n (drop i a) ≡ take n (drop j b)
@@ -46,13 +46,13 @@ module _ (len old : List ℕ) (k l : ℕ) (e new : List ℕ) (size : length e �
   pub copied : codeAt new (set len k l) k ≡ e
   copied =
       rw (getD-set-same len k l 0 (omega arith))
-      (same-part new e (64 * k) 0 l (omega (arith, put .size)) (omega arith) (λ a b. rw (zero-add a) (put .part a (omega arith)))
+      (same-part new e (64 * k) 0 l (omega (arith, put .same-length)) (omega arith) (λ a b. rw (zero-add a) (put .part a (omega arith)))
       ∙ take-all l e (omega arith))
 
   pub not-touched : (j : ℕ) → j < k → codeAt new (set len k l) j ≡ codeAt old len j
   not-touched j h =
       rw (getD-set-other len k j l 0 (omega arith))
-      (same-part new old (64 * j) (64 * j) (getD len j 0) (omega (arith, put .size, small j h)) (omega (arith, small j h))
+      (same-part new old (64 * j) (64 * j) (getD len j 0) (omega (arith, put .same-length, small j h)) (omega (arith, small j h))
       (λ a b. put .below (64 * j + a) (omega (arith, small j h))))
 
 pub usable : (m n : ℕ) (a : Assumed) (len code : List ℕ) → Ranges m n → Below a n → Held (m + n) n len code

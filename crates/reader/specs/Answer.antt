@@ -1,4 +1,4 @@
--- What the answers of the reader's parts mean: for the contracts of private functions.
+-- For the contracts of inner functions: what the answers of the reader's parts mean.
 use mathlib.Core.Path.{_≡_}
 use mathlib.Core.Bool.{cond}
 use mathlib.Core.List.{List, [], _∷_}
@@ -28,7 +28,7 @@ outputsBy (outcome.Refused r) ts = breaks r
 
 -- e stands in the buffer from a place on, and what lies below is kept
 pub record Put (from : ℕ) (e old new : List ℕ) : Type 0 where
-  pub size : length new ≡ length old
+  pub same-length : length new ≡ length old
   pub part : (i : ℕ) → i < length e → getD new (from + i) 0 ≡ getD e i 0
   pub below : (i : ℕ) → i < from → getD new i 0 ≡ getD old i 0
 

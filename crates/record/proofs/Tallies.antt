@@ -117,12 +117,12 @@ column-same (suc (suc (suc (suc n)))) v h d = absurd (omega arith)
 
 -- the first k outputs are counted
 pub record CountedTo (k : ℕ) (vs old new : List ℕ) : Type 0 where
-  pub size : length new ≡ length old
+  pub same-length : length new ≡ length old
   pub each : (j : ℕ) (v : Verdict) → j < k → countAt new j v ≡ one (eqb (getD vs j 0) (verdictNo v)) + countAt old j v
   pub beyond : (i : ℕ) → 4 * k ≤ i → getD new i 0 ≡ getD old i 0
 
 pub counted-none : (vs old : List ℕ) → CountedTo 0 vs old old
-counted-none vs old = record { size = refl; each = λ j v h. absurd (omega arith); beyond = λ i h. refl }
+counted-none vs old = record { same-length = refl; each = λ j v h. absurd (omega arith); beyond = λ i h. refl }
 
 module _ (k : ℕ) (vs old new : List ℕ) (fits : 4 * k + 4 ≤ length old) (ok : getD vs k 0 ≤ 3) (x : CountedTo k vs old new) where
   abbrev at : ℕ
@@ -132,7 +132,7 @@ module _ (k : ℕ) (vs old new : List ℕ) (fits : 4 * k + 4 ≤ length old) (ok
   after = set new at (getD new at 0 + 1)
 
   inside : at < length new
-  inside = omega (arith, column-lt (getD vs k 0) ok, x .size)
+  inside = omega (arith, column-lt (getD vs k 0) ok, x .same-length)
 
   here : (v : Verdict) → Dec (columnNo (getD vs k 0) ≡ column v) → countAt after k v ≡ one (eqb (columnNo (getD vs k 0)) (column v)) + countAt old k v
   here v (yes e) =
@@ -144,7 +144,7 @@ module _ (k : ℕ) (vs old new : List ℕ) (fits : 4 * k + 4 ≤ length old) (ok
 
   pub counted-more : CountedTo (k + 1) vs old after
   counted-more = record {
-    size = length-set new at (getD new at 0 + 1) ∙ x .size;
+    same-length = length-set new at (getD new at 0 + 1) ∙ x .same-length;
     each = λ j v h. go j v (decLt j k) h;
     beyond = λ i h. getD-set-other new at i (getD new at 0 + 1) 0 (omega (arith, column-lt (getD vs k 0) ok)) ∙ x .beyond i (omega arith);
   }
@@ -159,7 +159,7 @@ module _ (k : ℕ) (vs old new : List ℕ) (fits : 4 * k + 4 ≤ length old) (ok
 
 pub counted-all : (n k : ℕ) (vs old new : List ℕ) → k ≡ n → length old ≡ 28 → CountedTo k vs old new → Counted n vs old new
 counted-all n k vs old new e l x = record {
-  size = x .size ∙ l;
+  size = x .same-length ∙ l;
   each = λ j v h. x .each j v (omega arith);
   beyond = λ i h. x .beyond i (omega arith);
 }

@@ -1,4 +1,4 @@
--- For the contracts of private functions: an output's counts by the number of the verdict.
+-- For the contracts of inner functions: an output's counts by the number of the verdict.
 use mathlib.Core.Bool.{cond}
 use mathlib.Core.List.{List}
 use Prim.Native.Nat.{ℕ, _*_, _<_, _≤_}

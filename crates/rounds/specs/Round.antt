@@ -1,4 +1,4 @@
--- For the contracts of private functions: what a round leaves in the storage.
+-- For the contracts of inner functions: what a round leaves in the storage.
 use mathlib.Core.Path.{_≡_}
 use mathlib.Core.Bool.{false, cond}
 use mathlib.Core.List.{List}

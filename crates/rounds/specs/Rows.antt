@@ -1,4 +1,4 @@
--- For the contracts of private functions: the pairs that a set gains, row by row.
+-- For the contracts of inner functions: the pairs that a set gains, row by row.
 use mathlib.Core.Path.{_≡_}
 use mathlib.Core.Bool.{Bool, false, not, _&&_}
 use mathlib.Core.List.{List}

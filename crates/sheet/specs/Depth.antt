@@ -1,4 +1,4 @@
--- For the contracts of private functions: the number of values on the stack after an operation, or the rule that it breaks. The code keeps
+-- For the contracts of inner functions: the number of values on the stack after an operation, or the rule that it breaks. The code keeps
 -- no more of a stack of trees.
 use mathlib.Core.Bool.{cond}
 use Prim.Native.Nat.{ℕ, _+_, _-_}

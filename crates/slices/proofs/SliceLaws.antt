@@ -15,15 +15,15 @@ use Rattle.slices.specs.Slices.{sized}
 
 -- the first k of xs stand in `new` from a place on
 pub record PutTo (k at : ℕ) (xs old new : List ℕ) : Type 0 where
-  pub size : length new ≡ length old
+  pub same-length : length new ≡ length old
   pub same : new ≡ paste old at xs k
 
 pub put-none : (at : ℕ) (xs old : List ℕ) → PutTo 0 at xs old old
-put-none at xs old = record { size = refl; same = paste-zero old at xs }
+put-none at xs old = record { same-length = refl; same = paste-zero old at xs }
 
 pub put-more : (k at : ℕ) (xs old new : List ℕ) (v : ℕ) → at + k < length old → k < length xs → v ≡ getD xs k 0 → PutTo k at xs old new → PutTo (k + 1) at xs old (set new (at + k) v)
 put-more k at xs old new v h l e p = record {
-  size = length-set new (at + k) v ∙ p .size;
+  same-length = length-set new (at + k) v ∙ p .same-length;
   same = rw (e, p .same, add-one) (paste-suc old at xs k 0 h l);
 }
 

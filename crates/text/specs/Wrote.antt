@@ -1,4 +1,4 @@
--- What is written into a buffer from a place on. It serves the contracts; no paper speaks of buffers.
+-- For the contracts of inner functions: what is written into a buffer from a place on.
 use mathlib.Core.Path.{_≡_}
 use mathlib.Core.List.{List, _++_}
 use Prim.Native.Nat.{ℕ, _+_}

@@ -65,12 +65,12 @@ module _ (i s : ℕ) (v : Bool) (old : List ℕ) where
   -- the bit has its value already
   put-nothing : bit s (getD old i 0) ≡ v → BitPut i s v old old false
   put-nothing e =
-      record { len = refl; others = λ j h. refl; put = e; kept = λ k h. refl; below = λ n h b. b; same = λ h. refl }
+      record { same-length = refl; others = λ j h. refl; put = e; kept = λ k h. refl; below = λ n h b. b; same = λ h. refl }
 
   put-flip : i < length old → s < 8 → not (bit s (getD old i 0)) ≡ v → BitPut i s v old (set old i (bitXor (getD old i 0) (1 * 2 ^ s % 2 ^ 8))) true
   put-flip l h e =
       record {
-        len = length-set old i _;
+        same-length = length-set old i _;
         others = λ j n. getD-set-other old i j _ 0 n;
         put = ap (bit s) here ∙ bit-flipped s (getD old i 0) h ∙ e;
         kept = λ k n. ap (bit k) here ∙ bit-kept k s (getD old i 0) h n;

@@ -19,23 +19,23 @@ bytes-kept p x =
     record {
       streams = x .streams;
       rounds = x .rounds;
-      same = p .len ∙ x .same;
+      same = p .same-length ∙ x .same;
       letters-below = x .letters-below;
       bytes-below = p .below (x .bytes-below);
     }
 
 pub kept-none : (n : ℕ) (l : List ℕ) → SameShape n l l
-kept-none n l = record { len = refl; below = λ b. b }
+kept-none n l = record { same-length = refl; below = λ b. b }
 
 pub kept-then : {n : ℕ} {old mid new : List ℕ} → SameShape n old mid → SameShape n mid new → SameShape n old new
-kept-then p q = record { len = q .len ∙ p .len; below = λ b. q .below (p .below b) }
+kept-then p q = record { same-length = q .same-length ∙ p .same-length; below = λ b. q .below (p .below b) }
 
 -- a bit that was put is a place worked out anew
 module _ (n : ℕ) (f : Assignment → Assignment) (s t : ℕ) (v : Bool) (old new : List ℕ) (changed : Bool) (put : BitPut (t - 1) s v old new changed)
     (low : 1 ≤ t) (in-n : s < n) (right : v ≡ f (valuesOf old) s t) where
   byte : ((i : ℕ) → i < length old → getD old i 0 < 2 ^ n) → (i : ℕ) → i < length new → Dec (i ≡ t - 1) → getD new i 0 < 2 ^ n
-  byte b i l (yes e) = rw e (put .below n in-n (b (t - 1) (omega (arith, put .len))))
-  byte b i l (no e) = rw (put .others i e) (b i (omega (arith, put .len)))
+  byte b i l (yes e) = rw e (put .below n in-n (b (t - 1) (omega (arith, put .same-length))))
+  byte b i l (no e) = rw (put .others i e) (b i (omega (arith, put .same-length)))
 
   other : (q u : ℕ) → 1 ≤ u → ((q ≡ s) × (u ≡ t) → ⊥) → Dec (u - 1 ≡ t - 1) → bit q (getD new (u - 1) 0) ≡ bit q (getD old (u - 1) 0)
   other q u l h (yes e) = rw e (put .kept q (λ g. h (g, omega arith)))
@@ -45,7 +45,7 @@ module _ (n : ℕ) (f : Assignment → Assignment) (s t : ℕ) (v : Bool) (old n
   unfolding valuesOf
   renewed-put =
       record {
-        kept = record { len = put .len; below = λ b i l. byte b i l (ℕ-discrete i (t - 1)) };
+        kept = record { same-length = put .same-length; below = λ b i l. byte b i l (ℕ-discrete i (t - 1)) };
         value = put .put ∙ right;
         others = λ q u l h. other q u l h (ℕ-discrete (u - 1) (t - 1));
       }

@@ -152,7 +152,7 @@ module _ (x : Sheet) (u : Usable x) (letters out c : List ℕ) (ready : Ready (x
   module _ (level : CircularSheet (ruleSheet x) → ⊥) (a : List ℕ)
       (solved : Solved (x .outputs) (length letters) (sides (x .inputs) (x .outputs) (x .code) (x .len) letters) (take (length letters) (c ++ drop (length letters) out)) a) where
     whole : length a ≡ length letters
-    whole = solved .kept .len ∙ bytes-start .same
+    whole = solved .kept .same-length ∙ bytes-start .same
 
     below : (i : ℕ) → i < length a → getD a i 0 < 2 ^ x .outputs
     below = solved .kept .below (bytes-start .bytes-below)
@@ -160,7 +160,7 @@ module _ (x : Sheet) (u : Usable x) (letters out c : List ℕ) (ready : Ready (x
     pub written-of : OutputsWritten (ruleSheet x) letters out (a ++ drop (length letters) (c ++ drop (length letters) out))
     written-of =
         record {
-          len =
+          same-length =
               length-append a (drop (length letters) (c ++ drop (length letters) out))
               ∙ rw (cleared-rest (length letters) out c (ready .fits) e) (omega (arith, whole, ready .fits, length-drop (length letters) out));
           rest = drop-at a (drop (length letters) (c ++ drop (length letters) out)) (length letters) whole ∙ cleared-rest (length letters) out c (ready .fits) e;
@@ -178,5 +178,5 @@ evaluated-of bs letters old new x e Accepted h = (x, e, h)
 evaluated-of bs letters old new x e (Refused r) h = h
 
 pub left-length : (x : RuleSheet) (letters old new : List ℕ) (o : Outcome) → Left x letters old new o → length new ≡ length old
-left-length x letters old new Accepted h = h .len
+left-length x letters old new Accepted h = h .same-length
 left-length x letters old new (Refused r) h = ap length h

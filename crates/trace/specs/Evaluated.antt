@@ -13,7 +13,7 @@ use Rattle.lola.specs.Equations.{Satisfies, joined}
 -- For each of the N letters the byte whose bit k is output k: no bit beyond the outputs is set, and the valuations that letters and
 -- bytes make satisfy all equations, nothing before the first and nothing after the last. Bytes after the first N keep their contents.
 pub record OutputsWritten (x : RuleSheet) (letters old new : List ℕ) : Type 0 where
-  pub len : length new ≡ length old
+  pub same-length : length new ≡ length old
   pub rest : drop (length letters) new ≡ drop (length letters) old
   pub bytes : (i : ℕ) → i < length letters → getD new i 0 < 2 ^ outputs x
   pub satisfies : Satisfies x none (joined (x .inputs) letters (take (length letters) new))

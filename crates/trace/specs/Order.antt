@@ -1,4 +1,4 @@
--- For the contracts of private functions: the order in which a sweep refreshes places. Output s in round t has the key 8 t + lead, with
+-- For the contracts of inner functions: the order in which a sweep refreshes places. Output s in round t has the key 8 t + lead, with
 -- rounds counted in the sweep's direction.
 use mathlib.Core.Path.{_≡_}
 use mathlib.Core.Logic.{_⊎_}

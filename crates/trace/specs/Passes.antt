@@ -1,4 +1,4 @@
--- For the contracts of private functions: a buffer as the values of the outputs, and what refreshing some of its places does.
+-- For the contracts of inner functions: a buffer as the values of the outputs, and what refreshing some of its places does.
 use mathlib.Core.Path.{_≡_}
 use mathlib.Core.Bool.{Bool, true, false, cond, _&&_}
 use mathlib.Core.List.{List, []}
@@ -64,7 +64,7 @@ pub record Environment (m : ℕ) (letters buf : List ℕ) (t r : ℕ) : Type 0 w
 
 -- bit s of byte i is made v, and whether that changed it
 pub record BitPut (i s : ℕ) (v : Bool) (old new : List ℕ) (changed : Bool) : Type 0 where
-  pub len : length new ≡ length old
+  pub same-length : length new ≡ length old
   pub others : (j : ℕ) → (j ≡ i → ⊥) → getD new j 0 ≡ getD old j 0
   pub put : bit s (getD new i 0) ≡ v
   pub kept : (k : ℕ) → (k ≡ s → ⊥) → bit k (getD new i 0) ≡ bit k (getD old i 0)
@@ -73,7 +73,7 @@ pub record BitPut (i s : ℕ) (v : Bool) (old new : List ℕ) (changed : Bool) :
 
 -- a buffer of the same length, with n bits a byte
 pub record SameShape (n : ℕ) (old new : List ℕ) : Type 0 where
-  pub len : length new ≡ length old
+  pub same-length : length new ≡ length old
   pub below : ((i : ℕ) → i < length old → getD old i 0 < 2 ^ n) → (i : ℕ) → i < length new → getD new i 0 < 2 ^ n
 
 -- output s was worked out anew in round t, and nothing else

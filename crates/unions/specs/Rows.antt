@@ -1,4 +1,4 @@
--- Rows of valuations, as the bits of words: for the contracts of functions that one crate offers another.
+-- For the contracts of inner functions: rows of valuations, as the bits of words.
 use mathlib.Core.Path.{_≡_}
 use mathlib.Core.Bool.{Bool, _&&_, _||_}
 use mathlib.Core.List.{List}

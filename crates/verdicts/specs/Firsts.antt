@@ -1,4 +1,4 @@
--- For the contracts of private functions: valuations as the bits of words, and the verdicts read off them.
+-- For the contracts of inner functions: valuations as the bits of words, and the verdicts read off them.
 use mathlib.Core.Path.{_≡_}
 use mathlib.Core.Bool.{Bool, false, _&&_, Bool·beq}
 use mathlib.Core.List.{List}

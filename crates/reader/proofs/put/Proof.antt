@@ -38,7 +38,7 @@ loop-again c =
     (omega arith, simp length-set (p .loop .inv .1), put-more _ _ _ (p .loop .buffer) (p .loop .i) (omega arith) (p .loop .inv .2))
 
 same-length : tie.Need-same-length Inv-loop μ-loop
-same-length c = c .before .loop .inv .2 .size
+same-length c = c .before .loop .inv .2 .same-length
 
 returns : tie.Need-returns Inv-loop μ-loop
 returns c = put-all _ _ _ _ (c .before .loop .i) (omega arith) (c .before .loop .inv .2)

@@ -33,7 +33,7 @@ mul-into : tie.Need-mul-into Inv-loop μ-loop
 mul-into c = omega arith
 
 slice-write-into : tie.Need-slice-write-into Inv-loop μ-loop
-slice-write-into c = omega (arith, c .before .before .before .loop .inv .1 .size)
+slice-write-into c = omega (arith, c .before .before .before .loop .inv .1 .same-length)
 
 add-i : tie.Need-add-i Inv-loop μ-loop
 add-i c = omega arith
@@ -48,7 +48,7 @@ loop-again c =
     (omega arith, put-more (l .i) (a .at) (now (a .xs)) (now (a .into)) (l .into) (c .wide .result) (omega arith) (omega arith) (c .wide .ensures) (l .inv .1))
 
 same-length : tie.Need-same-length Inv-loop μ-loop
-same-length c = c .before .loop .inv .1 .size
+same-length c = c .before .loop .inv .1 .same-length
 
 returns : tie.Need-returns Inv-loop μ-loop
 returns c =

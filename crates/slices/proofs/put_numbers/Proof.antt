@@ -31,7 +31,7 @@ mul-into-2 : tie.Need-mul-into-2 Inv-loop μ-loop
 mul-into-2 c = omega arith
 
 slice-write-into : tie.Need-slice-write-into Inv-loop μ-loop
-slice-write-into c = omega (arith, c .before .before .loop .inv .1 .size)
+slice-write-into c = omega (arith, c .before .before .loop .inv .1 .same-length)
 
 add-i : tie.Need-add-i Inv-loop μ-loop
 add-i c = omega arith
@@ -46,7 +46,7 @@ loop-again c =
     (omega arith, put-more (l .i) (a .at) (now (a .xs)) (now (a .into)) (l .into) _ (omega arith) (omega arith) refl (l .inv .1))
 
 same-length : tie.Need-same-length Inv-loop μ-loop
-same-length c = c .before .loop .inv .1 .size
+same-length c = c .before .loop .inv .1 .same-length
 
 returns : tie.Need-returns Inv-loop μ-loop
 returns c =

@@ -53,7 +53,7 @@ same-length c =
     let a = st .args in
     let cleared = c .before .before .before .before .before .before .before .before .before .clear in
     written-of (a .x) (st .pre .0) _ (a .out .now) (cleared .last .0) (st .pre .2) (cleared .ensures .0) (cleared .ensures .1) (st .pre .1) _ (c .before .before .solve .ensures)
-    .len
+    .same-length
 
 returns : tie.Need-returns
 returns c =

@@ -23,7 +23,7 @@ returns : tie.Need-returns
 returns c = (λ bs e. rw (c .before .outcome .given .1) at (c .before .before .before .check-run .ensures .0 bs e), refl)
 
 same-length : tie.Need-same-length
-same-length c = c .before .before .fill .ensures .len
+same-length c = c .before .before .fill .ensures .same-length
 
 returns-2 : tie.Need-returns-2
 returns-2 c =

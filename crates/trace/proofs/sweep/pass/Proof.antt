@@ -38,7 +38,7 @@ loop-again c = (
 )
 
 same-length : tie.Need-same-length Inv-loop μ-loop
-same-length c = c .before .loop .inv .2 .kept .len
+same-length c = c .before .loop .inv .2 .kept .same-length
 
 returns : tie.Need-returns Inv-loop μ-loop
 returns c = passed-as _ _ _ _ _ _ _ _ (λ q u pl h. omega (arith, pl .t-high)) (c .before .loop .inv .2)

@@ -28,7 +28,7 @@ pass-requires : tie.Need-pass-requires Inv-loop μ-loop
 pass-requires c κs = let st = c .before .before .before .before .before .before .before in (st .pre .0, bytes-kept (c .before .before .loop .inv .1 .kept) (st .pre .1))
 
 same-length : tie.Need-same-length Inv-loop μ-loop
-same-length c = c .before .before .before .pass .ensures .kept .len ∙ c .before .before .before .before .before .before .loop .inv .1 .kept .len
+same-length c = c .before .before .before .pass .ensures .kept .same-length ∙ c .before .before .before .before .before .before .loop .inv .1 .kept .same-length
 
 returns : tie.Need-returns Inv-loop μ-loop
 returns c = going-quiet _ _ _ _ _ _ _ _ (c .before .before .before .before .before .before .loop .inv .1) (c .before .before .before .pass .ensures) (not-true _ (c .if1 .taken))
@@ -45,7 +45,7 @@ loop-again : tie.Need-loop-again Inv-loop μ-loop
 loop-again c = (omega arith, going-more _ _ _ _ _ _ _ _ (c .before .before .before .before .before .before .loop .inv .1) (c .before .before .before .pass .ensures))
 
 same-length-2 : tie.Need-same-length-2 Inv-loop μ-loop
-same-length-2 c = c .before .loop .inv .1 .kept .len
+same-length-2 c = c .before .loop .inv .1 .kept .same-length
 
 returns-2 : tie.Need-returns-2 Inv-loop μ-loop
 returns-2 c = going-end _ _ _ _ _ _ (omega arith) (c .before .loop .inv .1)

@@ -37,7 +37,7 @@ loop-again c = (
 )
 
 same-length : tie.Need-same-length Inv-loop μ-loop
-same-length c = c .before .loop .inv .1 .kept .len
+same-length c = c .before .loop .inv .1 .kept .same-length
 
 returns : tie.Need-returns Inv-loop μ-loop
 returns c = passed-as _ _ _ _ _ _ _ _ (λ q u pl h. (omega (arith, pl .s-lt), h)) (c .before .loop .inv .1)

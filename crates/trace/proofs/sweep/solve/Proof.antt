@@ -10,7 +10,7 @@ sweeps-requires : tie.Need-sweeps-requires
 sweeps-requires c κs = search needs
 
 same-length : tie.Need-same-length
-same-length c = c .before .before .before .sweeps .ensures .kept .len
+same-length c = c .before .before .before .sweeps .ensures .kept .same-length
 
 returns : tie.Need-returns
 returns c = solved-all (c .before .before .before .sweeps .ensures) (c .before .before .before .before .before .before .before .before .before .pre .2) (c .if1 .taken)
@@ -19,7 +19,7 @@ passes-requires : tie.Need-passes-requires
 passes-requires c κs = let st = c .before .before .before .before .before .before .before .before .before .before in (st .pre .0, bytes-kept (c .before .before .before .before .sweeps .ensures .kept) (st .pre .1))
 
 same-length-2 : tie.Need-same-length-2
-same-length-2 c = c .before .before .passes .ensures .kept .len ∙ c .before .before .before .before .before .before .before .sweeps .ensures .kept .len
+same-length-2 c = c .before .before .passes .ensures .kept .same-length ∙ c .before .before .before .before .before .before .before .sweeps .ensures .kept .same-length
 
 returns-2 : tie.Need-returns-2
 returns-2 c = solved-after (c .before .before .before .before .before .before .before .sweeps .ensures .kept) (c .before .before .passes .ensures)

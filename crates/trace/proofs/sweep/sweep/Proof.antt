@@ -48,7 +48,7 @@ loop-again c =
     (omega arith, sweep-more _ _ _ _ _ _ _ _ (after-order-of .order-of .ensures) _ _ _ (turn .loop .inv .1) (c .before .before .refresh-block .ensures))
 
 same-length : tie.Need-same-length Inv-loop μ-loop
-same-length c = c .before .loop .inv .1 .kept .len
+same-length c = c .before .loop .inv .1 .kept .same-length
 
 returns-2 : tie.Need-returns-2 Inv-loop μ-loop
 returns-2 c = sweep-end _ _ _ _ _ _ _ _ (c .before .before .before .before .order-of .ensures) (omega arith) _ _ (c .before .loop .inv .1)

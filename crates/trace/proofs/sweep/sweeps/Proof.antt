@@ -20,7 +20,7 @@ loop-holds : tie.Need-loop-holds Inv-loop μ-loop
 loop-holds c = (omega arith, extends-start _ _ _ _ _ _)
 
 same-length : tie.Need-same-length Inv-loop μ-loop
-same-length c = c .before .before .loop .inv .1 .kept .len
+same-length c = c .before .before .loop .inv .1 .kept .same-length
 
 returns : tie.Need-returns Inv-loop μ-loop
 returns c = extends-all _ _ _ _ _ _ _ _ _ (c .before .before .before .before .before .before .before .pre .0 .outputs) (λ e. c .if1 .taken) (c .before .before .loop .inv .1)
@@ -38,7 +38,7 @@ loop-again : tie.Need-loop-again Inv-loop μ-loop
 loop-again c = (omega arith, extends-then _ _ _ _ _ _ _ _ _ _ (c .before .before .before .before .before .before .loop .inv .1) (c .before .before .settle-more .ensures))
 
 same-length-2 : tie.Need-same-length-2 Inv-loop μ-loop
-same-length-2 c = c .before .loop .inv .1 .kept .len
+same-length-2 c = c .before .loop .inv .1 .kept .same-length
 
 returns-2 : tie.Need-returns-2 Inv-loop μ-loop
 returns-2 c = extends-all _ _ _ _ _ _ _ _ _ (c .before .before .before .before .before .before .pre .0 .outputs) (eqb-true _ 127) (c .before .loop .inv .1)

@@ -17,7 +17,7 @@ mod order; // order.rt: the order in which places are refreshed
 mod place; // place.rt: one output in one round
 mod sweep; // sweep.rt: passes and sweeps over all places
 
-const MAX_ROUNDS: usize = 4096;
+const MAX_LETTERS: usize = 4096;
 
 fn clear(buf: &mut [u8])
     ensures { λ r. ⌜ (length (now (buf .exit)) ≡ length (now (buf .entry))) × ((i : ℕ) → i < length (now (buf .exit)) → getD (now (buf .exit)) i 0 ≡ 0) ⌝ }
@@ -54,7 +54,7 @@ fn check_run(m: usize, letters: &[u8], room: usize) -> Outcome
     if rounds == 0 {
         return Outcome::Refused(Refusal::Extent);
     }
-    if MAX_ROUNDS < rounds {
+    if MAX_LETTERS < rounds {
         return Outcome::Refused(Refusal::Extent);
     }
     if room < rounds {

@@ -25,9 +25,11 @@ extern "C" {
 /* Numbers that an answer has room for at least. */
 #define JIGWARET_ANSWER_NUMBERS 16
 
-/* The most rounds of a journal, and of one evaluation. */
-#define JIGWARET_MOST_ROUNDS 1000000
-#define JIGWARET_LONGEST_TRACE 4096
+/* The most rounds of a journal. */
+#define JIGWARET_MAX_ROUNDS 1000000
+
+/* The most letters of an evaluation. */
+#define JIGWARET_MAX_LETTERS 4096
 
 /* What is known of an output in a round. */
 enum jigwaret_verdict {
@@ -58,7 +60,7 @@ enum jigwaret_outcome {
     JIGWARET_EXTENT = 16,     /* no letters, too many, or too small a buffer */
     JIGWARET_LINE = 17,       /* a malformed line; only the program gives it */
     JIGWARET_RECORD = 18,     /* the record is not one of a journal */
-    JIGWARET_LENGTHS = 255    /* the record or the answer has the wrong number of elements */
+    JIGWARET_WRONG_SIZES = 255 /* the record or the answer has the wrong number of elements */
 };
 
 /* Checks a sheet. */

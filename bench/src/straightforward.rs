@@ -8,7 +8,7 @@ use std::collections::{BTreeMap, BTreeSet, HashSet};
 /// A valuation, and the one that follows it or `None` for the end mark.
 pub type Pair = (u8, Option<u8>);
 
-const MOST_ROUNDS: u32 = 1_000_000;
+const MAX_ROUNDS: u32 = 1_000_000;
 
 /// A sheet that was read and checked, with its live pairs.
 pub struct Monitor {
@@ -91,7 +91,7 @@ impl Journal<'_> {
         if known >> self.monitor.sheet.inputs != 0 || value & !known != 0 {
             return Err(11);
         }
-        if self.rounds == MOST_ROUNDS {
+        if self.rounds == MAX_ROUNDS {
             return Err(13);
         }
         let reached = self.monitor.step(self.reached.as_ref(), known, value);
@@ -255,9 +255,9 @@ mod tests {
     fn the_last_round() {
         let monitor = Monitor::new(&cases::plain(1, &["40"])).unwrap();
         let mut journal = Journal::new(&monitor);
-        journal.rounds = MOST_ROUNDS - 1;
+        journal.rounds = MAX_ROUNDS - 1;
         assert_eq!(journal.round(1, 1), Ok(vec![1]));
         assert_eq!(journal.round(1, 1), Err(13));
-        assert_eq!(journal.rounds, MOST_ROUNDS);
+        assert_eq!(journal.rounds, MAX_ROUNDS);
     }
 }

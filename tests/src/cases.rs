@@ -1,7 +1,7 @@
 //! Inputs with answers worked out by hand: the marked examples, the example of each refusal, and
 //! the places where an order of checks or a definition is easily got wrong.
 
-use crate::journal::{round, Call, Held, ANSWER_NUMBERS, MOST_ROUNDS, RECORD_NUMBERS, STORAGE_WORDS, WRONG_LENGTH};
+use crate::journal::{round, Call, Held, ANSWER_NUMBERS, MAX_ROUNDS, RECORD_NUMBERS, STORAGE_WORDS, WRONG_SIZES};
 use crate::sheet::{byte_of_read, write, NO_ASSUMPTION};
 
 pub struct SheetCase {
@@ -516,7 +516,7 @@ fn record_refusals() -> Vec<Refused> {
     let one =
         |name, rounds, closed, four, number| both(name, plain(1, &["40"]), forged(rounds, closed, &[four]), number);
     let half = 1 << 31;
-    let (full, over) = (MOST_ROUNDS, MOST_ROUNDS + 1);
+    let (full, over) = (MAX_ROUNDS, MAX_ROUNDS + 1);
     let good = [1, 1, 1, 0];
     let two = || plain(1, &["40", "40"]);
     vec![
@@ -567,7 +567,7 @@ fn order_refusals() -> Vec<Refused> {
         held
     };
     let (open, closed) = (|| forged(1, 0, &[[1, 0, 0, 0]]), || forged(1, 1, &[[1, 0, 0, 0]]));
-    let full = |closed| forged(MOST_ROUNDS, closed, &[[MOST_ROUNDS - 7, 3, 3, 1]]);
+    let full = |closed| forged(MAX_ROUNDS, closed, &[[MAX_ROUNDS - 7, 3, 3, 1]]);
     let wrong = |closed| forged(1, closed, &[[0; 4]]);
     let empty = |closed| forged(0, closed, &[[0; 4]]);
     let (good, beyond, unknown) = (round(1, 1), round(2, 0), round(0, 1));
@@ -643,7 +643,7 @@ fn length_refusals() -> Vec<Refused> {
             let mut held = forged(1, 0, &[[1, 0, 0, 0]]);
             held.record.resize(record, 0);
             held.answer.resize(answer, 0);
-            cases.push((name, plain(1, &["40"]), held, call, WRONG_LENGTH));
+            cases.push((name, plain(1, &["40"]), held, call, WRONG_SIZES));
         }
     }
     cases

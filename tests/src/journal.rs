@@ -5,15 +5,15 @@ use crate::monitor::{Heard, Monitor, Verdict};
 use crate::pairs::{Pairs, SET_WORDS};
 
 /// The most rounds that a journal holds.
-pub const MOST_ROUNDS: u32 = 1_000_000;
+pub const MAX_ROUNDS: u32 = 1_000_000;
 /// Three sets of pairs: live, reached, scratch.
 pub const STORAGE_WORDS: usize = 3 * SET_WORDS;
 /// Rounds, closed, and four counts for each of seven outputs.
 pub const RECORD_NUMBERS: usize = 30;
 /// The fewest numbers an answer has room for.
 pub const ANSWER_NUMBERS: usize = 16;
-/// Returned where a record or an answer has the wrong length.
-pub const WRONG_LENGTH: u32 = 255;
+/// Returned where a record or an answer has the wrong number of elements.
+pub const WRONG_SIZES: u32 = 255;
 
 #[derive(Clone, Copy, Debug, PartialEq, Eq)]
 pub enum Call {
@@ -98,7 +98,7 @@ impl Book<'_> {
         if bad_masks(self.monitor.sheet.inputs, heard) {
             return Err(11);
         }
-        if self.rounds.len() == MOST_ROUNDS as usize {
+        if self.rounds.len() == MAX_ROUNDS as usize {
             return Err(13);
         }
         self.rounds.push(heard);
@@ -205,7 +205,7 @@ fn hear(monitor: &Result<Monitor, u32>, held: &mut Held, heard: Heard) -> Result
     if bad_masks(monitor.sheet.inputs, heard) {
         return Err(11);
     }
-    if held.record[0] == MOST_ROUNDS {
+    if held.record[0] == MAX_ROUNDS {
         return Err(13);
     }
     let set = |number: usize| {
@@ -245,7 +245,7 @@ fn close(monitor: &Result<Monitor, u32>, held: &mut Held) -> Result<(), u32> {
 
 fn check_lengths(held: &Held) -> Result<(), u32> {
     if held.record.len() != RECORD_NUMBERS || held.answer.len() < ANSWER_NUMBERS {
-        return Err(WRONG_LENGTH);
+        return Err(WRONG_SIZES);
     }
     Ok(())
 }
@@ -262,7 +262,7 @@ fn check_storage(held: &Held) -> Result<(), u32> {
 fn check_record(held: &Held, outputs: usize) -> Result<(), u32> {
     let (rounds, closed) = (held.record[0], held.record[1]);
     let adds_up = |k: usize| held.counts(k).iter().map(|&count| count as u64).sum::<u64>() == rounds as u64;
-    if rounds > MOST_ROUNDS || closed > 1 || !(0..outputs).all(adds_up) {
+    if rounds > MAX_ROUNDS || closed > 1 || !(0..outputs).all(adds_up) {
         return Err(18);
     }
     if closed == 1 {

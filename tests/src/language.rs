@@ -4,7 +4,7 @@ use crate::circular;
 use crate::sheet::{Expression, Sheet};
 
 /// The most letters that one evaluation takes.
-pub const LONGEST_TRACE: usize = 4096;
+pub const MAX_LETTERS: usize = 4096;
 
 /// The value of an expression. A valuation has stream q in bit q; a round that the trace lacks is
 /// `None`.
@@ -114,7 +114,7 @@ pub fn values(sheet: &Sheet, letters: &[u8]) -> Option<Vec<u8>> {
 /// is the length of the buffer.
 pub fn evaluate(sheet: &[u8], letters: &[u8], room: usize) -> Result<Vec<u8>, u32> {
     let sheet = circular::accept(sheet)?;
-    if letters.is_empty() || letters.len() > LONGEST_TRACE || room < letters.len() {
+    if letters.is_empty() || letters.len() > MAX_LETTERS || room < letters.len() {
         return Err(16);
     }
     if letters.iter().any(|letter| letter >> sheet.inputs != 0) {

@@ -77,7 +77,7 @@ fn closing(book: &Book, answer: &Answer) -> String {
 mod tests {
     use super::*;
     use crate::cases::{self, assuming, plain, session_sheet};
-    use crate::journal::MOST_ROUNDS;
+    use crate::journal::MAX_ROUNDS;
     use crate::monitor::Heard;
 
     fn one() -> Vec<u8> {
@@ -187,7 +187,7 @@ mod tests {
     fn the_last_rounds() {
         let monitor = Monitor::new(&one()).unwrap();
         let mut book = Book::new(&monitor);
-        for _ in 0..MOST_ROUNDS {
+        for _ in 0..MAX_ROUNDS {
             book.round(Heard { known: 1, value: 1 }).unwrap();
         }
         for (line, number) in [("x", 17), ("?", 13), ("..", 17), ("1", 13), ("10", 17)] {

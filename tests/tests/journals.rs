@@ -1,6 +1,6 @@
 //! The library's preparation, rounds and closings against the outside monitor and its book.
 
-use outside::journal::{self, call_of_line, round, Answer, Book, Call, Held, MOST_ROUNDS, STORAGE_WORDS};
+use outside::journal::{self, call_of_line, round, Answer, Book, Call, Held, MAX_ROUNDS, STORAGE_WORDS};
 use outside::monitor::{self, Heard, Monitor, Verdict};
 use outside::pairs::{Pairs, SET_WORDS};
 use outside::random::{self, Random};
@@ -524,11 +524,11 @@ fn the_last_rounds() {
         let mut held = anything(&mut random);
         assert_eq!(subject.agree(&mut held, Call::Prepare), 0);
         assert_eq!(subject.agree(&mut held, Call::Round(random.heard(m, 100))), 0);
-        consistent(&mut random, &mut held, MOST_ROUNDS - 3, n);
+        consistent(&mut random, &mut held, MAX_ROUNDS - 3, n);
         for number in [0, 0, 0, 13, 13] {
             assert_eq!(subject.agree(&mut held, Call::Round(random.heard(m, 30))), number);
         }
-        assert_eq!(held.record[0], MOST_ROUNDS);
+        assert_eq!(held.record[0], MAX_ROUNDS);
         assert_eq!(subject.agree(&mut held, round(1 << m, 0)), 11);
         assert_eq!(subject.agree(&mut held, Call::Close), 0);
         assert_eq!(subject.agree(&mut held, round(0, 0)), 12);
@@ -632,8 +632,8 @@ fn random_calls() {
 
 /// Makes the record consistent, or spoils one thing about it.
 fn forge(random: &mut Random, held: &mut Held, outputs: usize) {
-    let any = random.below(MOST_ROUNDS as usize + 1) as u32;
-    let rounds = random.pick(&[0, 0, 1, 1, 2, 7, any, MOST_ROUNDS - 1, MOST_ROUNDS, MOST_ROUNDS]);
+    let any = random.below(MAX_ROUNDS as usize + 1) as u32;
+    let rounds = random.pick(&[0, 0, 1, 1, 2, 7, any, MAX_ROUNDS - 1, MAX_ROUNDS, MAX_ROUNDS]);
     consistent(random, held, rounds, outputs);
     held.record[1] = random.one_in(6) as u32;
     let count = 2 + 4 * random.below(outputs) + random.below(4);
@@ -644,8 +644,8 @@ fn forge(random: &mut Random, held: &mut Held, outputs: usize) {
         3 => held.record[1] = random.pick(&[2, 3, 256, 257, u32::MAX]),
         4 => held.record[0] = held.record[0].wrapping_add(1),
         5 => {
-            held.record[0] += MOST_ROUNDS + 1 - rounds;
-            (0..outputs).for_each(|k| held.record[2 + 4 * k] += MOST_ROUNDS + 1 - rounds);
+            held.record[0] += MAX_ROUNDS + 1 - rounds;
+            (0..outputs).for_each(|k| held.record[2 + 4 * k] += MAX_ROUNDS + 1 - rounds);
         }
         6 => {
             // The sum passes 2^32 and looks right in 32 bits.

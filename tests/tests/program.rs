@@ -2,7 +2,7 @@
 //! rounds as one may hold.
 
 use outside::cases::{longest, plain, session_sheet};
-use outside::journal::MOST_ROUNDS;
+use outside::journal::MAX_ROUNDS;
 use outside::{session, vectors};
 use std::env;
 use std::fs::{self, File};
@@ -89,9 +89,9 @@ fn a_million_rounds() {
     let Some(folder) = Folder::new("a_million_rounds") else { return };
     let sheet = plain(1, &["40"]);
     let (mut input, mut written) = (String::new(), String::new());
-    for round in 1..=MOST_ROUNDS {
+    for round in 1..=MAX_ROUNDS {
         let line = match round {
-            MOST_ROUNDS => "?\n",
+            MAX_ROUNDS => "?\n",
             _ if round % 2000 == 0 => "0\n",
             _ => "1\n",
         };

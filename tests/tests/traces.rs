@@ -103,7 +103,7 @@ fn long_traces() {
     let mut random = Random::new(13);
     for turn in 0..120 {
         let (bytes, sheet) = accepted(&mut random);
-        let rounds = if turn % 3 == 0 { language::LONGEST_TRACE } else { random.range(41, 4096) };
+        let rounds = if turn % 3 == 0 { language::MAX_LETTERS } else { random.range(41, 4096) };
         let letters = random.letters(sheet.inputs, rounds);
         let room = rounds + random.pick(&[0, 0, 1, 300]);
         let contents = random.bytes(room);
@@ -118,8 +118,8 @@ fn long_zigzag_traces() {
     let mut random = Random::new(14);
     for _ in 0..40 {
         let bytes = random::zigzag(&mut random);
-        let letters = random.letters(bytes[5] as usize, language::LONGEST_TRACE);
-        let contents = random.bytes(language::LONGEST_TRACE + 1);
+        let letters = random.letters(bytes[5] as usize, language::MAX_LETTERS);
+        let contents = random.bytes(language::MAX_LETTERS + 1);
         assert_eq!(agree(&bytes, &letters, &contents), 0);
     }
 }
@@ -161,9 +161,9 @@ fn a_bad_letter_anywhere() {
                 assert_eq!(agree(&sheet, &letters, &random.bytes(15)), 11);
             }
         }
-        let mut letters = random.letters(inputs, language::LONGEST_TRACE);
-        letters[language::LONGEST_TRACE - 1] = 1 << inputs;
-        assert_eq!(agree(&sheet, &letters, &random.bytes(language::LONGEST_TRACE)), 11);
+        let mut letters = random.letters(inputs, language::MAX_LETTERS);
+        letters[language::MAX_LETTERS - 1] = 1 << inputs;
+        assert_eq!(agree(&sheet, &letters, &random.bytes(language::MAX_LETTERS)), 11);
     }
 }
 

@@ -6,8 +6,8 @@ use super::sheet::Sheet;
 
 pub const STORAGE_WORDS: usize = 3 * SET_WORDS;
 const SET_WORDS: usize = 1028;
-const MOST_ROUNDS: u32 = 1_000_000;
-const WRONG_LENGTH: u32 = 255;
+const MAX_ROUNDS: u32 = 1_000_000;
+const WRONG_SIZES: u32 = 255;
 
 pub fn prepare(bytes: &[u8], storage: &mut [u64], record: &mut [u32], answer: &mut [u32]) -> u32 {
     number(try_prepare(bytes, storage, record, answer))
@@ -135,7 +135,7 @@ fn sets(storage: &mut [u64]) -> Result<[&mut Set; 3], u32> {
 
 fn check_lengths(record: &[u32], answer: &[u32]) -> Result<(), u32> {
     if record.len() != 30 || answer.len() < 16 {
-        return Err(WRONG_LENGTH);
+        return Err(WRONG_SIZES);
     }
     Ok(())
 }
@@ -145,7 +145,7 @@ fn check_record(sheet: &Sheet, record: &[u32]) -> Result<(), u32> {
     let (rounds, closed) = (record[0], record[1]);
     let mut counts = record[2..].chunks_exact(4).take(sheet.outputs);
     let add_up = |four: &[u32]| four.iter().map(|&count| count as u64).sum::<u64>() == rounds as u64;
-    if rounds > MOST_ROUNDS || closed > 1 || !counts.all(add_up) {
+    if rounds > MAX_ROUNDS || closed > 1 || !counts.all(add_up) {
         return Err(18);
     }
     if closed == 1 {
@@ -159,7 +159,7 @@ fn check_round(sheet: &Sheet, record: &[u32], known: u8, value: u8) -> Result<()
     if known >> sheet.inputs != 0 || value & !known != 0 {
         return Err(11);
     }
-    if record[0] == MOST_ROUNDS {
+    if record[0] == MAX_ROUNDS {
         return Err(13);
     }
     Ok(())

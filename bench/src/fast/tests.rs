@@ -2,7 +2,7 @@
 
 use super::entries::{self, Journal, STORAGE_WORDS};
 use super::{trace, Sheet};
-use outside::journal::{self, Call, Held, MOST_ROUNDS};
+use outside::journal::{self, Call, Held, MAX_ROUNDS};
 use outside::monitor::Monitor;
 use outside::random::{self, Random};
 use outside::{cases, circular, hex, language};
@@ -107,7 +107,7 @@ fn random_calls() {
         let mut held = Held { storage: vec![0; STORAGE_WORDS + random.below(3)], ..Held::fresh() };
         random.fill(&mut held.storage);
         for _ in 0..4 {
-            let rounds = random.pick(&[0, 1, 7, MOST_ROUNDS - 1, MOST_ROUNDS, MOST_ROUNDS + 1]);
+            let rounds = random.pick(&[0, 1, 7, MAX_ROUNDS - 1, MAX_ROUNDS, MAX_ROUNDS + 1]);
             let closed = random.pick(&[0, 0, 0, 0, 0, 1, 2]);
             let four = [rounds / 2, 0, rounds - rounds / 2, random.one_in(12) as u32];
             held.forge(rounds, closed, &vec![four; outputs]);

@@ -3,7 +3,7 @@
 use super::lanes::{reads, value};
 use super::sheet::Sheet;
 
-const LONGEST_TRACE: usize = 4096;
+const MAX_LETTERS: usize = 4096;
 
 /// The largest lead of an output whose walks along reads are bounded: six reads ahead.
 const LARGEST_LEAD: usize = 54;
@@ -16,13 +16,13 @@ pub fn evaluate(bytes: &[u8], letters: &[u8], out: &mut [u8]) -> u32 {
         Err(number) => return number,
     };
     let rounds = letters.len();
-    if rounds == 0 || rounds > LONGEST_TRACE || out.len() < rounds {
+    if rounds == 0 || rounds > MAX_LETTERS || out.len() < rounds {
         return 16;
     }
     if letters.iter().any(|letter| letter >> sheet.inputs != 0) {
         return 11;
     }
-    let valuations = &mut [0; LONGEST_TRACE][..rounds];
+    let valuations = &mut [0; MAX_LETTERS][..rounds];
     valuations.copy_from_slice(letters);
     let mut settled = 0;
     while settled != (1 << sheet.outputs) - 1 {

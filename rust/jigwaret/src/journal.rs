@@ -34,7 +34,7 @@ pub struct Closing {
 
 impl Journal {
     /// The most rounds of a journal.
-    pub const MOST_ROUNDS: u32 = 1_000_000;
+    pub const MAX_ROUNDS: u32 = 1_000_000;
 
     /// An empty journal of a sheet.
     pub fn prepare(sheet: Sheet) -> Result<Journal, Refusal> {

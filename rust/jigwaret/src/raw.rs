@@ -7,8 +7,8 @@ pub const STORAGE_WORDS: usize = 3084;
 pub const RECORD_NUMBERS: usize = 30;
 /// Numbers that an answer has room for at least.
 pub const ANSWER_NUMBERS: usize = 16;
-/// Returned where a record or an answer has the wrong length.
-pub const WRONG_LENGTH: u32 = 255;
+/// Returned where a record or an answer has the wrong number of elements.
+pub const WRONG_SIZES: u32 = 255;
 
 mod ffi {
     extern "C" {

@@ -21,6 +21,9 @@ pub struct Sheet {
 }
 
 impl Sheet {
+    /// The most letters of an evaluation.
+    pub const MAX_LETTERS: usize = 4096;
+
     pub fn new(bytes: impl Into<Vec<u8>>) -> Result<Sheet, Refusal> {
         let bytes = bytes.into();
         check(&bytes)?;

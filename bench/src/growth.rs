@@ -68,7 +68,7 @@ pub fn by_rounds() -> Vec<(usize, f64)> {
         for call in &calls {
             if let Call::Round(heard) = call {
                 let Held { storage, record, answer } = &mut *held;
-                assert_eq!(raw::round(&sheet, storage, record, heard.known, heard.value, answer), 0);
+                assert_eq!(raw::round(&sheet, storage, record, (*heard).into(), answer), 0);
             }
         }
     };

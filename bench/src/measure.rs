@@ -257,7 +257,7 @@ fn fast_preparation(sheet: &[u8], held: &mut Held) -> u32 {
 }
 
 fn proved_round(sheet: &[u8], held: &mut Held, heard: Heard) -> u32 {
-    raw::round(sheet, &mut held.storage, &mut held.record, heard.known, heard.value, &mut held.answer)
+    raw::round(sheet, &mut held.storage, &mut held.record, heard.into(), &mut held.answer)
 }
 
 fn fast_round(sheet: &[u8], held: &mut Held, heard: Heard) -> u32 {

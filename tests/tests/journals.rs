@@ -36,7 +36,7 @@ fn call(sheet: &[u8], held: &mut Held, call: Call) -> u32 {
     let lent = (inside(&mut storage), inside(&mut record), inside(&mut answer));
     let returned = match call {
         Call::Prepare => library::prepare(sheet, lent.0, lent.1, lent.2),
-        Call::Round(heard) => library::round(sheet, lent.0, lent.1, heard.known, heard.value, lent.2),
+        Call::Round(heard) => library::round(sheet, lent.0, lent.1, heard.into(), lent.2),
         Call::Close => library::close(sheet, lent.0, lent.1, lent.2),
     };
     take_out(&storage, word, &mut held.storage);
@@ -583,10 +583,11 @@ fn every_pair_of_masks() {
             for value in 0..=255u8 {
                 let number = if known >> inputs == 0 && value & !known == 0 { 0 } else { 11 };
                 let Held { storage, record, answer } = &mut held;
-                assert_eq!(library::round(&sheet, storage, record, known, value, answer), number, "{known} {value}");
+                let heard = Heard { known, value };
+                assert_eq!(library::round(&sheet, storage, record, heard.into(), answer), number, "{heard:?}");
                 if number == 0 {
                     let verdict = [2, 1 - value as u32 % 2][known as usize % 2];
-                    assert_eq!(held.answer[0], verdict, "{known} {value}");
+                    assert_eq!(held.answer[0], verdict, "{heard:?}");
                     held = prepared.clone();
                 }
             }

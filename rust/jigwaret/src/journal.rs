@@ -1,5 +1,6 @@
 //! Journals: rounds, closing, tallies.
 
+use crate::heard::Heard;
 use crate::raw::{self, ANSWER_NUMBERS, RECORD_NUMBERS, STORAGE_WORDS};
 use crate::refusal::Refusal;
 use crate::sheet::Sheet;
@@ -17,9 +18,13 @@ pub struct Journal {
 /// How many rounds had each verdict on an output.
 #[derive(Clone, Copy, Debug, PartialEq, Eq)]
 pub struct Counts {
+    /// Rounds with [`Verdict::True`](crate::Verdict::True).
     pub true_rounds: u32,
+    /// Rounds with [`Verdict::False`](crate::Verdict::False).
     pub false_rounds: u32,
+    /// Rounds with [`Verdict::Open`](crate::Verdict::Open).
     pub open_rounds: u32,
+    /// Rounds with [`Verdict::Broken`](crate::Verdict::Broken).
     pub broken_rounds: u32,
 }
 
@@ -45,11 +50,11 @@ impl Journal {
         Ok(Journal { sheet, storage, record, live_pairs: answer[0] as usize })
     }
 
-    /// Takes a round: bit i of `known` says that input i was heard, bit i of `value` what was heard.
-    pub fn round(&mut self, known: u8, value: u8) -> Result<Verdicts, Refusal> {
+    /// Takes a round: a [`Heard`], or [`Masks`](crate::Masks).
+    pub fn round(&mut self, heard: impl Into<Heard>) -> Result<Verdicts, Refusal> {
         let mut answer = [0; ANSWER_NUMBERS];
-        let sheet = self.sheet.bytes();
-        Refusal::outcome(raw::round(sheet, &mut self.storage, &mut self.record, known, value, &mut answer))?;
+        let (sheet, masks) = (self.sheet.bytes(), heard.into().masks());
+        Refusal::outcome(raw::round(sheet, &mut self.storage, &mut self.record, masks, &mut answer))?;
         Ok(Verdicts::of_numbers(&answer[..self.sheet.outputs()]))
     }
 
@@ -61,6 +66,7 @@ impl Journal {
         Ok(Closing { verdicts: Verdicts::of_numbers(&answer[..n]), shares: answer[n..2 * n].to_vec() })
     }
 
+    /// The sheet that it was prepared with.
     pub fn sheet(&self) -> &Sheet {
         &self.sheet
     }
@@ -76,26 +82,29 @@ impl Journal {
         self.record[0]
     }
 
+    /// Whether a closing was accepted.
     pub fn is_closed(&self) -> bool {
         self.record[1] == 1
     }
 
-    /// How many rounds had each verdict on an output, which is one of the sheet's.
-    pub fn counts(&self, output: usize) -> Counts {
-        assert!(output < self.sheet.outputs(), "the sheet has no output {output}");
-        let at = 2 + 4 * output;
-        Counts {
-            true_rounds: self.record[at],
-            false_rounds: self.record[at + 1],
-            open_rounds: self.record[at + 2],
-            broken_rounds: self.record[at + 3],
-        }
+    /// How many rounds had each verdict on an output; `None` where the sheet lacks it.
+    pub fn counts(&self, output: usize) -> Option<Counts> {
+        (output < self.sheet.outputs()).then(|| {
+            let at = 2 + 4 * output;
+            Counts {
+                true_rounds: self.record[at],
+                false_rounds: self.record[at + 1],
+                open_rounds: self.record[at + 2],
+                broken_rounds: self.record[at + 3],
+            }
+        })
     }
 }
 
 #[cfg(test)]
 mod tests {
     use super::*;
+    use crate::heard::Masks;
     use crate::verdict::Verdict;
 
     fn session() -> Journal {
@@ -109,33 +118,32 @@ mod tests {
         assert_eq!((journal.live_pairs(), journal.rounds(), journal.is_closed()), (44, 0, false));
         let rounds = [(3, 1, "?1"), (2, 2, "11"), (1, 1, "?1"), (3, 0, "11"), (3, 2, "!!")];
         for (known, value, expected) in rounds {
-            assert_eq!(journal.round(known, value).unwrap().to_string(), expected);
+            assert_eq!(journal.round(Masks { known, value }).unwrap().to_string(), expected);
         }
         let closing = journal.close().unwrap();
-        assert_eq!(closing.verdicts[..], [Verdict::Broken; 2]);
+        assert_eq!(closing.verdicts, [Verdict::Broken; 2]);
         assert_eq!(closing.shares, [400, 800]);
         assert_eq!((journal.rounds(), journal.is_closed()), (5, true));
         let counts = Counts { true_rounds: 2, false_rounds: 0, open_rounds: 2, broken_rounds: 1 };
-        assert_eq!(journal.counts(0), counts);
+        assert_eq!(journal.counts(0), Some(counts));
+        assert_eq!([2, 6, 7, usize::MAX].map(|output| journal.counts(output)), [None; 4]);
     }
 
     #[test]
     fn a_refused_call_changes_nothing() {
         let mut journal = session();
         assert_eq!(journal.close(), Err(Refusal::NoRound));
-        assert_eq!(journal.round(4, 0), Err(Refusal::Letter));
-        assert_eq!(journal.round(0, 1), Err(Refusal::Letter));
+        for (known, value) in [(4, 0), (0, 1), (1, 3), (255, 255), (0, 128)] {
+            assert_eq!(journal.round(Masks { known, value }), Err(Refusal::Letter));
+        }
+        for input in [2, 6, 7, 8, usize::MAX] {
+            assert_eq!(journal.round(Heard::nothing().with(input, true)), Err(Refusal::Letter));
+        }
         assert_eq!(journal.rounds(), 0);
-        assert_eq!(journal.round(3, 1).unwrap().to_string(), "?1");
+        assert_eq!(journal.round(Heard::nothing().with(0, true).with(1, false)).unwrap().to_string(), "?1");
         assert_eq!(journal.close().unwrap().verdicts.to_string(), "01");
         assert_eq!(journal.close(), Err(Refusal::Closed));
-        assert_eq!(journal.round(0, 0), Err(Refusal::Closed));
+        assert_eq!(journal.round(Heard::nothing()), Err(Refusal::Closed));
         assert_eq!(journal.rounds(), 1);
-    }
-
-    #[test]
-    #[should_panic(expected = "no output 2")]
-    fn counts_of_an_output_that_the_sheet_lacks() {
-        session().counts(2);
     }
 }

@@ -1,14 +1,22 @@
-//! The library's functions as they are: each returns 0, or the number of the refusal, and a refused
-//! call changes nothing. Every slice is allowed, whatever its length and contents.
+//! The library's functions as they are: each returns [`ACCEPTED`], or the number of the refusal, and a
+//! refused call changes nothing. Every slice is allowed, whatever its length and contents.
+//!
+//! A round and a closing are handed the sheet with which their storage and record were prepared, and what
+//! the call before left of these; else the answers say nothing about a journal. [`crate::Journal`] sees
+//! to that.
 
+use crate::heard::Masks;
+
+/// Returned where a call is accepted.
+pub const ACCEPTED: u32 = 0;
+/// Returned where a record or an answer has the wrong number of elements.
+pub const WRONG_SIZES: u32 = 255;
 /// Numbers of 64 bits that a journal's storage has at least.
 pub const STORAGE_WORDS: usize = 3084;
 /// Rounds, closed, and four counts (true, false, open, broken) for each of seven outputs.
 pub const RECORD_NUMBERS: usize = 30;
 /// Numbers that an answer has room for at least.
 pub const ANSWER_NUMBERS: usize = 16;
-/// Returned where a record or an answer has the wrong number of elements.
-pub const WRONG_SIZES: u32 = 255;
 
 mod ffi {
     extern "C" {
@@ -95,7 +103,7 @@ pub fn prepare(sheet: &[u8], storage: &mut [u64], record: &mut [u32], answer: &m
 }
 
 /// Takes a round into the record and storage and writes the verdicts into `answer`.
-pub fn round(sheet: &[u8], storage: &mut [u64], record: &mut [u32], known: u8, value: u8, answer: &mut [u32]) -> u32 {
+pub fn round(sheet: &[u8], storage: &mut [u64], record: &mut [u32], heard: Masks, answer: &mut [u32]) -> u32 {
     // SAFETY: the library reads the sheet and writes only inside the other slices.
     unsafe {
         ffi::jigwaret_round(
@@ -105,8 +113,8 @@ pub fn round(sheet: &[u8], storage: &mut [u64], record: &mut [u32], known: u8, v
             storage.len(),
             record.as_mut_ptr(),
             record.len(),
-            known,
-            value,
+            heard.known,
+            heard.value,
             answer.as_mut_ptr(),
             answer.len(),
         )
@@ -127,5 +135,46 @@ pub fn close(sheet: &[u8], storage: &[u64], record: &mut [u32], answer: &mut [u3
             answer.as_mut_ptr(),
             answer.len(),
         )
+    }
+}
+
+#[cfg(test)]
+mod tests {
+    use super::*;
+    use crate::refusal::Refusal;
+
+    const SHEET: &[u8] = include_bytes!("../../../examples/session/sheet.slr");
+
+    /// What preparation, a round and a closing return for slices of these lengths.
+    fn returned(storage: usize, record: usize, answer: usize) -> [u32; 3] {
+        let (mut storage, mut record, mut answer) = (vec![5; storage], vec![0; record], vec![5; answer]);
+        let numbers = [
+            close(SHEET, &storage, &mut record, &mut answer),
+            round(SHEET, &mut storage, &mut record, Masks::default(), &mut answer),
+            prepare(SHEET, &mut storage, &mut record, &mut answer),
+        ];
+        let untouched = storage.iter().all(|&word| word == 5) && answer.iter().all(|&number| number == 5);
+        assert!(untouched && record.iter().all(|&number| number == 0));
+        numbers
+    }
+
+    #[test]
+    fn short_storage() {
+        for words in [0, 1, STORAGE_WORDS - 1] {
+            assert_eq!(returned(words, RECORD_NUMBERS, ANSWER_NUMBERS), [Refusal::Storage.number(); 3]);
+        }
+    }
+
+    #[test]
+    fn wrong_sizes() {
+        let sizes = [
+            (RECORD_NUMBERS - 1, ANSWER_NUMBERS),
+            (RECORD_NUMBERS + 1, ANSWER_NUMBERS),
+            (RECORD_NUMBERS, ANSWER_NUMBERS - 1),
+            (0, 0),
+        ];
+        for (record, answer) in sizes {
+            assert_eq!(returned(STORAGE_WORDS, record, answer), [WRONG_SIZES; 3]);
+        }
     }
 }

@@ -1,56 +1,66 @@
 //! Why a call was turned down.
 
+use crate::number::UnknownNumber;
+use crate::raw;
 use std::error::Error;
 use std::fmt;
 
-/// The rule that a call breaks first; its number is the case's number.
-#[derive(Clone, Copy, Debug, PartialEq, Eq, Hash)]
-#[repr(u32)]
-pub enum Refusal {
-    Short = 1,
-    Mark,
-    Version,
-    Counts,
-    Assumption,
-    Length,
-    Byte,
-    Values,
-    Leftover,
-    Circular,
-    Letter,
-    Closed,
-    Full,
-    NoRound,
-    Storage,
-    Extent,
-    /// Only the journal program gives this one.
-    Line,
-    Record,
+/// The refusals, each with its number and its text.
+macro_rules! refusals {
+    ($($name:ident = $number:literal, $text:literal;)*) => {
+        /// The rule that a call breaks first; its number is the case's number.
+        #[derive(Clone, Copy, Debug, PartialEq, Eq, Hash)]
+        #[non_exhaustive]
+        #[repr(u32)]
+        pub enum Refusal {
+            $(#[doc = concat!(stringify!($number), ": ", $text, ".")] $name = $number,)*
+        }
+
+        impl Refusal {
+            /// What is wrong; `jigwaret_text` says the same in C.
+            pub fn text(self) -> &'static str {
+                match self {
+                    $(Refusal::$name => $text,)*
+                }
+            }
+        }
+
+        impl TryFrom<u32> for Refusal {
+            type Error = UnknownNumber;
+
+            fn try_from(number: u32) -> Result<Refusal, UnknownNumber> {
+                match number {
+                    $($number => Ok(Refusal::$name),)*
+                    _ => Err(UnknownNumber(number)),
+                }
+            }
+        }
+    };
+}
+
+refusals! {
+    Short = 1, "the sheet has fewer than 8 bytes";
+    Mark = 2, "the sheet does not begin with SLR";
+    Version = 3, "the version is not 1";
+    Counts = 4, "inputs, outputs or their sum are out of range";
+    Assumption = 5, "the assumption is neither an output nor 255";
+    Length = 6, "a length is missing, 0, over 64, or goes past the end";
+    Byte = 7, "a byte is unknown, or names a stream that the sheet lacks";
+    Values = 8, "an operator lacks a value, or an expression does not leave exactly one";
+    Leftover = 9, "bytes are left over";
+    Circular = 10, "some value reaches itself";
+    Letter = 11, "a known bit or a letter lies beyond the inputs, or a value bit is not known";
+    Closed = 12, "the journal is closed";
+    Full = 13, "the journal holds 1,000,000 rounds";
+    NoRound = 14, "a closing with no round";
+    Storage = 15, "the storage is too short";
+    Extent = 16, "no letters, over 4,096, or a buffer that is too small";
+    Line = 17, "a line of the program's input is malformed";
+    Record = 18, "the record is not one of a journal";
 }
 
 impl Refusal {
-    pub const ALL: [Refusal; 18] = [
-        Refusal::Short,
-        Refusal::Mark,
-        Refusal::Version,
-        Refusal::Counts,
-        Refusal::Assumption,
-        Refusal::Length,
-        Refusal::Byte,
-        Refusal::Values,
-        Refusal::Leftover,
-        Refusal::Circular,
-        Refusal::Letter,
-        Refusal::Closed,
-        Refusal::Full,
-        Refusal::NoRound,
-        Refusal::Storage,
-        Refusal::Extent,
-        Refusal::Line,
-        Refusal::Record,
-    ];
-
-    /// 1 to 18.
+    /// The number that the library and the program give.
     pub fn number(self) -> u32 {
         self as u32
     }
@@ -58,39 +68,23 @@ impl Refusal {
     /// What a function of the library returned, as a result.
     pub(crate) fn outcome(number: u32) -> Result<(), Refusal> {
         match number {
-            0 => Ok(()),
-            1..=18 => Err(Refusal::ALL[number as usize - 1]),
-            _ => panic!("the lengths of record and answer are fixed here, so {number} is not returned"),
+            raw::ACCEPTED => Ok(()),
+            _ => Err(number.try_into().expect("record and answer have their sizes here, so it is a rule's number")),
         }
     }
+}
 
-    fn reason(self) -> &'static str {
-        match self {
-            Refusal::Short => "the sheet has fewer than 8 bytes",
-            Refusal::Mark => "the sheet does not begin with SLR",
-            Refusal::Version => "the version is not 1",
-            Refusal::Counts => "inputs, outputs or their sum are out of range",
-            Refusal::Assumption => "the assumption is neither an output nor 255",
-            Refusal::Length => "a length is missing, 0, over 64, or goes past the end",
-            Refusal::Byte => "a byte is unknown, or names a stream that the sheet lacks",
-            Refusal::Values => "an operator lacks a value, or an expression does not leave exactly one",
-            Refusal::Leftover => "bytes are left over",
-            Refusal::Circular => "some value reaches itself",
-            Refusal::Letter => "a known bit or a letter lies beyond the inputs, or a value bit is not known",
-            Refusal::Closed => "the journal is closed",
-            Refusal::Full => "the journal holds 1,000,000 rounds",
-            Refusal::NoRound => "a closing with no round",
-            Refusal::Storage => "the storage is too short",
-            Refusal::Extent => "no letters, over 4,096, or a buffer that is too small",
-            Refusal::Line => "a line is malformed",
-            Refusal::Record => "the record is not one of a journal",
-        }
+impl TryFrom<u8> for Refusal {
+    type Error = UnknownNumber;
+
+    fn try_from(number: u8) -> Result<Refusal, UnknownNumber> {
+        u32::from(number).try_into()
     }
 }
 
 impl fmt::Display for Refusal {
     fn fmt(&self, out: &mut fmt::Formatter) -> fmt::Result {
-        write!(out, "refused {}: {}", self.number(), self.reason())
+        write!(out, "refused {}: {}", self.number(), self.text())
     }
 }
 
@@ -103,9 +97,20 @@ mod tests {
     #[test]
     fn numbers() {
         assert_eq!(Refusal::outcome(0), Ok(()));
-        for number in 1..=18 {
-            assert_eq!(Refusal::outcome(number).unwrap_err().number(), number);
+        for number in 1..=18u8 {
+            let refusal = Refusal::try_from(number).unwrap();
+            assert_eq!(refusal.number(), u32::from(number));
+            assert_eq!(Refusal::outcome(refusal.number()), Err(refusal));
         }
         assert_eq!((Refusal::Letter.number(), Refusal::Record.number()), (11, 18));
+        for number in [0, 19, raw::WRONG_SIZES, 256 + 1, u32::MAX] {
+            assert_eq!(Refusal::try_from(number), Err(UnknownNumber(number)));
+        }
+    }
+
+    #[test]
+    fn printed() {
+        assert_eq!(Refusal::Closed.to_string(), "refused 12: the journal is closed");
+        assert_eq!(UnknownNumber(19).to_string(), "nothing has the number 19");
     }
 }

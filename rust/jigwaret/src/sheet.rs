@@ -24,22 +24,24 @@ impl Sheet {
     /// The most letters of an evaluation.
     pub const MAX_LETTERS: usize = 4096;
 
+    /// Checks the bytes and keeps them.
     pub fn new(bytes: impl Into<Vec<u8>>) -> Result<Sheet, Refusal> {
         let bytes = bytes.into();
         check(&bytes)?;
         Ok(Sheet { bytes })
     }
 
+    /// The bytes, as they were accepted.
     pub fn bytes(&self) -> &[u8] {
         &self.bytes
     }
 
-    /// 1 to 6.
+    /// How many inputs it has, 1 to 6.
     pub fn inputs(&self) -> usize {
         self.bytes[5] as usize
     }
 
-    /// 1 to 7.
+    /// How many outputs it has, 1 to 7.
     pub fn outputs(&self) -> usize {
         self.bytes[6] as usize
     }
@@ -84,6 +86,8 @@ mod tests {
         assert_eq!(sheet.evaluate(&[1, 2, 0]), Ok(vec![3, 3, 3]));
         assert_eq!(sheet.evaluate(&[1]), Ok(vec![2]));
         assert_eq!(sheet.evaluate(&[]), Err(Refusal::Extent));
+        assert_eq!(sheet.evaluate(&[0; Sheet::MAX_LETTERS]), Ok(vec![3; Sheet::MAX_LETTERS]));
+        assert_eq!(sheet.evaluate(&[0; Sheet::MAX_LETTERS + 1]), Err(Refusal::Extent));
         assert_eq!(sheet.evaluate(&[4]), Err(Refusal::Letter));
         let mut longer = [9; 3];
         assert_eq!(evaluate(SESSION, &[1, 2], &mut longer), Ok(()));

@@ -3,7 +3,12 @@
  * Link with libjigwaret.a. Each function returns 0 if the call is accepted, or the number of the
  * refusal; a refused call changes nothing. A slice is a pointer and the number of its elements.
  * The functions keep no state of their own: what a journal needs lies in the storage and the
- * record that the caller lends, and must not overlap with anything else that is handed over. */
+ * record that the caller lends, and must not overlap with anything else that is handed over.
+ *
+ * A journal begins with jigwaret_prepare. Each later call of it must be handed the same sheet as
+ * that preparation, and the storage and the record as the call before left them. No call
+ * finds out whether they are: with another sheet, or with storage that was never prepared, it works
+ * on the slices that it is handed, and its answers say nothing about a journal. */
 
 #ifndef JIGWARET_H
 #define JIGWARET_H
@@ -39,29 +44,78 @@ enum jigwaret_verdict {
     JIGWARET_BROKEN = 3  /* there is no completion */
 };
 
-/* What a call returns. */
+/* What a call returns; `jigwaret_text` says what each means. */
 enum jigwaret_outcome {
     JIGWARET_ACCEPTED = 0,
-    JIGWARET_SHORT = 1,       /* the sheet has fewer than 8 bytes */
-    JIGWARET_MARK = 2,        /* the sheet does not begin with SLR */
-    JIGWARET_VERSION = 3,     /* the version is not 1 */
-    JIGWARET_COUNTS = 4,      /* inputs, outputs or their sum out of range */
-    JIGWARET_ASSUMPTION = 5,  /* the assumption is neither an output nor 255 */
-    JIGWARET_LENGTH = 6,      /* a length is missing, 0, over 64, or goes past the end */
-    JIGWARET_BYTE = 7,        /* an unknown byte, or a stream that the sheet lacks */
-    JIGWARET_VALUES = 8,      /* an operator lacks a value, or not one value at the end */
-    JIGWARET_LEFTOVER = 9,    /* bytes after the last expression */
-    JIGWARET_CIRCULAR = 10,   /* some value reaches itself */
-    JIGWARET_LETTER = 11,     /* a known bit or letter beyond the inputs, or a value bit not known */
-    JIGWARET_CLOSED = 12,     /* the journal is closed */
-    JIGWARET_FULL = 13,       /* the journal holds the most rounds */
-    JIGWARET_NO_ROUND = 14,   /* a closing with no round */
-    JIGWARET_STORAGE = 15,    /* the storage is too short */
-    JIGWARET_EXTENT = 16,     /* no letters, too many, or too small a buffer */
-    JIGWARET_LINE = 17,       /* a malformed line; only the program gives it */
-    JIGWARET_RECORD = 18,     /* the record is not one of a journal */
-    JIGWARET_WRONG_SIZES = 255 /* the record or the answer has the wrong number of elements */
+    JIGWARET_SHORT = 1,
+    JIGWARET_MARK = 2,
+    JIGWARET_VERSION = 3,
+    JIGWARET_COUNTS = 4,
+    JIGWARET_ASSUMPTION = 5,
+    JIGWARET_LENGTH = 6,
+    JIGWARET_BYTE = 7,
+    JIGWARET_VALUES = 8,
+    JIGWARET_LEFTOVER = 9,
+    JIGWARET_CIRCULAR = 10,
+    JIGWARET_LETTER = 11,
+    JIGWARET_CLOSED = 12,
+    JIGWARET_FULL = 13,
+    JIGWARET_NO_ROUND = 14,
+    JIGWARET_STORAGE = 15,
+    JIGWARET_EXTENT = 16,
+    JIGWARET_LINE = 17,  /* only the journal program gives it */
+    JIGWARET_RECORD = 18,
+    JIGWARET_WRONG_SIZES = 255
 };
+
+/* What a returned number means, in a line without a full stop. Every number is allowed. */
+static inline const char *jigwaret_text(uint32_t outcome)
+{
+    switch (outcome) {
+    case JIGWARET_ACCEPTED:
+        return "accepted";
+    case JIGWARET_SHORT:
+        return "the sheet has fewer than 8 bytes";
+    case JIGWARET_MARK:
+        return "the sheet does not begin with SLR";
+    case JIGWARET_VERSION:
+        return "the version is not 1";
+    case JIGWARET_COUNTS:
+        return "inputs, outputs or their sum are out of range";
+    case JIGWARET_ASSUMPTION:
+        return "the assumption is neither an output nor 255";
+    case JIGWARET_LENGTH:
+        return "a length is missing, 0, over 64, or goes past the end";
+    case JIGWARET_BYTE:
+        return "a byte is unknown, or names a stream that the sheet lacks";
+    case JIGWARET_VALUES:
+        return "an operator lacks a value, or an expression does not leave exactly one";
+    case JIGWARET_LEFTOVER:
+        return "bytes are left over";
+    case JIGWARET_CIRCULAR:
+        return "some value reaches itself";
+    case JIGWARET_LETTER:
+        return "a known bit or a letter lies beyond the inputs, or a value bit is not known";
+    case JIGWARET_CLOSED:
+        return "the journal is closed";
+    case JIGWARET_FULL:
+        return "the journal holds 1,000,000 rounds";
+    case JIGWARET_NO_ROUND:
+        return "a closing with no round";
+    case JIGWARET_STORAGE:
+        return "the storage is too short";
+    case JIGWARET_EXTENT:
+        return "no letters, over 4,096, or a buffer that is too small";
+    case JIGWARET_LINE:
+        return "a line of the program's input is malformed";
+    case JIGWARET_RECORD:
+        return "the record is not one of a journal";
+    case JIGWARET_WRONG_SIZES:
+        return "the record or the answer has the wrong number of elements";
+    default:
+        return "nothing has this number";
+    }
+}
 
 /* Checks a sheet. */
 uint32_t jigwaret_check(const uint8_t *sheet, size_t sheet_len);
@@ -79,16 +133,18 @@ uint32_t jigwaret_prepare(const uint8_t *sheet, size_t sheet_len,
                           uint32_t *record, size_t record_len,
                           uint32_t *answer, size_t answer_len);
 
-/* Takes a round: bit i of `known` says that input i was heard, bit i of `value` what was heard.
- * answer[k] is the verdict on output k. */
+/* Takes a round of the journal that was prepared with this sheet in this storage and record: bit i of
+ * `known` says that input i was heard, bit i of `value` what was heard. answer[k] is the verdict on
+ * output k. */
 uint32_t jigwaret_round(const uint8_t *sheet, size_t sheet_len,
                         uint64_t *storage, size_t storage_len,
                         uint32_t *record, size_t record_len,
                         uint8_t known, uint8_t value,
                         uint32_t *answer, size_t answer_len);
 
-/* Closes the journal of a sheet with n outputs. answer[k] is the verdict on output k in the last
- * round if nothing follows it, answer[n + k] its share: true rounds per thousand. */
+/* Closes the journal that was prepared with this sheet in this storage and record. With n outputs,
+ * answer[k] is the verdict on output k in the last round if nothing follows it, and answer[n + k] its
+ * share: true rounds per thousand, to the nearest, halves up. */
 uint32_t jigwaret_close(const uint8_t *sheet, size_t sheet_len,
                         const uint64_t *storage, size_t storage_len,
                         uint32_t *record, size_t record_len,

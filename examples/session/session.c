@@ -1,4 +1,5 @@
-/* A whole journal through the library: prints what the journal program prints for the same lines. */
+/* A whole journal through the library: prints what the journal program prints for the same lines, and
+ * to standard error why a sheet or a line is refused. */
 
 #include <stdio.h>
 #include <string.h>
@@ -64,12 +65,14 @@ int main(void)
                                         JIGWARET_RECORD_NUMBERS, answer, JIGWARET_ANSWER_NUMBERS);
     if (refusal != JIGWARET_ACCEPTED) {
         printf("refused %u sheet\n", (unsigned)refusal);
+        fprintf(stderr, "%s\n", jigwaret_text(refusal));
         return 1;
     }
     for (size_t line = 0; line < sizeof lines / sizeof lines[0]; line++) {
         refusal = strcmp(lines[line], ".") == 0 ? finish() : hear(lines[line]);
         if (refusal != JIGWARET_ACCEPTED) {
             printf("refused %u line %zu\n", (unsigned)refusal, line + 1);
+            fprintf(stderr, "%s\n", jigwaret_text(refusal));
             return 1;
         }
     }

@@ -15,11 +15,11 @@ use Rattle.words.specs.Bits.{bit, digit}
 use Rattle.words.proofs.BitLaws.{bit-and, bit-or, bit-not, bit-shl, bit-none, bits-ext}
 use Rattle.completions.specs.Live.{Pairs}
 use Rattle.completions.specs.Steps.{Within}
-use Rattle.pairs.specs.Storage.{place, slot, stored, used}
+use Rattle.pairs.specs.Storage.{stored, used, place, slot, setWords}
 use Rattle.pairs.specs.Changes.{eqNext, inWord, Framed, Adds, rowBit, Zeroed, RowTaken, Noted}
 use Rattle.pairs.proofs.Frames.{framed-none, framed-then, framed-wider, framed-set}
 
-pub place-lt : (x : ℕ) (y : Option ℕ) → x < 256 → Within 256 y → place x y < 1028
+pub place-lt : (x : ℕ) (y : Option ℕ) → x < 256 → Within 256 y → place x y < setWords
 unfolding place
 place-lt x none h k = omega arith
 place-lt x (some c) h k = omega arith
@@ -63,7 +63,7 @@ other-word x (some y) a (some c) n = go (ℕ-discrete y c)
     go (no d) = ap (λ (u : Bool). eqb x a && u) (ne-eqb y c d) ∙ and-false (eqb x a)
 
 -- one bit set
-pub inserted : (s : List ℕ) (base a : ℕ) (c : Option ℕ) → a < 256 → Within 256 c → base + 1028 ≤ length s
+pub inserted : (s : List ℕ) (base a : ℕ) (c : Option ℕ) → a < 256 → Within 256 c → base + setWords ≤ length s
     → Adds base s (set s (base + place a c) (bitOr (getD s (base + place a c) 0) (1 * 2 ^ slot a c % 2 ^ 64))) (λ x y. eqb x a && eqNext y c)
 unfolding stored
 inserted s base a c ha hc l = record {
@@ -80,7 +80,7 @@ inserted s base a c ha hc l = record {
     go : (x : ℕ) (y : Option ℕ) → x < 256 → Within 256 y → Dec (place x y ≡ place a c) → stored (set s k v) base x y ≡ (stored s base x y || same x y a c)
     go x y hx hy (yes e) =
         ap (λ (j : ℕ). bit (slot x y) (getD (set s k v) (base + j) 0)) e
-        ∙ ap (bit (slot x y)) (getD-set-same s k v 0 (let g : place a c < 1028 = place-lt a c ha hc in omega arith))
+        ∙ ap (bit (slot x y)) (getD-set-same s k v 0 (let g : place a c < setWords = place-lt a c ha hc in omega arith))
         ∙ bit-or (slot x y) (getD s k 0) (1 * 2 ^ slot a c % 2 ^ 64)
         ∙ ap₂ _||_ (ap (λ (j : ℕ). bit (slot x y) (getD s (base + j) 0)) (sym e))
         (bit-shl (slot x y) (slot a c) (slot-lt a c) ∙ same-word x y a c hx hy ha hc e)
@@ -92,7 +92,7 @@ inserted s base a c ha hc l = record {
 
 pub adds-none : (base : ℕ) (s : List ℕ) (P : Pairs) → ((x : ℕ) (y : Option ℕ) → P x y ≡ false) → Adds base s s P
 adds-none base s P f = record {
-  frame = framed-none base 1028 s;
+  frame = framed-none base setWords s;
   adds = λ x y hx hy. sym (ap (λ (u : Bool). stored s base x y || u) (f x y) ∙ or-false (stored s base x y));
 }
 
@@ -115,20 +115,20 @@ row-bit s base a x = let e : base + 4 * a + x / 64 ≡ base + (4 * a + x / 64) =
 -- ---- sets beside the one that is changed
 
 -- words that are equal hold equal sets
-pub stored-eq : (s t : List ℕ) (base base′ x : ℕ) (y : Option ℕ) → x < 256 → Within 256 y → ((k : ℕ) → k < 1028 → getD t (base + k) 0 ≡ getD s (base′ + k) 0)
+pub stored-eq : (s t : List ℕ) (base base′ x : ℕ) (y : Option ℕ) → x < 256 → Within 256 y → ((k : ℕ) → k < setWords → getD t (base + k) 0 ≡ getD s (base′ + k) 0)
     → stored t base x y ≡ stored s base′ x y
 unfolding stored
 stored-eq s t base base′ x y hx hy f = ap (bit (slot x y)) (f (place x y) (place-lt x y hx hy))
 
 module _ {at n : ℕ} {s t : List ℕ} (p : Framed at n s t) where
-  pub framed-before : (b x : ℕ) (y : Option ℕ) → x < 256 → Within 256 y → b + 1028 ≤ at → stored t b x y ≡ stored s b x y
+  pub framed-before : (b x : ℕ) (y : Option ℕ) → x < 256 → Within 256 y → b + setWords ≤ at → stored t b x y ≡ stored s b x y
   framed-before b x y hx hy h = stored-eq s t b b x y hx hy (λ k g. p .before (b + k) (omega arith))
 
   pub framed-beyond : (b x : ℕ) (y : Option ℕ) → x < 256 → Within 256 y → at + n ≤ b → stored t b x y ≡ stored s b x y
   framed-beyond b x y hx hy h = stored-eq s t b b x y hx hy (λ k g. p .beyond (b + k) (omega arith))
 
 -- a set whose words are 0 has no pair
-pub zeroed-none : (base : ℕ) (s t : List ℕ) → Zeroed base 1028 s t → (x : ℕ) (y : Option ℕ) → x < 256 → Within 256 y → stored t base x y ≡ false
+pub zeroed-none : (base : ℕ) (s t : List ℕ) → Zeroed base setWords s t → (x : ℕ) (y : Option ℕ) → x < 256 → Within 256 y → stored t base x y ≡ false
 unfolding stored
 zeroed-none base s t p x y hx hy = ap (bit (slot x y)) (p .zero-now (place x y) (place-lt x y hx hy)) ∙ bit-none (slot x y)
 
@@ -171,7 +171,7 @@ lane-end s base j i h =
     ap₂ (λ (u v : ℕ). bit u (getD s v 0)) p q
 
 -- one word gains the lanes of another
-pub word-inserted : (s : List ℕ) (base a j x : ℕ) → a < 256 → j < 4 → base + 1028 ≤ length s
+pub word-inserted : (s : List ℕ) (base a j x : ℕ) → a < 256 → j < 4 → base + setWords ≤ length s
     → Adds base s (set s (base + (4 * a + j)) (bitOr (getD s (base + (4 * a + j)) 0) x)) (λ p y. eqb p a && inWord j x y)
 unfolding stored place slot inWord
 word-inserted s base a j x ha hj l = record {
@@ -211,7 +211,7 @@ word-inserted s base a j x ha hj l = record {
             ∙ ap (λ (u : Bool). bit (c % 64) (getD s w 0) || u) (and-false (eqb p a)) ∙ or-false _)
 
 -- the ends of one word gain the lanes of another
-pub ends-inserted : (s : List ℕ) (base j x : ℕ) → j < 4 → base + 1028 ≤ length s
+pub ends-inserted : (s : List ℕ) (base j x : ℕ) → j < 4 → base + setWords ≤ length s
     → Adds base s (set s (base + (1024 + j)) (bitOr (getD s (base + (1024 + j)) 0) x)) (λ a y. inWord j x (some a) && eqNext y none)
 unfolding stored place slot inWord eqNext
 ends-inserted s base j x hj l = record {
@@ -247,7 +247,7 @@ ends-inserted s base j x hj l = record {
             ∙ sym (ap (λ (u : Bool). bit (a % 64) (getD s w 0) || ((u && bit (a % 64) x) && true)) (ne-eqb (a / 64) j d) ∙ or-false _)
 
 -- a row is taken out: its words are 0, and its bit among the ends is
-pub row-taken : (base a : ℕ) (s t : List ℕ) → a < 256 → base + 1028 ≤ length s → Zeroed (base + 4 * a) 4 s t
+pub row-taken : (base a : ℕ) (s t : List ℕ) → a < 256 → base + setWords ≤ length s → Zeroed (base + 4 * a) 4 s t
     → RowTaken base a s (set t (base + (1024 + a / 64)) (bitAnd (getD t (base + (1024 + a / 64)) 0) ((2 ^ 64 - 1) - 1 * 2 ^ (a % 64) % 2 ^ 64)))
 unfolding stored place slot
 row-taken base a s t ha l p = record {
@@ -306,8 +306,8 @@ row-taken base a s t ha l p = record {
 
 -- ---- a set is known by its pairs: two storages of 64-bit words with the same pairs in a set have the same words there
 
-pub set-ext : (s t : List ℕ) (base base′ : ℕ) → ((k : ℕ) → k < 1028 → getD s (base + k) 0 < 2 ^ 64) → ((k : ℕ) → k < 1028 → getD t (base′ + k) 0 < 2 ^ 64)
-    → ((x : ℕ) (y : Option ℕ) → x < 256 → Within 256 y → stored s base x y ≡ stored t base′ x y) → (k : ℕ) → k < 1028 → getD s (base + k) 0 ≡ getD t (base′ + k) 0
+pub set-ext : (s t : List ℕ) (base base′ : ℕ) → ((k : ℕ) → k < setWords → getD s (base + k) 0 < 2 ^ 64) → ((k : ℕ) → k < setWords → getD t (base′ + k) 0 < 2 ^ 64)
+    → ((x : ℕ) (y : Option ℕ) → x < 256 → Within 256 y → stored s base x y ≡ stored t base′ x y) → (k : ℕ) → k < setWords → getD s (base + k) 0 ≡ getD t (base′ + k) 0
 set-ext s t base base′ hs ht same k h = bits-ext 64 (getD s (base + k) 0) (getD t (base′ + k) 0) (hs k h) (ht k h) (λ i l. at i l (decLt k 1024))
   where
     at : (i : ℕ) → i < 64 → Dec (k < 1024) → bit i (getD s (base + k) 0) ≡ bit i (getD t (base′ + k) 0)

@@ -9,7 +9,7 @@ use lib.ListN.{length, getD}
 use Rattle.words.specs.Bits.{bit}
 use Rattle.completions.specs.Live.{Pairs}
 use Rattle.completions.specs.Steps.{Within}
-use Rattle.pairs.specs.Storage.{stored, used}
+use Rattle.pairs.specs.Storage.{stored, used, setWords}
 
 -- the same second part
 unfoldable pub eqNext : Option ℕ → Option ℕ → Bool
@@ -31,7 +31,7 @@ pub record Framed (at n : ℕ) (s t : List ℕ) : Type 0 where
 
 -- the set at `base` has gained the pairs P, and no other word is changed
 pub record Adds (base : ℕ) (s t : List ℕ) (P : Pairs) : Type 0 where
-  pub frame : Framed base 1028 s t
+  pub frame : Framed base setWords s t
   pub adds : (x : ℕ) (y : Option ℕ) → x < 256 → Within 256 y → stored t base x y ≡ (stored s base x y || P x y)
 
 -- bit x of the words from `at` on
@@ -64,10 +64,10 @@ pub record Zeroed (at n : ℕ) (s t : List ℕ) : Type 0 where
 
 -- the words that v valuations use of the set at `base` are 0, and no others are changed
 pub record RowsCleared (base v : ℕ) (s t : List ℕ) : Type 0 where
-  pub frame : Framed base 1028 s t
+  pub frame : Framed base setWords s t
   pub emptied : (x : ℕ) (y : Option ℕ) → x < 256 → Within 256 y → stored t base x y ≡ cond (used v x y) false (stored s base x y)
 
 -- row a of the set at `base` has no pair, and all else is as it was
 pub record RowTaken (base a : ℕ) (s t : List ℕ) : Type 0 where
-  pub frame : Framed base 1028 s t
+  pub frame : Framed base setWords s t
   pub taken : (x : ℕ) (y : Option ℕ) → x < 256 → Within 256 y → stored t base x y ≡ (stored s base x y && not (eqb x a))

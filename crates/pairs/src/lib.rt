@@ -6,12 +6,24 @@ ghost use lib.Dec.{eqb};
 ghost use lib.ListN.{length};
 ghost use Prim.Native.Nat.{_+_, _*_, _<_, _≤_};
 ghost use Rattle.completions.specs.Live.{countPairs};
-ghost use Rattle.pairs.specs.Storage.{stored};
+ghost use Rattle.pairs.specs.Storage.{stored, live, setWords, scratchAt, storageWords, maxPairs};
 ghost use Rattle.pairs.specs.Changes.{eqNext, inWord, Adds, NextWord, NextBit, Zeroed, RowsCleared, RowTaken, Noted};
+
+// The words of one set.
+pub const SET_WORDS: usize = 1028;
+
+// The word that the live set begins with.
+pub const LIVE: usize = 0;
+
+// The word that the reached set begins with.
+pub const REACHED: usize = LIVE + SET_WORDS;
+
+// The word that the scratch set begins with.
+pub const SCRATCH: usize = REACHED + SET_WORDS;
 
 // Whether (a, b) is in the set at base.
 pub fn has(s: &[u64], base: usize, a: usize, b: usize) -> bool
-    requires { ⌜ (a < 256) × (b < 256) × (base ≤ 2056) × (3084 ≤ length (now s)) ⌝ }
+    requires { ⌜ (a < 256) × (b < 256) × (base ≤ scratchAt) × (storageWords ≤ length (now s)) ⌝ }
     ensures { λ r. ⌜ r ≡ stored (now (s .entry)) base a (some b) ⌝ }
 {
     (s[base + (4 * a + b / 64)] >> (b % 64)) % 2 == 1
@@ -19,7 +31,7 @@ pub fn has(s: &[u64], base: usize, a: usize, b: usize) -> bool
 
 // Whether (a, end) is in the set at base.
 pub fn has_end(s: &[u64], base: usize, a: usize) -> bool
-    requires { ⌜ (a < 256) × (base ≤ 2056) × (3084 ≤ length (now s)) ⌝ }
+    requires { ⌜ (a < 256) × (base ≤ scratchAt) × (storageWords ≤ length (now s)) ⌝ }
     ensures { λ r. ⌜ r ≡ stored (now (s .entry)) base a none ⌝ }
 {
     (s[base + (1024 + a / 64)] >> (a % 64)) % 2 == 1
@@ -27,7 +39,7 @@ pub fn has_end(s: &[u64], base: usize, a: usize) -> bool
 
 // Puts (a, b) into the set at base.
 pub fn insert(s: &mut [u64], base: usize, a: usize, b: usize)
-    requires { ⌜ (a < 256) × (b < 256) × (base ≤ 2056) × (3084 ≤ length (now s)) ⌝ }
+    requires { ⌜ (a < 256) × (b < 256) × (base ≤ scratchAt) × (storageWords ≤ length (now s)) ⌝ }
     ensures { λ r. ⌜ Adds base (now (s .entry)) (now (s .exit)) (λ x y. eqb x a && eqNext y (some b)) ⌝ }
 {
     let k = base + (4 * a + b / 64);
@@ -36,7 +48,7 @@ pub fn insert(s: &mut [u64], base: usize, a: usize, b: usize)
 
 // Puts (a, end) into the set at base.
 pub fn insert_end(s: &mut [u64], base: usize, a: usize)
-    requires { ⌜ (a < 256) × (base ≤ 2056) × (3084 ≤ length (now s)) ⌝ }
+    requires { ⌜ (a < 256) × (base ≤ scratchAt) × (storageWords ≤ length (now s)) ⌝ }
     ensures { λ r. ⌜ Adds base (now (s .entry)) (now (s .exit)) (λ x y. eqb x a && eqNext y none) ⌝ }
 {
     let k = base + (1024 + a / 64);
@@ -45,7 +57,7 @@ pub fn insert_end(s: &mut [u64], base: usize, a: usize)
 
 // Puts (a, 64 j + i) into the set at base, for each lane i of x that is set.
 pub fn insert_word(s: &mut [u64], base: usize, a: usize, j: usize, x: u64)
-    requires { ⌜ (a < 256) × (j < 4) × (base ≤ 2056) × (3084 ≤ length (now s)) ⌝ }
+    requires { ⌜ (a < 256) × (j < 4) × (base ≤ scratchAt) × (storageWords ≤ length (now s)) ⌝ }
     ensures { λ r. ⌜ Adds base (now (s .entry)) (now (s .exit)) (λ p y. eqb p a && inWord j x y) ⌝ }
 {
     let k = base + (4 * a + j);
@@ -54,7 +66,7 @@ pub fn insert_word(s: &mut [u64], base: usize, a: usize, j: usize, x: u64)
 
 // Puts (64 j + i, end) into the set at base, for each lane i of x that is set.
 pub fn insert_ends(s: &mut [u64], base: usize, j: usize, x: u64)
-    requires { ⌜ (j < 4) × (base ≤ 2056) × (3084 ≤ length (now s)) ⌝ }
+    requires { ⌜ (j < 4) × (base ≤ scratchAt) × (storageWords ≤ length (now s)) ⌝ }
     ensures { λ r. ⌜ Adds base (now (s .entry)) (now (s .exit)) (λ a y. inWord j x (some a) && eqNext y none) ⌝ }
 {
     let k = base + (1024 + j);
@@ -72,7 +84,7 @@ pub fn note(row: &mut [u64], a: usize)
 
 // The first of the w words from `at` on, from number j on, that is not 0, or w if there is none.
 fn next_word(s: &[u64], at: usize, w: usize, j: usize) -> usize
-    requires { ⌜ (j ≤ w) × (w ≤ 4) × (at ≤ 3084) × (at + w ≤ length (now s)) ⌝ }
+    requires { ⌜ (j ≤ w) × (w ≤ 4) × (at ≤ storageWords) × (at + w ≤ length (now s)) ⌝ }
     ensures { λ r. ⌜ NextWord (now (s .entry)) at w j r ⌝ }
 {
     let mut i = j;
@@ -87,7 +99,7 @@ fn next_word(s: &[u64], at: usize, w: usize, j: usize) -> usize
 
 // The first bit from `from` on that is set in the w words from `at` on, or 64 w if there is none.
 pub fn next_bit(s: &[u64], at: usize, w: usize, from: usize) -> usize
-    requires { ⌜ (from ≤ 64 * w) × (w ≤ 4) × (at ≤ 3084) × (at + w ≤ length (now s)) ⌝ }
+    requires { ⌜ (from ≤ 64 * w) × (w ≤ 4) × (at ≤ storageWords) × (at + w ≤ length (now s)) ⌝ }
     ensures { λ r. ⌜ NextBit (now (s .entry)) at w from r ⌝ }
 {
     if from == 64 * w {
@@ -106,7 +118,7 @@ pub fn next_bit(s: &[u64], at: usize, w: usize, from: usize) -> usize
 
 // Writes 0 into n words from `at` on.
 fn clear_words(s: &mut [u64], at: usize, n: usize)
-    requires { ⌜ (at + n ≤ 3084) × (3084 ≤ length (now s)) ⌝ }
+    requires { ⌜ (at + n ≤ storageWords) × (storageWords ≤ length (now s)) ⌝ }
     ensures { λ r. ⌜ Zeroed at n (now (s .entry)) (now (s .exit)) ⌝ }
 {
     let mut k: usize = 0;
@@ -118,15 +130,15 @@ fn clear_words(s: &mut [u64], at: usize, n: usize)
 
 // Empties the set at base.
 pub fn clear(s: &mut [u64], base: usize)
-    requires { ⌜ (base ≤ 2056) × (3084 ≤ length (now s)) ⌝ }
-    ensures { λ r. ⌜ Zeroed base 1028 (now (s .entry)) (now (s .exit)) ⌝ }
+    requires { ⌜ (base ≤ scratchAt) × (storageWords ≤ length (now s)) ⌝ }
+    ensures { λ r. ⌜ Zeroed base setWords (now (s .entry)) (now (s .exit)) ⌝ }
 {
-    clear_words(s, base, 1028);
+    clear_words(s, base, SET_WORDS);
 }
 
 // Empties the rows below v and the ends of the set at base.
 pub fn clear_rows(s: &mut [u64], base: usize, v: usize)
-    requires { ⌜ (v ≤ 256) × (base ≤ 2056) × (3084 ≤ length (now s)) ⌝ }
+    requires { ⌜ (v ≤ 256) × (base ≤ scratchAt) × (storageWords ≤ length (now s)) ⌝ }
     ensures { λ r. ⌜ RowsCleared base v (now (s .entry)) (now (s .exit)) ⌝ }
 {
     clear_words(s, base, 4 * v);
@@ -135,7 +147,7 @@ pub fn clear_rows(s: &mut [u64], base: usize, v: usize)
 
 // Takes the pairs of row a out of the set at base.
 pub fn take_row(s: &mut [u64], base: usize, a: usize)
-    requires { ⌜ (a < 256) × (base ≤ 2056) × (3084 ≤ length (now s)) ⌝ }
+    requires { ⌜ (a < 256) × (base ≤ scratchAt) × (storageWords ≤ length (now s)) ⌝ }
     ensures { λ r. ⌜ RowTaken base a (now (s .entry)) (now (s .exit)) ⌝ }
 {
     clear_words(s, base + 4 * a, 4);
@@ -145,12 +157,12 @@ pub fn take_row(s: &mut [u64], base: usize, a: usize)
 
 // The number of pairs in the live set: the counts of ones of its words, summed.
 pub fn count(s: &[u64]) -> usize
-    requires { ⌜ 3084 ≤ length (now s) ⌝ }
-    ensures { λ r. ⌜ (r ≡ countPairs 256 (stored (now (s .entry)) 0)) × (r ≤ 65792) ⌝ }
+    requires { ⌜ storageWords ≤ length (now s) ⌝ }
+    ensures { λ r. ⌜ (r ≡ countPairs 256 (live (now (s .entry)))) × (r ≤ maxPairs) ⌝ }
 {
     let mut n: usize = 0;
     let mut i: usize = 0;
-    while i < 1028 {
+    while i < SET_WORDS {
         n += u64::count_ones(s[i]) as usize;
         i += 1;
     }

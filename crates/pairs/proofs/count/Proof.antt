@@ -8,16 +8,16 @@ use borrow.Author.Needs.{needs}
 use Rattle.words.specs.Below.{sumBelow}
 use Rattle.words.proofs.CountLaws.{sum-one}
 use Rattle.completions.specs.Live.{countPairs}
-use Rattle.pairs.specs.Storage.{stored}
+use Rattle.pairs.specs.Storage.{live, setWords}
 use Rattle.pairs.proofs.PairCount.{pair-count}
 use Rattle.pairs.proofs.count.Statement.{statement}
 use Rattle.pairs.proofs.count.Tie as tie
 
 abbrev Inv-loop : tie.InvT-loop
-Inv-loop s n₀ i₀ n i = (i ≤ 1028) × (n ≤ 64 * i) × (n ≡ sumBelow i (λ j. ones (getD s j 0))) × ((k : ℕ) → k < i → getD s k 0 < 2 ^ 64)
+Inv-loop s n₀ i₀ n i = (i ≤ setWords) × (n ≤ 64 * i) × (n ≡ sumBelow i (λ j. ones (getD s j 0))) × ((k : ℕ) → k < i → getD s k 0 < 2 ^ 64)
 
 abbrev μ-loop : tie.MeasureT-loop
-μ-loop s n₀ i₀ n i = 1028 - i
+μ-loop s n₀ i₀ n i = setWords - i
 
 loop-holds : tie.Need-loop-holds Inv-loop μ-loop
 unfolding sumBelow
@@ -47,8 +47,8 @@ loop-again c = (omega arith, omega (arith, ones-le 64 (getD (c .before .before .
 returns : tie.Need-returns Inv-loop μ-loop
 returns c =
     let a = c .before .before .args in
-    let e : c .before .loop .i ≡ 1028 = omega arith in
-    let r : c .before .loop .n ≡ countPairs 256 (stored (a .s .now) 0) =
+    let e : c .before .loop .i ≡ setWords = omega arith in
+    let r : c .before .loop .n ≡ countPairs 256 (live (a .s .now)) =
     c .before .loop .inv .2 ∙ ap (λ (k : ℕ). sumBelow k (λ j. ones (getD (a .s .now) j 0))) e
     ∙ pair-count (a .s .now) (λ k h. c .before .loop .inv .3 k (omega arith))
     in

@@ -10,7 +10,7 @@ ghost use Rattle.words.specs.Below.{anyBelow};
 ghost use Rattle.sheet.specs.RuleSheet.{requiredOf};
 ghost use Rattle.sheet.specs.Reading.{Below};
 ghost use Rattle.completions.specs.Live.{allowed};
-ghost use Rattle.pairs.specs.Storage.{stored};
+ghost use Rattle.pairs.specs.Storage.{stored, scratchAt, storageWords};
 ghost use Rattle.pairs.specs.Changes.{rowBit};
 ghost use Rattle.lola.specs.Equations.{holds};
 ghost use Rattle.lanes.specs.Around.{unless};
@@ -116,7 +116,7 @@ fn unite_valuations(
     b: usize,
 )
     requires { ⌜ Coded m n (now code) (now len) ⌝ }
-    requires { ⌜ (w ≤ 4) × (length (now row) ≡ 4) × (length (now ok) ≡ 4) × (256 ≤ length (now st)) × (b < 256) × (layer ≤ 2056) × (3084 ≤ length (now s)) ⌝ }
+    requires { ⌜ (w ≤ 4) × (length (now row) ≡ 4) × (length (now ok) ≡ 4) × (256 ≤ length (now st)) × (b < 256) × (layer ≤ scratchAt) × (storageWords ≤ length (now s)) ⌝ }
     ensures { λ r. ⌜ ((ks : List ℕ) → United w (now (row .entry)) (now (row .exit)) (λ a. rowBit (now (ok .entry)) 0 a && anyBelow (64 * w) (λ c. stored (now (s .entry)) layer b (some c) && holds (sheetOf m n (now (code .entry)) (now (len .entry)) ks) (some a) b (some c)))) ⌝ }
 {
     let first = layer + 4 * b;
@@ -142,7 +142,7 @@ pub fn unite_row(
     b: usize,
 )
     requires { ⌜ Coded m n (now code) (now len) ⌝ }
-    requires { ⌜ (w ≤ 4) × (length (now row) ≡ 4) × (length (now ok) ≡ 4) × (256 ≤ length (now st)) × (b < 256) × (layer ≤ 2056) × (3084 ≤ length (now s)) ⌝ }
+    requires { ⌜ (w ≤ 4) × (length (now row) ≡ 4) × (length (now ok) ≡ 4) × (256 ≤ length (now st)) × (b < 256) × (layer ≤ scratchAt) × (storageWords ≤ length (now s)) ⌝ }
     ensures { λ r. ⌜ ((ks : List ℕ) → United w (now (row .entry)) (now (row .exit)) (λ a. rowBit (now (ok .entry)) 0 a && meets (sheetOf m n (now (code .entry)) (now (len .entry)) ks) (64 * w) (stored (now (s .entry)) layer) a b)) ⌝ }
 {
     unite_valuations(row, st, ok, s, code, len, m, n, w, layer, b);

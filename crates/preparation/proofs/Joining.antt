@@ -20,7 +20,7 @@ use Rattle.lola.specs.Equations.{holds}
 use Rattle.completions.specs.Live.{Pairs, allowed, assumed}
 use Rattle.completions.specs.Steps.{Within, anyNext}
 use Rattle.completions.proofs.Range.{wider}
-use Rattle.pairs.specs.Storage.{stored}
+use Rattle.pairs.specs.Storage.{stored, live, setWords, liveAt, reachedAt, scratchAt, storageWords}
 use Rattle.pairs.specs.Changes.{eqNext, Framed, Adds, rowBit, NextBit, RowTaken, Noted}
 use Rattle.pairs.proofs.Frames.{framed-none, framed-then, framed-wider}
 use Rattle.pairs.proofs.Sets.{stored-eq, framed-before, framed-beyond}
@@ -32,9 +32,9 @@ use Rattle.preparation.proofs.Layers.{joining-same}
 
 joins-none : (base : ℕ) (s : List ℕ) (P : Pairs) → ((x : ℕ) (y : Option ℕ) → x < 256 → Within 256 y → P x y ≡ false) → Joins base s s P
 joins-none base s P f = record {
-  frame = framed-none 0 (base + 1028) s;
+  frame = framed-none liveAt (base + setWords) s;
   between = λ k h g. refl;
-  live = λ x y hx hy. sym (ap (λ (u : Bool). stored s 0 x y || u) (f x y hx hy) ∙ or-false (stored s 0 x y));
+  live = λ x y hx hy. sym (ap (λ (u : Bool). live s x y || u) (f x y hx hy) ∙ or-false (live s x y));
   next = λ x y hx hy. sym (ap (λ (u : Bool). stored s base x y || u) (f x y hx hy) ∙ or-false (stored s base x y));
 }
 
@@ -43,8 +43,8 @@ joins-then base s t u P Q R p q f = record {
   frame = framed-then (p .frame) (q .frame);
   between = λ k h g. q .between k h g ∙ p .between k h g;
   live = λ x y hx hy.
-      q .live x y hx hy ∙ ap (λ (w : Bool). w || Q x y) (p .live x y hx hy) ∙ or-assoc (stored s 0 x y) (P x y) (Q x y)
-      ∙ ap (λ (w : Bool). stored s 0 x y || w) (f x y hx hy);
+      q .live x y hx hy ∙ ap (λ (w : Bool). w || Q x y) (p .live x y hx hy) ∙ or-assoc (live s x y) (P x y) (Q x y)
+      ∙ ap (λ (w : Bool). live s x y || w) (f x y hx hy);
   next = λ x y hx hy.
       q .next x y hx hy ∙ ap (λ (w : Bool). w || Q x y) (p .next x y hx hy) ∙ or-assoc (stored s base x y) (P x y) (Q x y)
       ∙ ap (λ (w : Bool). stored s base x y || w) (f x y hx hy);
@@ -54,37 +54,37 @@ joins-as : (base : ℕ) (s t : List ℕ) (P R : Pairs) → Joins base s t P → 
 joins-as base s t P R p f = record {
   frame = p .frame;
   between = p .between;
-  live = λ x y hx hy. p .live x y hx hy ∙ ap (λ (w : Bool). stored s 0 x y || w) (f x y hx hy);
+  live = λ x y hx hy. p .live x y hx hy ∙ ap (λ (w : Bool). live s x y || w) (f x y hx hy);
   next = λ x y hx hy. p .next x y hx hy ∙ ap (λ (w : Bool). stored s base x y || w) (f x y hx hy);
 }
 
 -- both sets gain the same pairs
-pub joins-both : (base : ℕ) (s t u : List ℕ) (P R : Pairs) → 1028 ≤ base → Adds 0 s t P → Adds base t u P → ((x : ℕ) (y : Option ℕ) → x < 256 → Within 256 y → P x y ≡ R x y) → Joins base s u R
+pub joins-both : (base : ℕ) (s t u : List ℕ) (P R : Pairs) → reachedAt ≤ base → Adds liveAt s t P → Adds base t u P → ((x : ℕ) (y : Option ℕ) → x < 256 → Within 256 y → P x y ≡ R x y) → Joins base s u R
 joins-both base s t u P R l p q f = record {
   frame = framed-then (framed-wider (omega arith) (omega arith) (p .frame)) (framed-wider (omega arith) (omega arith) (q .frame));
   between = λ k h g. q .frame .before k g ∙ p .frame .beyond k h;
   live = λ x y hx hy.
-      framed-before (q .frame) 0 x y hx hy l ∙ p .adds x y hx hy ∙ ap (λ (w : Bool). stored s 0 x y || w) (f x y hx hy);
+      framed-before (q .frame) liveAt x y hx hy l ∙ p .adds x y hx hy ∙ ap (λ (w : Bool). live s x y || w) (f x y hx hy);
   next = λ x y hx hy.
       q .adds x y hx hy ∙ ap₂ _||_ (framed-beyond (p .frame) base x y hx hy l) (f x y hx hy);
 }
 
 -- ---- one pair
 
-pub joined-not : (base : ℕ) (s : List ℕ) (a b : ℕ) → stored s 0 a (some b) ≡ true → Joins base s s (λ x y. eqb x a && (eqNext y (some b) && not (stored s 0 a (some b))))
+pub joined-not : (base : ℕ) (s : List ℕ) (a b : ℕ) → live s a (some b) ≡ true → Joins base s s (λ x y. eqb x a && (eqNext y (some b) && not (live s a (some b))))
 joined-not base s a b e =
-    joins-none base s (λ x y. eqb x a && (eqNext y (some b) && not (stored s 0 a (some b))))
+    joins-none base s (λ x y. eqb x a && (eqNext y (some b) && not (live s a (some b))))
     (λ x y hx hy. ap (λ (u : Bool). eqb x a && (eqNext y (some b) && not u)) e ∙ ap (λ (u : Bool). eqb x a && u) (and-false (eqNext y (some b))) ∙ and-false (eqb x a))
 
-pub joined-both : (base : ℕ) (s t u : List ℕ) (a b : ℕ) → 1028 ≤ base → stored s 0 a (some b) ≡ false → Adds 0 s t (λ x y. eqb x a && eqNext y (some b)) → Adds base t u (λ x y. eqb x a && eqNext y (some b))
-    → Joins base s u (λ x y. eqb x a && (eqNext y (some b) && not (stored s 0 a (some b))))
+pub joined-both : (base : ℕ) (s t u : List ℕ) (a b : ℕ) → reachedAt ≤ base → live s a (some b) ≡ false → Adds liveAt s t (λ x y. eqb x a && eqNext y (some b)) → Adds base t u (λ x y. eqb x a && eqNext y (some b))
+    → Joins base s u (λ x y. eqb x a && (eqNext y (some b) && not (live s a (some b))))
 joined-both base s t u a b l e p q =
-    joins-both base s t u (λ x y. eqb x a && eqNext y (some b)) (λ x y. eqb x a && (eqNext y (some b) && not (stored s 0 a (some b)))) l p q
+    joins-both base s t u (λ x y. eqb x a && eqNext y (some b)) (λ x y. eqb x a && (eqNext y (some b) && not (live s a (some b)))) l p q
     (λ x y hx hy. ap (λ (v : Bool). eqb x a && v) (sym (ap (λ (u : Bool). eqNext y (some b) && not u) e ∙ and-true (eqNext y (some b)))))
 
 -- the row of a new pair is noted
-pub occupied-more : (w base : ℕ) (rows rows′ s t u : List ℕ) (a b : ℕ) → a < 64 * w → w ≤ 4 → b < 256 → 1028 ≤ base
-    → Adds 0 s t (λ x y. eqb x a && eqNext y (some b)) → Adds base t u (λ x y. eqb x a && eqNext y (some b)) → Noted a rows rows′
+pub occupied-more : (w base : ℕ) (rows rows′ s t u : List ℕ) (a b : ℕ) → a < 64 * w → w ≤ 4 → b < 256 → reachedAt ≤ base
+    → Adds liveAt s t (λ x y. eqb x a && eqNext y (some b)) → Adds base t u (λ x y. eqb x a && eqNext y (some b)) → Noted a rows rows′
     → Occupied w rows s base → Occupied w rows′ u base
 unfolding eqNext
 occupied-more w base rows rows′ s t u a b ha hw hb l p q n o = record {
@@ -118,7 +118,7 @@ occupied-more w base rows rows′ s t u a b ha hw hb l p q n o = record {
         (y .0, y .1, kept x (y .0) (omega arith) (y .1) d ∙ y .2)
 
 -- what is done to one set leaves another as it was
-framed-beside : {layer next : ℕ} {s t : List ℕ} → Apart layer next → Framed layer 1028 s t → (x : ℕ) (y : Option ℕ) → x < 256 → Within 256 y → stored t next x y ≡ stored s next x y
+framed-beside : {layer next : ℕ} {s t : List ℕ} → Apart layer next → Framed layer setWords s t → (x : ℕ) (y : Option ℕ) → x < 256 → Within 256 y → stored t next x y ≡ stored s next x y
 framed-beside {next = next} (inl d) f x y hx hy = framed-beyond f next x y hx hy d
 framed-beside {next = next} (inr d) f x y hx hy = framed-before f next x y hx hy d
 
@@ -133,7 +133,7 @@ occupied-beside w layer next b rows s t hw d r o = record {
 -- once the lanes of `rest` have joined, those of the word have
 pub record Lanes (base : ℕ) (s t : List ℕ) (j word b rest : ℕ) : Type 0 where
   pub fits : rest < 2 ^ 64
-  pub whole : (u : List ℕ) → Joins base t u (newcomersIn j rest b (stored t 0)) → Joins base s u (newcomersIn j word b (stored s 0))
+  pub whole : (u : List ℕ) → Joins base t u (newcomersIn j rest b (live t)) → Joins base s u (newcomersIn j word b (live s))
 
 pub lanes-first : (base : ℕ) (s : List ℕ) (j word b : ℕ) → word < 2 ^ 64 → Lanes base s s j word b word
 lanes-first base s j word b l = record { fits = l; whole = λ u h. h }
@@ -142,49 +142,49 @@ module _ (base : ℕ) (s t : List ℕ) (j word b rest : ℕ) (p : Lanes base s t
   pub lanes-next : (rest ≡ 0 → ⊥) → Lowest 64 rest (trailingZeros 64 rest)
   lanes-next n = lowest 64 rest (p .fits) n
 
-  pub lanes-all : rest ≡ 0 → Joins base s t (newcomersIn j word b (stored s 0))
+  pub lanes-all : rest ≡ 0 → Joins base s t (newcomersIn j word b (live s))
   unfolding newcomersIn
-  lanes-all e = p .whole t (joins-none base t (newcomersIn j rest b (stored t 0)) at)
+  lanes-all e = p .whole t (joins-none base t (newcomersIn j rest b (live t)) at)
     where
-      at : (x : ℕ) (y : Option ℕ) → x < 256 → Within 256 y → newcomersIn j rest b (stored t 0) x y ≡ false
+      at : (x : ℕ) (y : Option ℕ) → x < 256 → Within 256 y → newcomersIn j rest b (live t) x y ≡ false
       at x none hx hy = refl
       at x (some y) hx hy =
-          ap (λ (v : Bool). eqb y b && ((eqb (x / 64) j && v) && not (stored t 0 x (some y)))) (ap (bit (x % 64)) e ∙ bit-none (x % 64))
-          ∙ ap (λ (v : Bool). eqb y b && (v && not (stored t 0 x (some y)))) (and-false (eqb (x / 64) j)) ∙ and-false (eqb y b)
+          ap (λ (v : Bool). eqb y b && ((eqb (x / 64) j && v) && not (live t x (some y)))) (ap (bit (x % 64)) e ∙ bit-none (x % 64))
+          ∙ ap (λ (v : Bool). eqb y b && (v && not (live t x (some y)))) (and-false (eqb (x / 64) j)) ∙ and-false (eqb y b)
 
-  pub lanes-more : (u : List ℕ) (i : ℕ) → i < 64 → bit i rest ≡ true → Joins base t u (λ x y. eqb x (64 * j + i) && (eqNext y (some b) && not (stored t 0 (64 * j + i) (some b))))
+  pub lanes-more : (u : List ℕ) (i : ℕ) → i < 64 → bit i rest ≡ true → Joins base t u (λ x y. eqb x (64 * j + i) && (eqNext y (some b) && not (live t (64 * j + i) (some b))))
       → Lanes base s u j word b (without rest i)
   unfolding newcomersIn eqNext
   lanes-more u i l o q = record {
     fits = omega (arith, p .fits, lane-less rest i l o);
-    whole = λ z h. p .whole z (joins-then base t u z one (newcomersIn j (without rest i) b (stored u 0)) (newcomersIn j rest b (stored t 0)) q h at);
+    whole = λ z h. p .whole z (joins-then base t u z one (newcomersIn j (without rest i) b (live u)) (newcomersIn j rest b (live t)) q h at);
   }
     where
       one : Pairs
-      one x y = eqb x (64 * j + i) && (eqNext y (some b) && not (stored t 0 (64 * j + i) (some b)))
+      one x y = eqb x (64 * j + i) && (eqNext y (some b) && not (live t (64 * j + i) (some b)))
 
       -- other pairs are as they were, and so are other lanes
-      kept : (x y : ℕ) → x < 256 → y < 256 → (x ≡ 64 * j + i → ⊥) → stored u 0 x (some y) ≡ stored t 0 x (some y)
+      kept : (x y : ℕ) → x < 256 → y < 256 → (x ≡ 64 * j + i → ⊥) → live u x (some y) ≡ live t x (some y)
       kept x y hx hy e =
           q .live x (some y) hx hy
-          ∙ ap (λ (v : Bool). stored t 0 x (some y) || (v && (eqb y b && not (stored t 0 (64 * j + i) (some b))))) (ne-eqb x (64 * j + i) e)
-          ∙ or-false (stored t 0 x (some y))
+          ∙ ap (λ (v : Bool). live t x (some y) || (v && (eqb y b && not (live t (64 * j + i) (some b))))) (ne-eqb x (64 * j + i) e)
+          ∙ or-false (live t x (some y))
 
       same : (k : ℕ) → k < 64 → (k ≡ i → ⊥) → bit k (without rest i) ≡ bit k rest
       same k h e = lane-off k rest i h l ∙ ap (λ (v : Bool). bit k rest && not v) (ne-eqb k i e) ∙ and-true (bit k rest)
 
-      at : (x : ℕ) (y : Option ℕ) → x < 256 → Within 256 y → (one x y || newcomersIn j (without rest i) b (stored u 0) x y) ≡ newcomersIn j rest b (stored t 0) x y
+      at : (x : ℕ) (y : Option ℕ) → x < 256 → Within 256 y → (one x y || newcomersIn j (without rest i) b (live u) x y) ≡ newcomersIn j rest b (live t) x y
       at x none hx hy = ap (λ (v : Bool). v || false) (and-false (eqb x (64 * j + i)))
       at x (some y) hx hy = go (ℕ-discrete y b) (ℕ-discrete x (64 * j + i)) (ℕ-discrete (x / 64) j)
         where
           go : Dec (y ≡ b) → Dec (x ≡ 64 * j + i) → Dec (x / 64 ≡ j)
-              → ((eqb x (64 * j + i) && (eqb y b && not (stored t 0 (64 * j + i) (some b)))) || (eqb y b && ((eqb (x / 64) j && bit (x % 64) (without rest i)) && not (stored u 0 x (some y)))))
-              ≡ (eqb y b && ((eqb (x / 64) j && bit (x % 64) rest) && not (stored t 0 x (some y))))
+              → ((eqb x (64 * j + i) && (eqb y b && not (live t (64 * j + i) (some b)))) || (eqb y b && ((eqb (x / 64) j && bit (x % 64) (without rest i)) && not (live u x (some y)))))
+              ≡ (eqb y b && ((eqb (x / 64) j && bit (x % 64) rest) && not (live t x (some y))))
           go (no d) e f = rw (ne-eqb y b d) (ap (λ (v : Bool). v || false) (and-false (eqb x (64 * j + i))))
           go (yes d) (yes e) f =
               let m : x % 64 ≡ i = omega arith in
               rw (m, eq-eqb y b d, eq-eqb x (64 * j + i) e, eq-eqb (x / 64) j (omega arith), lane-gone rest i l, o)
-              (or-false (not (stored t 0 (64 * j + i) (some b))) ∙ ap₂ (λ (k n : ℕ). not (stored t 0 k (some n))) (sym e) (sym d))
+              (or-false (not (live t (64 * j + i) (some b))) ∙ ap₂ (λ (k n : ℕ). not (live t k (some n))) (sym e) (sym d))
           go (yes d) (no e) (yes f) = rw (ne-eqb x (64 * j + i) e, kept x y hx hy e, same (x % 64) (omega arith) (omega arith)) refl
           go (yes d) (no e) (no f) = rw (ne-eqb x (64 * j + i) e, ne-eqb (x / 64) j f) refl
 
@@ -192,53 +192,53 @@ module _ (base : ℕ) (s t : List ℕ) (j word b rest : ℕ) (p : Lanes base s t
 
 module _ (base : ℕ) (s : List ℕ) (row : List ℕ) (b : ℕ) where
   abbrev N : ℕ → ℕ → ℕ → Bool
-  N a x y = ltb x a && (rowBit row 0 x && not (stored s 0 x (some y)))
+  N a x y = ltb x a && (rowBit row 0 x && not (live s x (some y)))
 
-  pub words-first : Joins base s s (newcomers (64 * 0) row b (stored s 0))
+  pub words-first : Joins base s s (newcomers (64 * 0) row b (live s))
   unfolding newcomers
-  words-first = joins-none base s (newcomers (64 * 0) row b (stored s 0)) at
+  words-first = joins-none base s (newcomers (64 * 0) row b (live s)) at
     where
-      at : (x : ℕ) (y : Option ℕ) → x < 256 → Within 256 y → newcomers (64 * 0) row b (stored s 0) x y ≡ false
+      at : (x : ℕ) (y : Option ℕ) → x < 256 → Within 256 y → newcomers (64 * 0) row b (live s) x y ≡ false
       at x none hx hy = refl
-      at x (some y) hx hy = ap (λ (u : Bool). eqb y b && u) (below-none x (rowBit row 0 x && not (stored s 0 x (some y)))) ∙ and-false (eqb y b)
+      at x (some y) hx hy = ap (λ (u : Bool). eqb y b && u) (below-none x (rowBit row 0 x && not (live s x (some y)))) ∙ and-false (eqb y b)
 
-  pub words-more : (t u : List ℕ) (j : ℕ) → Joins base s t (newcomers (64 * j) row b (stored s 0)) → Joins base t u (newcomersIn j (getD row j 0) b (stored t 0))
-      → Joins base s u (newcomers (64 * (j + 1)) row b (stored s 0))
+  pub words-more : (t u : List ℕ) (j : ℕ) → Joins base s t (newcomers (64 * j) row b (live s)) → Joins base t u (newcomersIn j (getD row j 0) b (live t))
+      → Joins base s u (newcomers (64 * (j + 1)) row b (live s))
   unfolding newcomers newcomersIn rowBit
   words-more t u j p q =
-      joins-then base s t u (newcomers (64 * j) row b (stored s 0)) (newcomersIn j (getD row j 0) b (stored t 0)) (newcomers (64 * (j + 1)) row b (stored s 0)) p q at
+      joins-then base s t u (newcomers (64 * j) row b (live s)) (newcomersIn j (getD row j 0) b (live t)) (newcomers (64 * (j + 1)) row b (live s)) p q at
     where
       at : (x : ℕ) (y : Option ℕ) → x < 256 → Within 256 y
-          → (newcomers (64 * j) row b (stored s 0) x y || newcomersIn j (getD row j 0) b (stored t 0) x y) ≡ newcomers (64 * (j + 1)) row b (stored s 0) x y
+          → (newcomers (64 * j) row b (live s) x y || newcomersIn j (getD row j 0) b (live t) x y) ≡ newcomers (64 * (j + 1)) row b (live s) x y
       at x none hx hy = refl
       at x (some y) hx hy = go (ℕ-discrete (x / 64) j)
         where
           W : Bool
-          W = (eqb (x / 64) j && bit (x % 64) (getD row j 0)) && not (stored t 0 x (some y))
+          W = (eqb (x / 64) j && bit (x % 64) (getD row j 0)) && not (live t x (some y))
 
           -- the pairs of word j are as they were
-          kept : N (64 * j) x y ≡ false → stored t 0 x (some y) ≡ stored s 0 x (some y)
+          kept : N (64 * j) x y ≡ false → live t x (some y) ≡ live s x (some y)
           kept e =
-              p .live x (some y) hx hy ∙ ap (λ (v : Bool). stored s 0 x (some y) || (eqb y b && v)) e
-              ∙ ap (λ (v : Bool). stored s 0 x (some y) || v) (and-false (eqb y b)) ∙ or-false (stored s 0 x (some y))
+              p .live x (some y) hx hy ∙ ap (λ (v : Bool). live s x (some y) || (eqb y b && v)) e
+              ∙ ap (λ (v : Bool). live s x (some y) || v) (and-false (eqb y b)) ∙ or-false (live s x (some y))
 
           same : x / 64 ≡ j → N (64 * j) x y ≡ false → W ≡ N (64 * (j + 1)) x y
           same f e =
               let there : j ≡ 0 + x / 64 = omega arith in
               ap₂ (λ (v w : Bool). (v && bit (x % 64) (getD row j 0)) && not w) (eq-eqb (x / 64) j f) (kept e)
-              ∙ ap (λ (k : ℕ). bit (x % 64) (getD row k 0) && not (stored s 0 x (some y))) there
-              ∙ sym (ap (λ (v : Bool). v && (rowBit row 0 x && not (stored s 0 x (some y)))) (lt-ltb x (64 * (j + 1)) (omega arith)))
+              ∙ ap (λ (k : ℕ). bit (x % 64) (getD row k 0) && not (live s x (some y))) there
+              ∙ sym (ap (λ (v : Bool). v && (rowBit row 0 x && not (live s x (some y)))) (lt-ltb x (64 * (j + 1)) (omega arith)))
 
           go : Dec (x / 64 ≡ j) → ((eqb y b && N (64 * j) x y) || (eqb y b && W)) ≡ (eqb y b && N (64 * (j + 1)) x y)
           go (yes f) =
-              let e : N (64 * j) x y ≡ false = ap (λ (v : Bool). v && (rowBit row 0 x && not (stored s 0 x (some y)))) (le-ltb x (64 * j) (omega arith)) in
+              let e : N (64 * j) x y ≡ false = ap (λ (v : Bool). v && (rowBit row 0 x && not (live s x (some y)))) (le-ltb x (64 * j) (omega arith)) in
               ap₂ (λ (v w : Bool). (eqb y b && v) || (eqb y b && w)) e (same f e) ∙ ap (λ (v : Bool). v || (eqb y b && N (64 * (j + 1)) x y)) (and-false (eqb y b))
           go (no f) =
-              ap (λ (v : Bool). (eqb y b && N (64 * j) x y) || (eqb y b && ((v && bit (x % 64) (getD row j 0)) && not (stored t 0 x (some y))))) (ne-eqb (x / 64) j f)
+              ap (λ (v : Bool). (eqb y b && N (64 * j) x y) || (eqb y b && ((v && bit (x % 64) (getD row j 0)) && not (live t x (some y))))) (ne-eqb (x / 64) j f)
               ∙ ap (λ (v : Bool). (eqb y b && N (64 * j) x y) || v) (and-false (eqb y b)) ∙ or-false (eqb y b && N (64 * j) x y)
-              ∙ ap (λ (v : Bool). eqb y b && v) (below-wider x (64 * j) (64 * (j + 1)) (rowBit row 0 x && not (stored s 0 x (some y))) (omega arith) (λ g k. absurd (f (omega arith))))
+              ∙ ap (λ (v : Bool). eqb y b && v) (below-wider x (64 * j) (64 * (j + 1)) (rowBit row 0 x && not (live s x (some y))) (omega arith) (λ g k. absurd (f (omega arith))))
 
-  pub words-all : (t : List ℕ) (j w : ℕ) → j ≡ w → Joins base s t (newcomers (64 * j) row b (stored s 0)) → Joins base s t (newcomers (64 * w) row b (stored s 0))
+  pub words-all : (t : List ℕ) (j w : ℕ) → j ≡ w → Joins base s t (newcomers (64 * j) row b (live s)) → Joins base s t (newcomers (64 * w) row b (live s))
   words-all t j w e p = rw e at p
 
 -- ---- the ends, one after the other; a is the next, or the bound n
@@ -286,28 +286,28 @@ module _ (x : RuleSheet) (w : ℕ) (low : 2 ^ streams x ≤ 64 * w) where
   turned false r n m e = ap (λ (u : Bool). u && n) e
 
   pub column-joins : (base layer : ℕ) (s t row : List ℕ) (b : ℕ) → Row w row (λ a. allowed x a && meets x (64 * w) (stored s layer) a b)
-      → Joins base s t (newcomers (64 * w) row b (stored s 0)) → Joins base s t (joinersAt x (64 * w) b (stored s 0) (stored s layer))
+      → Joins base s t (newcomers (64 * w) row b (live s)) → Joins base s t (joinersAt x (64 * w) b (live s) (stored s layer))
   unfolding newcomers joinersAt joining
-  column-joins base layer s t row b h j = joins-as base s t (newcomers (64 * w) row b (stored s 0)) (joinersAt x (64 * w) b (stored s 0) (stored s layer)) j at
+  column-joins base layer s t row b h j = joins-as base s t (newcomers (64 * w) row b (live s)) (joinersAt x (64 * w) b (live s) (stored s layer)) j at
     where
       K : ℕ → ℕ → Bool
-      K a c = joining x (64 * w) (stored s 0) (stored s layer) a c
+      K a c = joining x (64 * w) (live s) (stored s layer) a c
 
-      at : (a : ℕ) (y : Option ℕ) → a < 256 → Within 256 y → newcomers (64 * w) row b (stored s 0) a y ≡ joinersAt x (64 * w) b (stored s 0) (stored s layer) a y
+      at : (a : ℕ) (y : Option ℕ) → a < 256 → Within 256 y → newcomers (64 * w) row b (live s) a y ≡ joinersAt x (64 * w) b (live s) (stored s layer) a y
       at a none ha hy = refl
       at a (some c) ha hy = go (ℕ-discrete c b) (decLt a (64 * w))
         where
-          go : Dec (c ≡ b) → Dec (a < 64 * w) → (eqb c b && (ltb a (64 * w) && (rowBit row 0 a && not (stored s 0 a (some c))))) ≡ (eqb c b && K a c)
-          go (no d) l = ap (λ (u : Bool). u && (ltb a (64 * w) && (rowBit row 0 a && not (stored s 0 a (some c))))) (ne-eqb c b d) ∙ sym (ap (λ (u : Bool). u && K a c) (ne-eqb c b d))
+          go : Dec (c ≡ b) → Dec (a < 64 * w) → (eqb c b && (ltb a (64 * w) && (rowBit row 0 a && not (live s a (some c))))) ≡ (eqb c b && K a c)
+          go (no d) l = ap (λ (u : Bool). u && (ltb a (64 * w) && (rowBit row 0 a && not (live s a (some c))))) (ne-eqb c b d) ∙ sym (ap (λ (u : Bool). u && K a c) (ne-eqb c b d))
           go (yes d) (yes l) =
               ap (λ (u : Bool). eqb c b && u)
-              (ap (λ (u : Bool). u && (rowBit row 0 a && not (stored s 0 a (some c)))) (lt-ltb a (64 * w) l)
-              ∙ turned (allowed x a) (rowBit row 0 a) (not (stored s 0 a (some c))) (meets x (64 * w) (stored s layer) a c)
+              (ap (λ (u : Bool). u && (rowBit row 0 a && not (live s a (some c)))) (lt-ltb a (64 * w) l)
+              ∙ turned (allowed x a) (rowBit row 0 a) (not (live s a (some c))) (meets x (64 * w) (stored s layer) a c)
               (h a l ∙ ap (λ (k : ℕ). allowed x a && meets x (64 * w) (stored s layer) a k) (sym d)))
           go (yes d) (no l) =
               ap (λ (u : Bool). eqb c b && u)
-              (ap (λ (u : Bool). u && (rowBit row 0 a && not (stored s 0 a (some c)))) (le-ltb a (64 * w) (omega arith))
-              ∙ sym (ap (λ (u : Bool). u && (not (stored s 0 a (some c)) && meets x (64 * w) (stored s layer) a c)) (beyond-none a (omega arith))))
+              (ap (λ (u : Bool). u && (rowBit row 0 a && not (live s a (some c)))) (le-ltb a (64 * w) (omega arith))
+              ∙ sym (ap (λ (u : Bool). u && (not (live s a (some c)) && meets x (64 * w) (stored s layer) a c)) (beyond-none a (omega arith))))
 
 -- ---- the rows of a layer, one after the other; b is the next, or the bound
 
@@ -327,10 +327,10 @@ lost false u v = refl
 
 module _ (x : RuleSheet) (w layer next : ℕ) (hw : w ≤ 4) (occ s : List ℕ) (o : Occupied w occ s layer) where
   abbrev K : ℕ → ℕ → Bool
-  K a c = joining x (64 * w) (stored s 0) (stored s layer) a c
+  K a c = joining x (64 * w) (live s) (stored s layer) a c
 
   abbrev J : ℕ → Pairs
-  J b = joiners x (64 * w) b (stored s 0) (stored s layer)
+  J b = joiners x (64 * w) b (live s) (stored s layer)
 
   -- the rows that are passed over have no pair
   passed : (from b : ℕ) → NextBit occ 0 w from b → (c : ℕ) (y : Option ℕ) → from ≤ c → c < b → Within 256 y → stored s layer c y ≡ false
@@ -341,7 +341,7 @@ module _ (x : RuleSheet) (w layer next : ℕ) (hw : w ≤ 4) (occ s : List ℕ) 
   joiners-skip from b n a none = refl
   joiners-skip from b n a (some c) =
       below-wider c from b (K a c) (n .onward)
-      (λ l h. idle x (64 * w) (stored s 0) (stored s layer) a c (λ y g. passed from b n c y l h (wider (64 * w) 256 (omega arith) y g)))
+      (λ l h. idle x (64 * w) (live s) (stored s layer) a c (λ y g. passed from b n c y l h (wider (64 * w) 256 (omega arith) y g)))
 
   left-skip : (from b : ℕ) → NextBit occ 0 w from b → (a : ℕ) (y : Option ℕ) → Within 256 y → (stored s layer a y && not (ltb a from)) ≡ (stored s layer a y && not (ltb a b))
   left-skip from b n a y hy = go (decLt a from) (decLt a b)
@@ -354,8 +354,8 @@ module _ (x : RuleSheet) (w layer next : ℕ) (hw : w ≤ 4) (occ s : List ℕ) 
   pub swept-first : (b : ℕ) → NextBit occ 0 w 0 b → Swept x (64 * w) b layer next s s
   unfolding joiners
   swept-first b n = record {
-    frame = framed-none 0 3084 s;
-    live = λ a y ha hy. sym (ap (λ (u : Bool). stored s 0 a y || u) (sym (joiners-skip 0 b n a y) ∙ none-yet a y) ∙ or-false (stored s 0 a y));
+    frame = framed-none liveAt storageWords s;
+    live = λ a y ha hy. sym (ap (λ (u : Bool). live s a y || u) (sym (joiners-skip 0 b n a y) ∙ none-yet a y) ∙ or-false (live s a y));
     gained = λ a y ha hy. sym (ap (λ (u : Bool). stored s next a y || u) (sym (joiners-skip 0 b n a y) ∙ none-yet a y) ∙ or-false (stored s next a y));
     left = λ a y ha hy. sym (sym (left-skip 0 b n a y hy) ∙ ap (λ (u : Bool). stored s layer a y && not u) (le-ltb a 0 (omega arith)) ∙ and-true (stored s layer a y));
   }
@@ -364,29 +364,29 @@ module _ (x : RuleSheet) (w layer next : ℕ) (hw : w ≤ 4) (occ s : List ℕ) 
       none-yet a none = refl
       none-yet a (some c) = below-none c (K a c)
 
-  module _ (low : 1028 ≤ layer) (high : layer ≤ 2056) (next-high : next ≤ 2056) (apart : Apart layer next) (t u z : List ℕ) (b b′ : ℕ) (hb : b < 64 * w)
-      (p : Swept x (64 * w) b layer next s t) (q : Joins next t u (joinersAt x (64 * w) b (stored t 0) (stored t layer))) (r : RowTaken layer b u z) (n : NextBit occ 0 w (b + 1) b′) where
+  module _ (low : reachedAt ≤ layer) (high : layer ≤ scratchAt) (next-high : next ≤ scratchAt) (apart : Apart layer next) (t u z : List ℕ) (b b′ : ℕ) (hb : b < 64 * w)
+      (p : Swept x (64 * w) b layer next s t) (q : Joins next t u (joinersAt x (64 * w) b (live t) (stored t layer))) (r : RowTaken layer b u z) (n : NextBit occ 0 w (b + 1) b′) where
     layer-kept : (a : ℕ) (y : Option ℕ) → a < 256 → Within 256 y → stored u layer a y ≡ stored t layer a y
     layer-kept a y ha hy = stored-eq t u layer layer a y ha hy (λ k h. go k h apart)
       where
-        go : (k : ℕ) → k < 1028 → Apart layer next → getD u (layer + k) 0 ≡ getD t (layer + k) 0
+        go : (k : ℕ) → k < setWords → Apart layer next → getD u (layer + k) 0 ≡ getD t (layer + k) 0
         go k h (inl d) = q .between (layer + k) (omega arith) (omega arith)
         go k h (inr d) = q .frame .beyond (layer + k) (omega arith)
 
     -- the row is still as it was, and so are the pairs with b
-    same : (a : ℕ) → a < 256 → joining x (64 * w) (stored t 0) (stored t layer) a b ≡ K a b
+    same : (a : ℕ) → a < 256 → joining x (64 * w) (live t) (stored t layer) a b ≡ K a b
     unfolding joiners
     same a ha =
-        joining-same x (64 * w) (stored t 0) (stored s 0) (stored t layer) (stored s layer) a b
-        (p .live a (some b) ha (omega arith) ∙ ap (λ (u : Bool). stored s 0 a (some b) || u) (ap (λ (u : Bool). u && K a b) (le-ltb b b (omega arith))) ∙ or-false (stored s 0 a (some b)))
+        joining-same x (64 * w) (live t) (live s) (stored t layer) (stored s layer) a b
+        (p .live a (some b) ha (omega arith) ∙ ap (λ (u : Bool). live s a (some b) || u) (ap (λ (u : Bool). u && K a b) (le-ltb b b (omega arith))) ∙ or-false (live s a (some b)))
         (λ c h. p .left b c (omega arith) (wider (64 * w) 256 (omega arith) c h) ∙ ap (λ (u : Bool). stored s layer b c && not u) (le-ltb b b (omega arith)) ∙ and-true (stored s layer b c))
 
-    more : (a : ℕ) (y : Option ℕ) → a < 256 → (J b a y || joinersAt x (64 * w) b (stored t 0) (stored t layer) a y) ≡ J b′ a y
+    more : (a : ℕ) (y : Option ℕ) → a < 256 → (J b a y || joinersAt x (64 * w) b (live t) (stored t layer) a y) ≡ J b′ a y
     unfolding joiners joinersAt
     more a none ha = refl
     more a (some c) ha =
-        below-more c b (K a c) (joining x (64 * w) (stored t 0) (stored t layer) a c)
-        (λ d. ap (joining x (64 * w) (stored t 0) (stored t layer) a) d ∙ same a ha ∙ ap (K a) (sym d))
+        below-more c b (K a c) (joining x (64 * w) (live t) (stored t layer) a c)
+        (λ d. ap (joining x (64 * w) (live t) (stored t layer) a) d ∙ same a ha ∙ ap (K a) (sym d))
         ∙ joiners-skip (b + 1) b′ n a (some c)
 
     below-next : (a : ℕ) → (ltb a b || eqb a b) ≡ ltb a (b + 1)
@@ -396,12 +396,12 @@ module _ (x : RuleSheet) (w layer next : ℕ) (hw : w ≤ 4) (occ s : List ℕ) 
     swept-more = record {
       frame = framed-then (p .frame) (framed-then (framed-wider (omega arith) (omega arith) (q .frame)) (framed-wider (omega arith) (omega arith) (r .frame)));
       live = λ a y ha hy.
-          framed-before (r .frame) 0 a y ha hy (omega arith) ∙ q .live a y ha hy
-          ∙ ap (λ (v : Bool). v || joinersAt x (64 * w) b (stored t 0) (stored t layer) a y) (p .live a y ha hy)
-          ∙ or-assoc (stored s 0 a y) (J b a y) (joinersAt x (64 * w) b (stored t 0) (stored t layer) a y) ∙ ap (λ (v : Bool). stored s 0 a y || v) (more a y ha);
+          framed-before (r .frame) liveAt a y ha hy (omega arith) ∙ q .live a y ha hy
+          ∙ ap (λ (v : Bool). v || joinersAt x (64 * w) b (live t) (stored t layer) a y) (p .live a y ha hy)
+          ∙ or-assoc (live s a y) (J b a y) (joinersAt x (64 * w) b (live t) (stored t layer) a y) ∙ ap (λ (v : Bool). live s a y || v) (more a y ha);
       gained = λ a y ha hy.
-          framed-beside apart (r .frame) a y ha hy ∙ q .next a y ha hy ∙ ap (λ (v : Bool). v || joinersAt x (64 * w) b (stored t 0) (stored t layer) a y) (p .gained a y ha hy)
-          ∙ or-assoc (stored s next a y) (J b a y) (joinersAt x (64 * w) b (stored t 0) (stored t layer) a y) ∙ ap (λ (v : Bool). stored s next a y || v) (more a y ha);
+          framed-beside apart (r .frame) a y ha hy ∙ q .next a y ha hy ∙ ap (λ (v : Bool). v || joinersAt x (64 * w) b (live t) (stored t layer) a y) (p .gained a y ha hy)
+          ∙ or-assoc (stored s next a y) (J b a y) (joinersAt x (64 * w) b (live t) (stored t layer) a y) ∙ ap (λ (v : Bool). stored s next a y || v) (more a y ha);
       left = λ a y ha hy.
           r .taken a y ha hy ∙ ap (λ (v : Bool). v && not (eqb a b)) (layer-kept a y ha hy ∙ p .left a y ha hy) ∙ lost (stored s layer a y) (ltb a b) (eqb a b)
           ∙ ap (λ (v : Bool). stored s layer a y && not v) (below-next a) ∙ left-skip (b + 1) b′ n a y hy;

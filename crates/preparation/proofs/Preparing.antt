@@ -10,7 +10,7 @@ use Rattle.sheet.specs.Reading.{Below}
 use Rattle.sheet.specs.declared.Assumed.{Assumed}
 use Rattle.completions.specs.Live.{allowed, countPairs}
 use Rattle.completions.proofs.Backward.{bound-256}
-use Rattle.pairs.specs.Storage.{stored}
+use Rattle.pairs.specs.Storage.{live, reachedAt, scratchAt, maxPairs}
 use Rattle.pairs.specs.Changes.{NextBit}
 use Rattle.lanes.specs.Coded.{sheetOf}
 use Rattle.unions.specs.Rows.{Row}
@@ -24,14 +24,14 @@ module _ (m n : ℕ) (code len : List ℕ) (few : m + n ≤ 8) where
   small ks = streams-low m n code len ks 256 (two-to (m + n) few .2)
 
   -- no more layers than pairs
-  pub search-bound : (ks s₀ s : List ℕ) (layer next d : ℕ) → Searching (sheetOf m n code len ks) layer next s₀ s d → d ≤ 65792
-  search-bound ks s₀ s layer next d p = omega (arith, p .grown, bound-256 (stored s 0))
+  pub search-bound : (ks s₀ s : List ℕ) (layer next d : ℕ) → Searching (sheetOf m n code len ks) layer next s₀ s d → d ≤ maxPairs
+  search-bound ks s₀ s layer next d p = omega (arith, p .grown, bound-256 (live s))
 
   module _ (w v : ℕ) (valuations : v ≡ 2 ^ (m + n)) (low : v ≤ 64 * w) (high : w ≤ 4) where
     room : (ks : List ℕ) → 2 ^ streams (sheetOf m n code len ks) ≤ 64 * w
     room ks = streams-low m n code len ks (64 * w) (omega arith)
 
-    pub search-begin : (ks row s t : List ℕ) → Row w row (allowed (sheetOf m n code len ks)) → Started w row s t → Searching (sheetOf m n code len ks) 1028 2056 t t 0
+    pub search-begin : (ks row s t : List ℕ) → Row w row (allowed (sheetOf m n code len ks)) → Started w row s t → Searching (sheetOf m n code len ks) reachedAt scratchAt t t 0
     search-begin ks row s t r p = search-start (sheetOf m n code len ks) w (room ks) row s t r p
 
     pub search-step : (ks s₀ s t rows : List ℕ) (layer next d r : ℕ) → Searching (sheetOf m n code len ks) layer next s₀ s d → Occupied w rows s layer → NextBit rows 0 w 0 r → r < 64 * w
@@ -46,8 +46,8 @@ module _ (m n : ℕ) (code len : List ℕ) (few : m + n ≤ 8) where
         let a = some-allowed m n code len assumption below few in
         some-layer (sheetOf m n code len (requiredOf assumption)) (small (requiredOf assumption)) w layer next s₀ s rows d r p o b done (a .0) (a .1) (a .2)
 
-    pub search-finish : (s₁ row : List ℕ) (k : ℕ) → Apart layer next → (1028 ≤ layer) × (layer ≤ 2056) × (1028 ≤ next) × (next ≤ 2056) → ((i : ℕ) → getD s i 0 < 2 ^ 64) → Started w row s₁ s₀
-        → k ≡ countPairs 256 (stored s 0) → k ≤ 65792
+    pub search-finish : (s₁ row : List ℕ) (k : ℕ) → Apart layer next → (reachedAt ≤ layer) × (layer ≤ scratchAt) × (reachedAt ≤ next) × (next ≤ scratchAt) → ((i : ℕ) → getD s i 0 < 2 ^ 64) → Started w row s₁ s₀
+        → k ≡ countPairs 256 (live s) → k ≤ maxPairs
         → Prepared (sheetOf m n code len (requiredOf assumption)) s₁ s k × Reach (sheetOf m n code len (requiredOf assumption)) (d - 1) × (d - 1 < k)
     search-finish s₁ row k places bounds fit st e bd =
         let a = some-allowed m n code len assumption below few in

@@ -19,7 +19,7 @@ use Rattle.completions.specs.Steps.{Within, Represents}
 use Rattle.completions.proofs.Count.{pairs-lt, pairs-le}
 use Rattle.completions.proofs.Backward.{endSet, liveWithin, layer}
 use Rattle.completions.proofs.Range.{wider}
-use Rattle.pairs.specs.Storage.{slot, stored}
+use Rattle.pairs.specs.Storage.{stored, slot, live, setWords, liveAt, reachedAt, scratchAt, storageWords, maxPairs}
 use Rattle.pairs.specs.Changes.{rowBit, Framed, NextBit, Zeroed}
 use Rattle.pairs.proofs.Frames.{framed-none, framed-then, framed-wider}
 use Rattle.pairs.proofs.Sets.{framed-before, framed-beyond, zeroed-none, set-ext}
@@ -32,21 +32,21 @@ use Rattle.preparation.proofs.Joining.{beyond-none}
 
 -- ---- the parts of the code
 
-pub started : (w : ℕ) (row s t u v z : List ℕ) → Zeroed 0 1028 s t → Zeroed 1028 1028 t u → Zeroed 2056 1028 u v → Joins 1028 v z (enders (64 * w) row) → Started w row s z
+pub started : (w : ℕ) (row s t u v z : List ℕ) → Zeroed liveAt setWords s t → Zeroed reachedAt setWords t u → Zeroed scratchAt setWords u v → Joins reachedAt v z (enders (64 * w) row) → Started w row s z
 started w row s t u v z c d e j = record {
   frame = framed-then (framed-then (framed-wider (omega arith) (omega arith) (c .frame)) (framed-wider (omega arith) (omega arith) (d .frame)))
       (framed-then (framed-wider (omega arith) (omega arith) (e .frame)) (framed-wider (omega arith) (omega arith) (j .frame)));
   live = λ x y hx hy.
       j .live x y hx hy
       ∙ ap (λ (b : Bool). b || enders (64 * w) row x y)
-      (framed-before (e .frame) 0 x y hx hy (omega arith) ∙ framed-before (d .frame) 0 x y hx hy (omega arith) ∙ zeroed-none 0 s t c x y hx hy);
+      (framed-before (e .frame) liveAt x y hx hy (omega arith) ∙ framed-before (d .frame) liveAt x y hx hy (omega arith) ∙ zeroed-none liveAt s t c x y hx hy);
   layer = λ x y hx hy.
-      j .next x y hx hy ∙ ap (λ (b : Bool). b || enders (64 * w) row x y) (framed-before (e .frame) 1028 x y hx hy (omega arith) ∙ zeroed-none 1028 t u d x y hx hy);
-  next = λ x y hx hy. framed-beyond (j .frame) 2056 x y hx hy (omega arith) ∙ zeroed-none 2056 u v e x y hx hy;
+      j .next x y hx hy ∙ ap (λ (b : Bool). b || enders (64 * w) row x y) (framed-before (e .frame) reachedAt x y hx hy (omega arith) ∙ zeroed-none reachedAt t u d x y hx hy);
+  next = λ x y hx hy. framed-beyond (j .frame) scratchAt x y hx hy (omega arith) ∙ zeroed-none scratchAt u v e x y hx hy;
 }
 
 -- the rows of the first layer are those of its ends
-pub rows-started : (w : ℕ) (row s t : List ℕ) → w ≤ 4 → Started w row s t → Occupied w row t 1028
+pub rows-started : (w : ℕ) (row s t : List ℕ) → w ≤ 4 → Started w row s t → Occupied w row t reachedAt
 unfolding enders
 rows-started w row s t hw p = record {
   none-there = λ x y hx hy f. p .layer x y hx hy ∙ none-in x y f;
@@ -78,13 +78,13 @@ module _ (x : RuleSheet) (n v : ℕ) (hn : n ≤ 256) where
 -- ---- the search after d layers
 
 pub record Searching (x : RuleSheet) (layer next : ℕ) (s₀ s : List ℕ) (d : ℕ) : Type 0 where
-  pub frame : Framed 0 3084 s₀ s
-  pub live : (a : ℕ) (y : Option ℕ) → a < 256 → Within 256 y → stored s 0 a y ≡ liveWithin x 256 d a y
+  pub frame : Framed liveAt storageWords s₀ s
   pub newest : (a : ℕ) (y : Option ℕ) → a < 256 → Within 256 y → stored s layer a y ≡ fresh x d a y
   pub free : (a : ℕ) (y : Option ℕ) → a < 256 → Within 256 y → stored s next a y ≡ false
-  pub grown : d ≤ countPairs 256 (stored s 0)
-  pub grows : (a : ℕ) (y : Option ℕ) → a < 256 → Within 256 y → stored s layer a y ≡ true → d < countPairs 256 (stored s 0)
+  pub grown : d ≤ countPairs 256 (live s)
+  pub grows : (a : ℕ) (y : Option ℕ) → a < 256 → Within 256 y → stored s layer a y ≡ true → d < countPairs 256 (live s)
   pub last : (e : ℕ) → d ≡ suc e → (a : ℕ) × (b : Option ℕ) × T (fresh x e a b)
+  pub live : (a : ℕ) (y : Option ℕ) → a < 256 → Within 256 y → live s a y ≡ liveWithin x 256 d a y
 
 module _ (x : RuleSheet) (w : ℕ) (low : 2 ^ streams x ≤ 64 * w) where
   ends-set : (row : List ℕ) → Row w row (allowed x) → (a : ℕ) (y : Option ℕ) → enders (64 * w) row a y ≡ liveWithin x 256 0 a y
@@ -96,10 +96,10 @@ module _ (x : RuleSheet) (w : ℕ) (low : 2 ^ streams x ≤ 64 * w) where
       go (yes l) = ap₂ _&&_ (lt-ltb a (64 * w) l) (r a l)
       go (no l) = ap (λ (u : Bool). u && rowBit row 0 a) (le-ltb a (64 * w) (omega arith)) ∙ sym (beyond-none x w low a (omega arith))
 
-  pub search-start : (row s t : List ℕ) → Row w row (allowed x) → Started w row s t → Searching x 1028 2056 t t 0
+  pub search-start : (row s t : List ℕ) → Row w row (allowed x) → Started w row s t → Searching x reachedAt scratchAt t t 0
   unfolding fresh liveWithin
   search-start row s t r p = record {
-    frame = framed-none 0 3084 t;
+    frame = framed-none liveAt storageWords t;
     live = λ a y ha hy. p .live a y ha hy ∙ ends-set row r a y;
     newest = λ a y ha hy. p .layer a y ha hy ∙ ends-set row r a y;
     free = p .next;
@@ -108,8 +108,8 @@ module _ (x : RuleSheet) (w : ℕ) (low : 2 ^ streams x ≤ 64 * w) where
         let none-yet : Pairs = λ a b. false in
         omega (
           arith,
-          pairs-lt 256 none-yet (stored t 0) (λ a b ha hb t. absurd t) a y ha hy tt
-              (of-true (stored t 0 a y) (p .live a y ha hy ∙ sym (p .layer a y ha hy) ∙ e)),
+          pairs-lt 256 none-yet (live t) (λ a b ha hb t. absurd t) a y ha hy tt
+              (of-true (live t a y) (p .live a y ha hy ∙ sym (p .layer a y ha hy) ∙ e)),
         );
     last = λ e h. absurd (omega arith);
   }
@@ -121,10 +121,10 @@ module _ (x : RuleSheet) (w : ℕ) (low : 2 ^ streams x ≤ 64 * w) where
     pair = o .some-there r go-on (n .found go-on)
 
     same : (a : ℕ) (y : Option ℕ) → a < 256 → Within 256 y
-        → joiners x (64 * w) (64 * w) (stored s 0) (stored s layer) a y ≡ joiners x (64 * w) (64 * w) (liveWithin x 256 d) (fresh x d) a y
-    same = joiners-same x (64 * w) (64 * w) high (stored s 0) (liveWithin x 256 d) (stored s layer) (fresh x d) (p .live) (p .newest)
+        → joiners x (64 * w) (64 * w) (live s) (stored s layer) a y ≡ joiners x (64 * w) (64 * w) (liveWithin x 256 d) (fresh x d) a y
+    same = joiners-same x (64 * w) (64 * w) high (live s) (liveWithin x 256 d) (stored s layer) (fresh x d) (p .live) (p .newest)
 
-    live-now : (a : ℕ) (y : Option ℕ) → a < 256 → Within 256 y → stored t 0 a y ≡ liveWithin x 256 (suc d) a y
+    live-now : (a : ℕ) (y : Option ℕ) → a < 256 → Within 256 y → live t a y ≡ liveWithin x 256 (suc d) a y
     live-now a y ha hy = q .live a y ha hy ∙ ap₂ _||_ (p .live a y ha hy) (same a y ha hy) ∙ sym (within-next x small (64 * w) low high d a y ha hy)
 
     newest-now : (a : ℕ) (y : Option ℕ) → a < 256 → Within 256 y → stored t next a y ≡ fresh x (suc d) a y
@@ -138,26 +138,26 @@ module _ (x : RuleSheet) (w : ℕ) (low : 2 ^ streams x ≤ 64 * w) where
         go (yes h) = ap (λ (u : Bool). stored s layer a y && not u) (lt-ltb a (64 * w) h) ∙ and-false (stored s layer a y)
         go (no h) = ap (λ (u : Bool). u && not (ltb a (64 * w))) (o .none-there a y ha hy (λ g. absurd (h g)))
 
-    kept : (a : ℕ) (y : Option ℕ) → a < 256 → Within 256 y → T (stored s 0 a y) → T (stored t 0 a y)
-    kept a y ha hy h = rw (q .live a y ha hy) (or-left (stored s 0 a y) (joiners x (64 * w) (64 * w) (stored s 0) (stored s layer) a y) h)
+    kept : (a : ℕ) (y : Option ℕ) → a < 256 → Within 256 y → T (live s a y) → T (live t a y)
+    kept a y ha hy h = rw (q .live a y ha hy) (or-left (live s a y) (joiners x (64 * w) (64 * w) (live s) (stored s layer) a y) h)
 
-    new-pair : (a : ℕ) (y : Option ℕ) → a < 256 → Within 256 y → stored t next a y ≡ true → countPairs 256 (stored s 0) < countPairs 256 (stored t 0)
+    new-pair : (a : ℕ) (y : Option ℕ) → a < 256 → Within 256 y → stored t next a y ≡ true → countPairs 256 (live s) < countPairs 256 (live t)
     unfolding fresh layer
     new-pair a y ha hy e =
         let f : T (liveWithin x 256 (suc d) a y && not (liveWithin x 256 d a y)) = of-true _ (sym (newest-now a y ha hy) ∙ e) in
-        pairs-lt 256 (stored s 0) (stored t 0) kept a y ha hy
+        pairs-lt 256 (live s) (live t) kept a y ha hy
         (rw (p .live a y ha hy) (and-right (liveWithin x 256 (suc d) a y) (not (liveWithin x 256 d a y)) f))
         (rw (live-now a y ha hy) (and-left (liveWithin x 256 (suc d) a y) (not (liveWithin x 256 d a y)) f))
 
     pub search-more : Searching x next layer s₀ t (suc d)
     search-more =
-        let l : d < countPairs 256 (stored s 0) = p .grows r (pair .0) (omega arith) (pair .1) (pair .2) in
+        let l : d < countPairs 256 (live s) = p .grows r (pair .0) (omega arith) (pair .1) (pair .2) in
         record {
           frame = framed-then (p .frame) (q .frame);
           live = live-now;
           newest = newest-now;
           free = free-now;
-          grown = omega (arith, l, pairs-le 256 (stored s 0) (stored t 0) kept);
+          grown = omega (arith, l, pairs-le 256 (live s) (live t) kept);
           grows = λ a y ha hy e. omega (arith, l, new-pair a y ha hy e);
           last = λ e h.
               let g : d ≡ e = omega arith in
@@ -172,7 +172,7 @@ apart-turned a b (inr h) = inl h
 -- ---- the end of the search
 
 -- the words of a set with no pair are 0
-words-none : (s : List ℕ) (base : ℕ) → ((k : ℕ) → getD s k 0 < 2 ^ 64) → ((a : ℕ) (y : Option ℕ) → a < 256 → Within 256 y → stored s base a y ≡ false) → (k : ℕ) → k < 1028 → getD s (base + k) 0 ≡ 0
+words-none : (s : List ℕ) (base : ℕ) → ((k : ℕ) → getD s k 0 < 2 ^ 64) → ((a : ℕ) (y : Option ℕ) → a < 256 → Within 256 y → stored s base a y ≡ false) → (k : ℕ) → k < setWords → getD s (base + k) 0 ≡ 0
 unfolding stored
 words-none s base fit f k h = set-ext s [] base 0 (λ k h. fit (base + k)) (λ k h. omega arith) (λ a y ha hy. f a y ha hy ∙ sym (bit-none (slot a y))) k h
 
@@ -193,7 +193,7 @@ module _ (x : RuleSheet) (small : 2 ^ streams x ≤ 256) (w layer next : ℕ) (s
       go (suc k) e = omega arith
 
   -- the layer before the empty one
-  found : (e : ℕ) → d ≡ suc e → Represents 256 (stored s 0) (Live x) × Reach x e
+  found : (e : ℕ) → d ≡ suc e → Represents 256 (live s) (Live x) × Reach x e
   found e h = (represents, reach-is x small e none-left (y .0) (y .1) (y .2))
     where
       none-left : (a : ℕ) (b : Option ℕ) → a < 256 → Within 256 b → fresh x (suc e) a b ≡ false
@@ -202,19 +202,19 @@ module _ (x : RuleSheet) (small : 2 ^ streams x ≤ 256) (w layer next : ℕ) (s
       y : (a : ℕ) × (b : Option ℕ) × T (fresh x e a b)
       y = p .last e h
 
-      is : (a : ℕ) (b : Option ℕ) → a < 256 → Within 256 b → stored s 0 a b ≡ liveWithin x 256 (suc e) a b
+      is : (a : ℕ) (b : Option ℕ) → a < 256 → Within 256 b → live s a b ≡ liveWithin x 256 (suc e) a b
       is a b ha hb = p .live a b ha hb ∙ ap (λ (k : ℕ). liveWithin x 256 k a b) h
 
-      represents : Represents 256 (stored s 0) (Live x)
+      represents : Represents 256 (live s) (Live x)
       represents a b ha hb = rw (is a b ha hb) (all-found x small e none-left a b ha hb)
 
-  module _ (s₁ row : List ℕ) (r : ℕ) (places : Apart layer next) (low : (1028 ≤ layer) × (layer ≤ 2056) × (1028 ≤ next) × (next ≤ 2056)) (fit : (k : ℕ) → getD s k 0 < 2 ^ 64)
-      (st : Started w row s₁ s₀) (c : r ≡ countPairs 256 (stored s 0)) (bd : r ≤ 65792) where
+  module _ (s₁ row : List ℕ) (r : ℕ) (places : Apart layer next) (low : (reachedAt ≤ layer) × (layer ≤ scratchAt) × (reachedAt ≤ next) × (next ≤ scratchAt)) (fit : (k : ℕ) → getD s k 0 < 2 ^ 64)
+      (st : Started w row s₁ s₀) (c : r ≡ countPairs 256 (live s)) (bd : r ≤ maxPairs) where
     -- the two sets fill the words from 1,028 on
-    zero-now : (i base : ℕ) → base ≤ i → i < base + 1028 → ((a : ℕ) (y : Option ℕ) → a < 256 → Within 256 y → stored s base a y ≡ false) → getD s i 0 ≡ 0
+    zero-now : (i base : ℕ) → base ≤ i → i < base + setWords → ((a : ℕ) (y : Option ℕ) → a < 256 → Within 256 y → stored s base a y ≡ false) → getD s i 0 ≡ 0
     zero-now i base h l f = let e : i ≡ base + (i - base) = omega arith in ap (λ (j : ℕ). getD s j 0) e ∙ words-none s base fit f (i - base) (omega arith)
 
-    wiped : (i : ℕ) → 1028 ≤ i → i < 3084 → Apart layer next → Dec (i < 2056) → getD s i 0 ≡ 0
+    wiped : (i : ℕ) → reachedAt ≤ i → i < storageWords → Apart layer next → Dec (i < scratchAt) → getD s i 0 ≡ 0
     wiped i h l (inl g) (yes b) = zero-now i layer (omega arith) (omega arith) gone
     wiped i h l (inl g) (no b) = zero-now i next (omega arith) (omega arith) (p .free)
     wiped i h l (inr g) (yes b) = zero-now i next (omega arith) (omega arith) (p .free)
@@ -223,11 +223,11 @@ module _ (x : RuleSheet) (small : 2 ^ streams x ≤ 256) (w layer next : ℕ) (s
     pub search-end : Prepared x s₁ s r × Reach x (d - 1) × (d - 1 < r)
     search-end =
         let e : d ≡ suc (d - 1) = omega (arith, some-layer) in
-        let f : Represents 256 (stored s 0) (Live x) × Reach x (d - 1) = found (d - 1) e in (
+        let f : Represents 256 (live s) (Live x) × Reach x (d - 1) = found (d - 1) e in (
           record {
             frame = framed-then (st .frame) (p .frame);
             live = f .0;
-            cleared = λ i h l. wiped i h l places (decLt i 2056);
+            cleared = λ i h l. wiped i h l places (decLt i scratchAt);
             counted = c;
             bound = bd;
           },

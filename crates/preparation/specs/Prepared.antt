@@ -7,17 +7,17 @@ use lib.ListN.{length, getD}
 use Rattle.sheet.specs.RuleSheet.{RuleSheet}
 use Rattle.completions.specs.Live.{Live, countPairs}
 use Rattle.completions.specs.Steps.{Represents}
-use Rattle.pairs.specs.Storage.{stored}
+use Rattle.pairs.specs.Storage.{live, liveAt, reachedAt, storageWords, maxPairs}
 use Rattle.pairs.specs.Changes.{Framed}
 
 -- From storage s preparation makes t, whatever s held: the live set is exactly the live pairs, the reached set and the scratch set are
--- empty, the numbers past 3,084 are untouched. It returns the exact number of live pairs, at most 65,792.
+-- empty, the words past the three sets are untouched. It returns the exact number of live pairs, and that this is at most what a set can hold.
 pub record Prepared (x : RuleSheet) (s t : List ℕ) (count : ℕ) : Type 0 where
-  pub frame : Framed 0 3084 s t
-  pub live : Represents 256 (stored t 0) (Live x)
-  pub cleared : (k : ℕ) → 1028 ≤ k → k < 3084 → getD t k 0 ≡ 0
-  pub counted : count ≡ countPairs 256 (stored t 0)
-  pub bound : count ≤ 65792
+  pub frame : Framed liveAt storageWords s t
+  pub cleared : (k : ℕ) → reachedAt ≤ k → k < storageWords → getD t k 0 ≡ 0
+  pub counted : count ≡ countPairs 256 (live t)
+  pub bound : count ≤ maxPairs
+  pub live : Represents 256 (live t) (Live x)
 
 -- r is the greatest, over all live pairs, of the fewest further rounds from that pair to the end
 pub record Reach (x : RuleSheet) (r : ℕ) : Type 0 where

@@ -11,7 +11,7 @@ use Rattle.words.specs.Bits.{bit}
 use Rattle.sheet.specs.RuleSheet.{RuleSheet}
 use Rattle.completions.specs.Live.{Pairs, allowed}
 use Rattle.completions.specs.Steps.{Within}
-use Rattle.pairs.specs.Storage.{stored}
+use Rattle.pairs.specs.Storage.{stored, live, reached, scratch, setWords, liveAt, reachedAt, storageWords}
 use Rattle.pairs.specs.Changes.{Framed, rowBit}
 use Rattle.unions.specs.Rows.{meets}
 
@@ -46,9 +46,9 @@ enders n row a (some c) = false
 
 -- the live set and the set at `base` have both gained the pairs P, and no other word is changed
 pub record Joins (base : ℕ) (s t : List ℕ) (P : Pairs) : Type 0 where
-  pub frame : Framed 0 (base + 1028) s t
-  pub between : (k : ℕ) → 1028 ≤ k → k < base → getD t k 0 ≡ getD s k 0
-  pub live : (x : ℕ) (y : Option ℕ) → x < 256 → Within 256 y → stored t 0 x y ≡ (stored s 0 x y || P x y)
+  pub frame : Framed liveAt (base + setWords) s t
+  pub between : (k : ℕ) → reachedAt ≤ k → k < base → getD t k 0 ≡ getD s k 0
+  pub live : (x : ℕ) (y : Option ℕ) → x < 256 → Within 256 y → live t x y ≡ (live s x y || P x y)
   pub next : (x : ℕ) (y : Option ℕ) → x < 256 → Within 256 y → stored t base x y ≡ (stored s base x y || P x y)
 
 -- the rows of the set at `base` that have a pair are below 64 w, and they are the bits of the w words
@@ -58,18 +58,18 @@ pub record Occupied (w : ℕ) (rows s : List ℕ) (base : ℕ) : Type 0 where
 
 -- two sets have no word in common
 abbrev pub Apart : ℕ → ℕ → Type 0
-Apart base base′ = (base + 1028 ≤ base′) ⊎ (base′ + 1028 ≤ base)
+Apart base base′ = (base + setWords ≤ base′) ⊎ (base′ + setWords ≤ base)
 
 -- the storage where the search begins: the ends of the row's valuations are live, and they are the layer at 1,028
 pub record Started (w : ℕ) (row s t : List ℕ) : Type 0 where
-  pub frame : Framed 0 3084 s t
-  pub live : (x : ℕ) (y : Option ℕ) → x < 256 → Within 256 y → stored t 0 x y ≡ enders (64 * w) row x y
-  pub layer : (x : ℕ) (y : Option ℕ) → x < 256 → Within 256 y → stored t 1028 x y ≡ enders (64 * w) row x y
-  pub next : (x : ℕ) (y : Option ℕ) → x < 256 → Within 256 y → stored t 2056 x y ≡ false
+  pub frame : Framed liveAt storageWords s t
+  pub live : (x : ℕ) (y : Option ℕ) → x < 256 → Within 256 y → live t x y ≡ enders (64 * w) row x y
+  pub layer : (x : ℕ) (y : Option ℕ) → x < 256 → Within 256 y → reached t x y ≡ enders (64 * w) row x y
+  pub next : (x : ℕ) (y : Option ℕ) → x < 256 → Within 256 y → scratch t x y ≡ false
 
 -- the layer's rows below v are taken out, and what may stand before their pairs is live and in the next layer
 pub record Swept (x : RuleSheet) (n v layer next : ℕ) (s t : List ℕ) : Type 0 where
-  pub frame : Framed 0 3084 s t
-  pub live : (a : ℕ) (y : Option ℕ) → a < 256 → Within 256 y → stored t 0 a y ≡ (stored s 0 a y || joiners x n v (stored s 0) (stored s layer) a y)
-  pub gained : (a : ℕ) (y : Option ℕ) → a < 256 → Within 256 y → stored t next a y ≡ (stored s next a y || joiners x n v (stored s 0) (stored s layer) a y)
+  pub frame : Framed liveAt storageWords s t
+  pub gained : (a : ℕ) (y : Option ℕ) → a < 256 → Within 256 y → stored t next a y ≡ (stored s next a y || joiners x n v (live s) (stored s layer) a y)
   pub left : (a : ℕ) (y : Option ℕ) → a < 256 → Within 256 y → stored t layer a y ≡ (stored s layer a y && not (ltb a v))
+  pub live : (a : ℕ) (y : Option ℕ) → a < 256 → Within 256 y → live t a y ≡ (live s a y || joiners x n v (live s) (stored s layer) a y)

@@ -9,7 +9,7 @@ ghost use Prim.Native.Nat.{ℕ, _+_, _*_, _^_, _<_, _≤_};
 ghost use Rattle.sheet.specs.RuleSheet.{requiredOf};
 ghost use Rattle.sheet.specs.Reading.{Below};
 ghost use Rattle.completions.specs.Live.{allowed};
-ghost use Rattle.pairs.specs.Storage.{stored};
+ghost use Rattle.pairs.specs.Storage.{stored, live, reachedAt, scratchAt, storageWords};
 ghost use Rattle.pairs.specs.Changes.{eqNext};
 ghost use Rattle.lanes.specs.Coded.{Coded, sheetOf};
 ghost use Rattle.unions.specs.Rows.{Row};
@@ -19,22 +19,22 @@ use sheet::Assumed;
 
 // (a, b) joins the live set and the next layer, unless it is live. `rows` are the next layer's rows.
 fn join(s: &mut [u64], rows: &mut [u64], next: usize, a: usize, b: usize)
-    requires { ⌜ (a < 256) × (b < 256) × (1028 ≤ next) × (next ≤ 2056) × (length (now rows) ≡ 4) × (3084 ≤ length (now s)) ⌝ }
-    ensures { λ r. ⌜ Joins next (now (s .entry)) (now (s .exit)) (λ x y. eqb x a && (eqNext y (some b) && not (stored (now (s .entry)) 0 a (some b)))) ⌝ }
+    requires { ⌜ (a < 256) × (b < 256) × (reachedAt ≤ next) × (next ≤ scratchAt) × (length (now rows) ≡ 4) × (storageWords ≤ length (now s)) ⌝ }
+    ensures { λ r. ⌜ Joins next (now (s .entry)) (now (s .exit)) (λ x y. eqb x a && (eqNext y (some b) && not (live (now (s .entry)) a (some b)))) ⌝ }
     ensures { λ r. ⌜ ((w : ℕ) → w ≤ 4 → a < 64 * w → Occupied w (now (rows .entry)) (now (s .entry)) next → Occupied w (now (rows .exit)) (now (s .exit)) next) ⌝ }
 {
-    if pairs::has(s, 0, a, b) {
+    if pairs::has(s, pairs::LIVE, a, b) {
         return;
     }
-    pairs::insert(s, 0, a, b);
+    pairs::insert(s, pairs::LIVE, a, b);
     pairs::insert(s, next, a, b);
     pairs::note(rows, a);
 }
 
 // Each a = 64 * j + i with lane i of the word joins with b.
 fn join_word(s: &mut [u64], rows: &mut [u64], word: u64, j: usize, next: usize, b: usize)
-    requires { ⌜ (j < 4) × (b < 256) × (1028 ≤ next) × (next ≤ 2056) × (length (now rows) ≡ 4) × (3084 ≤ length (now s)) ⌝ }
-    ensures { λ r. ⌜ Joins next (now (s .entry)) (now (s .exit)) (newcomersIn j word b (stored (now (s .entry)) 0)) ⌝ }
+    requires { ⌜ (j < 4) × (b < 256) × (reachedAt ≤ next) × (next ≤ scratchAt) × (length (now rows) ≡ 4) × (storageWords ≤ length (now s)) ⌝ }
+    ensures { λ r. ⌜ Joins next (now (s .entry)) (now (s .exit)) (newcomersIn j word b (live (now (s .entry)))) ⌝ }
     ensures { λ r. ⌜ ((w : ℕ) → w ≤ 4 → j < w → Occupied w (now (rows .entry)) (now (s .entry)) next → Occupied w (now (rows .exit)) (now (s .exit)) next) ⌝ }
 {
     let mut rest = word;
@@ -47,8 +47,8 @@ fn join_word(s: &mut [u64], rows: &mut [u64], word: u64, j: usize, next: usize, 
 
 // Each a of the row joins with b.
 fn join_row(s: &mut [u64], rows: &mut [u64], row: &[u64], w: usize, next: usize, b: usize)
-    requires { ⌜ (w ≤ 4) × (b < 256) × (1028 ≤ next) × (next ≤ 2056) × (length (now row) ≡ 4) × (length (now rows) ≡ 4) × (3084 ≤ length (now s)) ⌝ }
-    ensures { λ r. ⌜ Joins next (now (s .entry)) (now (s .exit)) (newcomers (64 * w) (now (row .entry)) b (stored (now (s .entry)) 0)) ⌝ }
+    requires { ⌜ (w ≤ 4) × (b < 256) × (reachedAt ≤ next) × (next ≤ scratchAt) × (length (now row) ≡ 4) × (length (now rows) ≡ 4) × (storageWords ≤ length (now s)) ⌝ }
+    ensures { λ r. ⌜ Joins next (now (s .entry)) (now (s .exit)) (newcomers (64 * w) (now (row .entry)) b (live (now (s .entry)))) ⌝ }
     ensures { λ r. ⌜ (Occupied w (now (rows .entry)) (now (s .entry)) next → Occupied w (now (rows .exit)) (now (s .exit)) next) ⌝ }
 {
     let mut j: usize = 0;
@@ -60,17 +60,17 @@ fn join_row(s: &mut [u64], rows: &mut [u64], row: &[u64], w: usize, next: usize,
 
 // (a, end) joins the live set and the first layer.
 fn join_end(s: &mut [u64], a: usize)
-    requires { ⌜ (a < 256) × (3084 ≤ length (now s)) ⌝ }
-    ensures { λ r. ⌜ Joins 1028 (now (s .entry)) (now (s .exit)) (λ x y. eqb x a && eqNext y none) ⌝ }
+    requires { ⌜ (a < 256) × (storageWords ≤ length (now s)) ⌝ }
+    ensures { λ r. ⌜ Joins reachedAt (now (s .entry)) (now (s .exit)) (λ x y. eqb x a && eqNext y none) ⌝ }
 {
-    pairs::insert_end(s, 0, a);
-    pairs::insert_end(s, 1028, a);
+    pairs::insert_end(s, pairs::LIVE, a);
+    pairs::insert_end(s, pairs::REACHED, a);
 }
 
 // Each a of the row joins with the end.
 fn join_ends(s: &mut [u64], row: &[u64], w: usize)
-    requires { ⌜ (w ≤ 4) × (length (now row) ≡ 4) × (3084 ≤ length (now s)) ⌝ }
-    ensures { λ r. ⌜ Joins 1028 (now (s .entry)) (now (s .exit)) (enders (64 * w) (now (row .entry))) ⌝ }
+    requires { ⌜ (w ≤ 4) × (length (now row) ≡ 4) × (storageWords ≤ length (now s)) ⌝ }
+    ensures { λ r. ⌜ Joins reachedAt (now (s .entry)) (now (s .exit)) (enders (64 * w) (now (row .entry))) ⌝ }
 {
     let mut a = pairs::next_bit(row, 0, w, 0);
     while a < 64 * w {
@@ -95,8 +95,8 @@ fn join_before(
     b: usize,
 )
     requires { ⌜ Coded m n (now code) (now len) ⌝ }
-    requires { ⌜ (w ≤ 4) × (2 ^ (m + n) ≤ 64 * w) × (length (now ok) ≡ 4) × (length (now rows) ≡ 4) × (256 ≤ length (now st)) × (b < 256) × (layer ≤ 2056) × (1028 ≤ next) × (next ≤ 2056) × (3084 ≤ length (now s)) ⌝ }
-    ensures { λ r. ⌜ ((ks : List ℕ) → Row w (now (ok .entry)) (allowed (sheetOf m n (now (code .entry)) (now (len .entry)) ks)) → Joins next (now (s .entry)) (now (s .exit)) (joinersAt (sheetOf m n (now (code .entry)) (now (len .entry)) ks) (64 * w) b (stored (now (s .entry)) 0) (stored (now (s .entry)) layer))) ⌝ }
+    requires { ⌜ (w ≤ 4) × (2 ^ (m + n) ≤ 64 * w) × (length (now ok) ≡ 4) × (length (now rows) ≡ 4) × (256 ≤ length (now st)) × (b < 256) × (layer ≤ scratchAt) × (reachedAt ≤ next) × (next ≤ scratchAt) × (storageWords ≤ length (now s)) ⌝ }
+    ensures { λ r. ⌜ ((ks : List ℕ) → Row w (now (ok .entry)) (allowed (sheetOf m n (now (code .entry)) (now (len .entry)) ks)) → Joins next (now (s .entry)) (now (s .exit)) (joinersAt (sheetOf m n (now (code .entry)) (now (len .entry)) ks) (64 * w) b (live (now (s .entry))) (stored (now (s .entry)) layer))) ⌝ }
     ensures { λ r. ⌜ (Occupied w (now (rows .entry)) (now (s .entry)) next → Occupied w (now (rows .exit)) (now (s .exit)) next) ⌝ }
 {
     let mut row = [0u64; 4];
@@ -120,8 +120,8 @@ fn sweep(
     next: usize,
 )
     requires { ⌜ Coded m n (now code) (now len) ⌝ }
-    requires { ⌜ (w ≤ 4) × (2 ^ (m + n) ≤ 64 * w) × (length (now occupied) ≡ 4) × (length (now ok) ≡ 4) × (length (now rows) ≡ 4) × (256 ≤ length (now st)) × (3084 ≤ length (now s)) ⌝ }
-    requires { ⌜ (1028 ≤ layer) × (layer ≤ 2056) × (1028 ≤ next) × (next ≤ 2056) × Apart layer next ⌝ }
+    requires { ⌜ (w ≤ 4) × (2 ^ (m + n) ≤ 64 * w) × (length (now occupied) ≡ 4) × (length (now ok) ≡ 4) × (length (now rows) ≡ 4) × (256 ≤ length (now st)) × (storageWords ≤ length (now s)) ⌝ }
+    requires { ⌜ (reachedAt ≤ layer) × (layer ≤ scratchAt) × (reachedAt ≤ next) × (next ≤ scratchAt) × Apart layer next ⌝ }
     requires { ⌜ Occupied w (now occupied) (now s) layer ⌝ }
     ensures { λ r. ⌜ ((ks : List ℕ) → Row w (now (ok .entry)) (allowed (sheetOf m n (now (code .entry)) (now (len .entry)) ks)) → Swept (sheetOf m n (now (code .entry)) (now (len .entry)) ks) (64 * w) (64 * w) layer next (now (s .entry)) (now (s .exit))) ⌝ }
     ensures { λ r. ⌜ (Occupied w (now (rows .entry)) (now (s .entry)) next → Occupied w (now (rows .exit)) (now (s .exit)) next) ⌝ }
@@ -136,12 +136,12 @@ fn sweep(
 
 // The ends of the row's valuations are live and the first layer; there is no other pair.
 fn start(s: &mut [u64], row: &[u64], w: usize)
-    requires { ⌜ (w ≤ 4) × (length (now row) ≡ 4) × (3084 ≤ length (now s)) ⌝ }
+    requires { ⌜ (w ≤ 4) × (length (now row) ≡ 4) × (storageWords ≤ length (now s)) ⌝ }
     ensures { λ r. ⌜ Started w (now (row .entry)) (now (s .entry)) (now (s .exit)) ⌝ }
 {
-    pairs::clear(s, 0);
-    pairs::clear(s, 1028);
-    pairs::clear(s, 2056);
+    pairs::clear(s, pairs::LIVE);
+    pairs::clear(s, pairs::REACHED);
+    pairs::clear(s, pairs::SCRATCH);
     join_ends(s, row, w);
 }
 
@@ -162,7 +162,7 @@ pub fn prepare(
 ) -> Found
     requires { ⌜ Coded m n (now code) (now len) ⌝ }
     requires { ⌜ Below assumed n ⌝ }
-    requires { ⌜ 3084 ≤ length (now s) ⌝ }
+    requires { ⌜ storageWords ≤ length (now s) ⌝ }
     ensures { λ r. ⌜ Prepared (sheetOf m n (now (code .entry)) (now (len .entry)) (requiredOf assumed)) (now (s .entry)) (now (s .exit)) (r .live) ⌝ }
     ensures { λ r. ⌜ Reach (sheetOf m n (now (code .entry)) (now (len .entry)) (requiredOf assumed)) (r .reach) × (r .reach < r .live) ⌝ }
 {
@@ -173,8 +173,8 @@ pub fn prepare(
     unions::fill_allowed(&mut ok, m, n, assumed, v, w);
     start(s, &ok, w);
     let mut occupied = ok;
-    let mut layer: usize = 1028;
-    let mut next: usize = 2056;
+    let mut layer: usize = pairs::REACHED;
+    let mut next: usize = pairs::SCRATCH;
     let mut layers: usize = 0;
     while pairs::next_bit(&occupied, 0, w, 0) < 64 * w {
         let mut rows = [0u64; 4];

@@ -4,12 +4,13 @@ use Prim.Native.Nat.{_*_, _-_}
 use native.Mathlib.Omega.{arith}
 use lib.ListN.{length}
 use borrow.Author.Needs.{needs}
+use Rattle.pairs.specs.Storage.{reachedAt}
 use Rattle.preparation.proofs.Joining.{Ends, ends-first, ends-more, ends-all}
 use Rattle.preparation.proofs.join_ends.Statement.{statement}
 use Rattle.preparation.proofs.join_ends.Tie as tie
 
 abbrev Inv-loop : tie.InvT-loop
-Inv-loop s₀ row w a₀ s a = (length s ≡ length s₀) × Ends 1028 s₀ s w row a
+Inv-loop s₀ row w a₀ s a = (length s ≡ length s₀) × Ends reachedAt s₀ s w row a
 
 abbrev μ-loop : tie.MeasureT-loop
 μ-loop s₀ row w a₀ s a = 64 * w - a

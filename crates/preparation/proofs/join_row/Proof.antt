@@ -4,7 +4,7 @@ use Prim.Native.Nat.{_*_, _-_, _≤_}
 use native.Mathlib.Omega.{arith}
 use lib.ListN.{length}
 use borrow.Author.Needs.{needs}
-use Rattle.pairs.specs.Storage.{stored}
+use Rattle.pairs.specs.Storage.{live}
 use Rattle.preparation.specs.Search.{newcomers, Joins, Occupied}
 use Rattle.preparation.proofs.Joining.{words-first, words-more, words-all}
 use Rattle.preparation.proofs.join_row.Statement.{statement}
@@ -12,7 +12,7 @@ use Rattle.preparation.proofs.join_row.Tie as tie
 
 abbrev Inv-loop : tie.InvT-loop
 Inv-loop s₀ rows₀ row w next b j₀ s rows j =
-    (j ≤ w) × (length s ≡ length s₀) × (length rows ≡ length rows₀) × Joins next s₀ s (newcomers (64 * j) row b (stored s₀ 0)) × (Occupied w rows₀ s₀ next → Occupied w rows s next)
+    (j ≤ w) × (length s ≡ length s₀) × (length rows ≡ length rows₀) × Joins next s₀ s (newcomers (64 * j) row b (live s₀)) × (Occupied w rows₀ s₀ next → Occupied w rows s next)
 
 abbrev μ-loop : tie.MeasureT-loop
 μ-loop s₀ rows₀ row w next b j₀ s rows j = w - j

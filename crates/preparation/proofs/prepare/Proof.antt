@@ -8,6 +8,7 @@ use lib.ListN.{length, getD}
 use borrow.Author.Needs.{needs}
 use Rattle.sheet.specs.RuleSheet.{requiredOf}
 use Rattle.completions.specs.Live.{allowed}
+use Rattle.pairs.specs.Storage.{reachedAt, scratchAt, storageWords}
 use Rattle.lanes.specs.Coded.{sheetOf}
 use Rattle.unions.specs.Rows.{Row}
 use Rattle.unions.proofs.Rows.{two-to}
@@ -19,8 +20,8 @@ use Rattle.preparation.proofs.prepare.Tie as tie
 
 abbrev Inv-loop : tie.InvT-loop
 Inv-loop s₀ code len m n v w st₀ ok occupied₀ layer₀ next₀ layers₀ s st occupied layer next layers =
-    (v ≡ 2 ^ (m + n)) × (v ≤ 64 * w) × (w ≤ 4) × (length ok ≡ 4) × (length occupied ≡ 4) × (length st ≡ 256) × (3084 ≤ length s) × (length s ≡ length s₀)
-    × ((1028 ≤ layer) × (layer ≤ 2056) × (1028 ≤ next) × (next ≤ 2056)) × Apart layer next × ((k : ℕ) → getD s k 0 < 2 ^ 64) × Occupied w occupied s layer
+    (v ≡ 2 ^ (m + n)) × (v ≤ 64 * w) × (w ≤ 4) × (length ok ≡ 4) × (length occupied ≡ 4) × (length st ≡ 256) × (storageWords ≤ length s) × (length s ≡ length s₀)
+    × ((reachedAt ≤ layer) × (layer ≤ scratchAt) × (reachedAt ≤ next) × (next ≤ scratchAt)) × Apart layer next × ((k : ℕ) → getD s k 0 < 2 ^ 64) × Occupied w occupied s layer
     × ((ks : List ℕ) → Row w ok (allowed (sheetOf m n code len ks)) → Searching (sheetOf m n code len ks) layer next s₀ s layers)
 
 abbrev μ-loop : tie.MeasureT-loop

@@ -16,7 +16,7 @@ use Rattle.words.proofs.BelowLaws.{words-one, below-none, below-within}
 use Rattle.sheet.specs.RuleSheet.{RuleSheet}
 use Rattle.lola.specs.Equations.{holds}
 use Rattle.completions.specs.Live.{Pairs}
-use Rattle.pairs.specs.Storage.{stored}
+use Rattle.pairs.specs.Storage.{stored, live, reached, scratch, liveAt, reachedAt, scratchAt}
 use Rattle.pairs.specs.Changes.{eqNext, inWord, Adds}
 use Rattle.pairs.proofs.Sets.{adds-none, adds-as, framed-beyond, lane, lane-end}
 use Rattle.rounds.specs.Rows.{Wide, gains, NoEndNew, inRow}
@@ -29,24 +29,24 @@ end-at : (s : List ℕ) (base j i k : ℕ) → i < 64 → k ≡ base + (1024 + j
 end-at s base j i k h e = ap (λ (n : ℕ). bit i (getD s n 0)) e ∙ lane-end s base j i h
 
 -- one word more of which no end is new
-pub no-end-more : (s : List ℕ) (g j : ℕ) → NoEndNew (stored s 0) (stored s 1028) (stored s 2056) (64 * j) g → getD s (1028 + (1024 + j)) 0 < 2 ^ 64
-    → bitAnd (bitAnd (getD s (2056 + (4 * g + j)) 0) (getD s (1024 + j) 0)) (18446744073709551615 - getD s (1028 + (1024 + j)) 0) ≡ 0
-    → NoEndNew (stored s 0) (stored s 1028) (stored s 2056) (64 * (j + 1)) g
+pub no-end-more : (s : List ℕ) (g j : ℕ) → NoEndNew (live s) (reached s) (scratch s) (64 * j) g → getD s (reachedAt + (1024 + j)) 0 < 2 ^ 64
+    → bitAnd (bitAnd (getD s (scratchAt + (4 * g + j)) 0) (getD s (1024 + j) 0)) (18446744073709551615 - getD s (reachedAt + (1024 + j)) 0) ≡ 0
+    → NoEndNew (live s) (reached s) (scratch s) (64 * (j + 1)) g
 no-end-more s g j f fit e b h = go (decLt b (64 * j))
   where
     old : ℕ
-    old = getD s (1028 + (1024 + j)) 0
+    old = getD s (reachedAt + (1024 + j)) 0
 
-    go : Dec (b < 64 * j) → ((stored s 2056 g (some b) && stored s 0 b none) && not (stored s 1028 b none)) ≡ false
+    go : Dec (b < 64 * j) → ((scratch s g (some b) && live s b none) && not (reached s b none)) ≡ false
     go (yes l) = f b l
     go (no n) =
         let q : 64 * j + b % 64 ≡ b = omega arith in
         let l : b % 64 < 64 = omega arith in
-        sym (bit-and (b % 64) (bitAnd (getD s (2056 + (4 * g + j)) 0) (getD s (1024 + j) 0)) (18446744073709551615 - old)
+        sym (bit-and (b % 64) (bitAnd (getD s (scratchAt + (4 * g + j)) 0) (getD s (1024 + j) 0)) (18446744073709551615 - old)
         ∙ ap₂ _&&_
-        (bit-and (b % 64) (getD s (2056 + (4 * g + j)) 0) (getD s (1024 + j) 0)
-        ∙ ap₂ _&&_ (lane s 2056 g j (b % 64) l ∙ ap (λ (i : ℕ). stored s 2056 g (some i)) q) (end-at s 0 j (b % 64) (1024 + j) l (omega arith) ∙ ap (λ (i : ℕ). stored s 0 i none) q))
-        (bit-not 64 (b % 64) old l fit ∙ ap not (end-at s 1028 j (b % 64) (1028 + (1024 + j)) l refl ∙ ap (λ (i : ℕ). stored s 1028 i none) q)))
+        (bit-and (b % 64) (getD s (scratchAt + (4 * g + j)) 0) (getD s (1024 + j) 0)
+        ∙ ap₂ _&&_ (lane s scratchAt g j (b % 64) l ∙ ap (λ (i : ℕ). scratch s g (some i)) q) (end-at s liveAt j (b % 64) (1024 + j) l (omega arith) ∙ ap (λ (i : ℕ). live s i none) q))
+        (bit-not 64 (b % 64) old l fit ∙ ap not (end-at s reachedAt j (b % 64) (reachedAt + (1024 + j)) l refl ∙ ap (λ (i : ℕ). reached s i none) q)))
         ∙ ap (bit (b % 64)) e ∙ bit-none (b % 64)
 
 -- what is there already is not new
@@ -68,84 +68,84 @@ among-three false false false h = refl
 
 module _ (x : RuleSheet) where
   abbrev Ends : (ℕ → Bool) → List ℕ → Option ℕ → Pairs
-  Ends B s p = gains x B (λ y. eqNext y none) (stored s 0) p
+  Ends B s p = gains x B (λ y. eqNext y none) (live s) p
 
-  pub ends-full : (s : List ℕ) (v w g : ℕ) (p : Option ℕ) → v ≤ 64 * w → NoEndNew (stored s 0) (stored s 1028) (stored s 2056) (64 * w) g
-      → Adds 1028 s s (Ends (inRow (stored s 2056) v g) s p)
+  pub ends-full : (s : List ℕ) (v w g : ℕ) (p : Option ℕ) → v ≤ 64 * w → NoEndNew (live s) (reached s) (scratch s) (64 * w) g
+      → Adds reachedAt s s (Ends (inRow (scratch s) v g) s p)
   unfolding gains eqNext
   ends-full s v w g p l f =
-      adds-as 1028 s s (λ a c. false) (Ends (inRow (stored s 2056) v g) s p) (adds-none 1028 s (λ a c. false) (λ a c. refl)) (λ a c ha hc. or-false (stored s 1028 a c) ∙ go a c)
+      adds-as reachedAt s s (λ a c. false) (Ends (inRow (scratch s) v g) s p) (adds-none reachedAt s (λ a c. false) (λ a c. refl)) (λ a c ha hc. or-false (reached s a c) ∙ go a c)
     where
       at : (a : ℕ) → Dec (a < v)
-          → stored s 1028 a none ≡ (stored s 1028 a none || ((ltb a v && stored s 2056 g (some a)) && (true && (stored s 0 a none && holds x p a none))))
-      at a (yes h) = rw (lt-ltb a v h) (there (stored s 1028 a none) (stored s 2056 g (some a)) (stored s 0 a none) (holds x p a none) (f a (omega arith)))
-      at a (no n) = let h : v ≤ a = omega arith in rw (le-ltb a v h) (sym (or-false (stored s 1028 a none)))
+          → reached s a none ≡ (reached s a none || ((ltb a v && scratch s g (some a)) && (true && (live s a none && holds x p a none))))
+      at a (yes h) = rw (lt-ltb a v h) (there (reached s a none) (scratch s g (some a)) (live s a none) (holds x p a none) (f a (omega arith)))
+      at a (no n) = let h : v ≤ a = omega arith in rw (le-ltb a v h) (sym (or-false (reached s a none)))
 
-      go : (a : ℕ) (c : Option ℕ) → stored s 1028 a c ≡ (stored s 1028 a c || Ends (inRow (stored s 2056) v g) s p a c)
+      go : (a : ℕ) (c : Option ℕ) → reached s a c ≡ (reached s a c || Ends (inRow (scratch s) v g) s p a c)
       go a none = at a (decLt a v)
-      go a (some c) = sym (ap (λ (u : Bool). stored s 1028 a (some c) || u) (and-false (inRow (stored s 2056) v g a)) ∙ or-false (stored s 1028 a (some c)))
+      go a (some c) = sym (ap (λ (u : Bool). reached s a (some c) || u) (and-false (inRow (scratch s) v g a)) ∙ or-false (reached s a (some c)))
 
   -- ---- the words one after the other
 
   module _ (s : List ℕ) (v w g : ℕ) (p : Option ℕ) (wide : Wide v w) (hg : g < 256) where
     abbrev In : ℕ → Bool
-    In = inRow (stored s 2056) v g
+    In = inRow (scratch s) v g
 
     -- the ends of the first j words
     abbrev Upto : ℕ → Pairs
     Upto j = Ends (λ b. ltb b (64 * j) && In b) s p
 
-    pub ends-none : Adds 1028 s s (Upto 0)
-    ends-none = gains-none x s (λ b. ltb b (64 * 0) && In b) (λ y. eqNext y none) (stored s 0) p (λ b c. ap (λ (u : Bool). u && eqNext c none) (below-none b (In b)))
+    pub ends-none : Adds reachedAt s s (Upto 0)
+    ends-none = gains-none x s (λ b. ltb b (64 * 0) && In b) (λ y. eqNext y none) (live s) p (λ b c. ap (λ (u : Bool). u && eqNext c none) (below-none b (In b)))
 
-    pub ends-more : (t u : List ℕ) (j low y : ℕ) → j < w → Adds 1028 s t (Upto j) → ((i : ℕ) → i < 64 → bit i low ≡ ltb (64 * 0 + i) v)
+    pub ends-more : (t u : List ℕ) (j low y : ℕ) → j < w → Adds reachedAt s t (Upto j) → ((i : ℕ) → i < 64 → bit i low ≡ ltb (64 * 0 + i) v)
         → ((i : ℕ) → i < 64 → bit i y ≡ holds x p (64 * j + i) none)
-        → Adds 1028 t u (λ a c. inWord j (bitAnd (bitAnd (getD t (1024 + j) 0) (bitAnd (getD t (2056 + (4 * g + j)) 0) low)) y) (some a) && eqNext c none)
-        → Adds 1028 s u (Upto (j + 1))
+        → Adds reachedAt t u (λ a c. inWord j (bitAnd (bitAnd (getD t (1024 + j) 0) (bitAnd (getD t (scratchAt + (4 * g + j)) 0) low)) y) (some a) && eqNext c none)
+        → Adds reachedAt s u (Upto (j + 1))
     unfolding gains inWord eqNext
     ends-more t u j low y l f lows holding a =
         gains-join x s t u (λ b. ltb b (64 * j) && In b) (λ b. eqb (b / 64) j && In b) (λ b. ltb b (64 * (j + 1)) && In b) (λ y. eqNext y none) (λ y. eqNext y none) (λ y. eqNext y none) p f word
         (λ b c hb hc. merge-both (ltb b (64 * j)) (eqb (b / 64) j) (ltb b (64 * (j + 1))) (In b) (eqNext c none) (words-one b j))
       where
         heard : ℕ
-        heard = bitAnd (getD t (2056 + (4 * g + j)) 0) low
+        heard = bitAnd (getD t (scratchAt + (4 * g + j)) 0) low
 
         z : ℕ
         z = bitAnd (bitAnd (getD t (1024 + j) 0) heard) y
 
-        core : (b : ℕ) → b < 256 → b / 64 ≡ j → bit (b % 64) z ≡ ((stored t 0 b none && (stored s 2056 g (some b) && ltb b v)) && holds x p b none)
+        core : (b : ℕ) → b < 256 → b / 64 ≡ j → bit (b % 64) z ≡ ((live t b none && (scratch s g (some b) && ltb b v)) && holds x p b none)
         core b hb e =
             let q : 64 * j + b % 64 ≡ b = omega arith in
             let h : b % 64 < 64 = omega arith in
             bit-and (b % 64) (bitAnd (getD t (1024 + j) 0) heard) y
             ∙ ap₂ _&&_
             (bit-and (b % 64) (getD t (1024 + j) 0) heard
-            ∙ ap₂ _&&_ (end-at t 0 j (b % 64) (1024 + j) h (omega arith) ∙ ap (λ (i : ℕ). stored t 0 i none) q)
-            (bit-and (b % 64) (getD t (2056 + (4 * g + j)) 0) low
-            ∙ ap₂ _&&_ (lane t 2056 g j (b % 64) h ∙ ap (λ (i : ℕ). stored t 2056 g (some i)) q ∙ framed-beyond (f .frame) 2056 g (some b) hg hb (omega arith))
+            ∙ ap₂ _&&_ (end-at t liveAt j (b % 64) (1024 + j) h (omega arith) ∙ ap (λ (i : ℕ). live t i none) q)
+            (bit-and (b % 64) (getD t (scratchAt + (4 * g + j)) 0) low
+            ∙ ap₂ _&&_ (lane t scratchAt g j (b % 64) h ∙ ap (λ (i : ℕ). scratch t g (some i)) q ∙ framed-beyond (f .frame) scratchAt g (some b) hg hb (omega arith))
             (lows (b % 64) h ∙ low-lane v w j (b % 64) wide l h ∙ ap (λ (i : ℕ). ltb i v) q)))
             (holding (b % 64) h ∙ ap (λ (i : ℕ). holds x p i none) q)
 
         at : (b : ℕ) → b < 256 → Dec (b / 64 ≡ j)
-            → ((eqb (b / 64) j && bit (b % 64) z) && true) ≡ ((eqb (b / 64) j && In b) && (true && (stored t 0 b none && holds x p b none)))
+            → ((eqb (b / 64) j && bit (b % 64) z) && true) ≡ ((eqb (b / 64) j && In b) && (true && (live t b none && holds x p b none)))
         at b hb (yes e) =
             rw (eq-eqb (b / 64) j e)
-            (ap (λ (k : Bool). k && true) (core b hb e) ∙ among-three (stored t 0 b none) (stored s 2056 g (some b)) (ltb b v) (holds x p b none))
+            (ap (λ (k : Bool). k && true) (core b hb e) ∙ among-three (live t b none) (scratch s g (some b)) (ltb b v) (holds x p b none))
         at b hb (no d) = rw (ne-eqb (b / 64) j d)
 
         go : (b : ℕ) → b < 256 → (c : Option ℕ) → ((eqb (b / 64) j && bit (b % 64) z) && eqNext c none) ≡ Ends (λ b. eqb (b / 64) j && In b) t p b c
         go b hb none = at b hb (ℕ-discrete (b / 64) j)
         go b hb (some c) = and-false (eqb (b / 64) j && bit (b % 64) z) ∙ sym (and-false (eqb (b / 64) j && In b))
 
-        word : Adds 1028 t u (Ends (λ b. eqb (b / 64) j && In b) t p)
+        word : Adds reachedAt t u (Ends (λ b. eqb (b / 64) j && In b) t p)
         word =
-            adds-as 1028 t u (λ b c. inWord j z (some b) && eqNext c none) (Ends (λ b. eqb (b / 64) j && In b) t p) a
-            (λ b c hb hc. ap (λ (k : Bool). stored t 1028 b c || k) (go b hb c))
+            adds-as reachedAt t u (λ b c. inWord j z (some b) && eqNext c none) (Ends (λ b. eqb (b / 64) j && In b) t p) a
+            (λ b c hb hc. ap (λ (k : Bool). reached t b c || k) (go b hb c))
 
-    pub ends-all : (t : List ℕ) (j : ℕ) → v ≤ 64 * j → Adds 1028 s t (Upto j) → Adds 1028 s t (Ends In s p)
+    pub ends-all : (t : List ℕ) (j : ℕ) → v ≤ 64 * j → Adds reachedAt s t (Upto j) → Adds reachedAt s t (Ends In s p)
     ends-all t j h f =
-        gains-as x s t (λ b. ltb b (64 * j) && In b) In (λ y. eqNext y none) (λ y. eqNext y none) (stored s 0) p f
+        gains-as x s t (λ b. ltb b (64 * j) && In b) In (λ y. eqNext y none) (λ y. eqNext y none) (live s) p f
         (λ b c hb hc. ap (λ (k : Bool). k && eqNext c none) (drop b))
       where
         drop : (b : ℕ) → (ltb b (64 * j) && In b) ≡ In b
-        drop b = sym (and-assoc (ltb b (64 * j)) (ltb b v) (stored s 2056 g (some b))) ∙ ap (λ (k : Bool). k && stored s 2056 g (some b)) (below-within b v (64 * j) h)
+        drop b = sym (and-assoc (ltb b (64 * j)) (ltb b v) (scratch s g (some b))) ∙ ap (λ (k : Bool). k && scratch s g (some b)) (below-within b v (64 * j) h)

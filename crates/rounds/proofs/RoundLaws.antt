@@ -20,7 +20,7 @@ use Rattle.sheet.specs.RuleSheet.{RuleSheet}
 use Rattle.lola.specs.Equations.{holds}
 use Rattle.completions.specs.Live.{Pairs}
 use Rattle.completions.specs.Steps.{Within, startSet, stepSet, partBelow}
-use Rattle.pairs.specs.Storage.{stored, used}
+use Rattle.pairs.specs.Storage.{used, live, reached, scratch, liveAt, reachedAt, scratchAt}
 use Rattle.pairs.specs.Changes.{inWord, Adds, RowsCleared}
 use Rattle.pairs.proofs.Frames.{framed-then, framed-wider}
 use Rattle.pairs.proofs.Sets.{framed-before, framed-beyond, used-below, unused, adds-none, adds-then}
@@ -63,19 +63,19 @@ both-cleared : (u p l : Bool) → (u ≡ false → p ≡ false) → cond u false
 both-cleared true p l f = refl
 both-cleared false p l f = ap (λ (z : Bool). l || z) (f refl) ∙ or-false l
 
-module _ (w v : ℕ) (is : v ≡ w) (s s₁ s₂ s₃ s₄ s₅ : List ℕ) (G P R : Pairs) (a : RowsCleared 2056 v s s₁) (b : Adds 2056 s₁ s₂ G) (c : RowsCleared 1028 v s₂ s₃)
-    (d : Adds 1028 s₃ s₄ P) (e : RowsCleared 2056 v s₄ s₅) where
-  live-same : (k : ℕ) (y : Option ℕ) → k < 256 → Within 256 y → stored s₃ 0 k y ≡ stored s 0 k y
+module _ (w v : ℕ) (is : v ≡ w) (s s₁ s₂ s₃ s₄ s₅ : List ℕ) (G P R : Pairs) (a : RowsCleared scratchAt v s s₁) (b : Adds scratchAt s₁ s₂ G) (c : RowsCleared reachedAt v s₂ s₃)
+    (d : Adds reachedAt s₃ s₄ P) (e : RowsCleared scratchAt v s₄ s₅) where
+  live-same : (k : ℕ) (y : Option ℕ) → k < 256 → Within 256 y → live s₃ k y ≡ live s k y
   live-same k y hk hy =
-      framed-before (c .frame) 0 k y hk hy (omega arith) ∙ framed-before (b .frame) 0 k y hk hy (omega arith) ∙ framed-before (a .frame) 0 k y hk hy (omega arith)
+      framed-before (c .frame) liveAt k y hk hy (omega arith) ∙ framed-before (b .frame) liveAt k y hk hy (omega arith) ∙ framed-before (a .frame) liveAt k y hk hy (omega arith)
 
   -- in the words in use, the scratch set is what was put there
-  put-is : (g k : ℕ) → g < w → g < 256 → k < 256 → stored s₃ 2056 g (some k) ≡ G g (some k)
+  put-is : (g k : ℕ) → g < w → g < 256 → k < 256 → scratch s₃ g (some k) ≡ G g (some k)
   put-is g k l hg hk =
-      framed-beyond (c .frame) 2056 g (some k) hg hk (omega arith)
+      framed-beyond (c .frame) scratchAt g (some k) hg hk (omega arith)
       ∙ b .adds g (some k) hg hk
       ∙ ap (λ (u : Bool). u || G g (some k))
-      (a .emptied g (some k) hg hk ∙ ap (λ (u : Bool). cond u false (stored s 2056 g (some k))) (used-below v g (some k) (omega arith)))
+      (a .emptied g (some k) hg hk ∙ ap (λ (u : Bool). cond u false (scratch s g (some k))) (used-below v g (some k) (omega arith)))
 
   steps-rounded : ((k : ℕ) (y : Option ℕ) → v ≤ k → G k y ≡ false) → ((k : ℕ) (y : Option ℕ) → k < 256 → Within 256 y → P k y ≡ (ltb k w && (partBelow w y && R k y)))
       → Rounded w s s₅ R
@@ -84,38 +84,38 @@ module _ (w v : ℕ) (is : v ≡ w) (s s₁ s₂ s₃ s₄ s₅ : List ℕ) (G P
         (framed-then (framed-wider (omega arith) (omega arith) (framed-then (a .frame) (b .frame))) (framed-wider (omega arith) (omega arith) (framed-then (c .frame) (d .frame))))
         (framed-wider (omega arith) (omega arith) (e .frame));
     reached = λ k y hk hy.
-        framed-before (e .frame) 1028 k y hk hy (omega arith)
+        framed-before (e .frame) reachedAt k y hk hy (omega arith)
         ∙ d .adds k y hk hy
         ∙ ap₂ _||_
         (c .emptied k y hk hy
-        ∙ ap₂ (λ (z : ℕ) (l : Bool). cond (used z k y) false l) is (framed-before (b .frame) 1028 k y hk hy (omega arith) ∙ framed-before (a .frame) 1028 k y hk hy (omega arith)))
+        ∙ ap₂ (λ (z : ℕ) (l : Bool). cond (used z k y) false l) is (framed-before (b .frame) reachedAt k y hk hy (omega arith) ∙ framed-before (a .frame) reachedAt k y hk hy (omega arith)))
         (brings k y hk hy)
-        ∙ gained (used w k y) (ltb k w && (partBelow w y && R k y)) (stored s 1028 k y) (λ q. ap (λ (u : Bool). u && (partBelow w y && R k y)) (unused w k y q));
+        ∙ gained (used w k y) (ltb k w && (partBelow w y && R k y)) (reached s k y) (λ q. ap (λ (u : Bool). u && (partBelow w y && R k y)) (unused w k y q));
     scratch = λ k y hk hy.
         e .emptied k y hk hy
         ∙ ap (cond (used v k y) false)
-        (framed-beyond (d .frame) 2056 k y hk hy (omega arith)
-        ∙ framed-beyond (c .frame) 2056 k y hk hy (omega arith)
+        (framed-beyond (d .frame) scratchAt k y hk hy (omega arith)
+        ∙ framed-beyond (c .frame) scratchAt k y hk hy (omega arith)
         ∙ b .adds k y hk hy
         ∙ ap (λ (l : Bool). l || G k y) (a .emptied k y hk hy))
-        ∙ both-cleared (used v k y) (G k y) (stored s 2056 k y) (λ q. low k y (ltb-false k v (unused v k y q)))
-        ∙ ap (λ (z : ℕ). cond (used z k y) false (stored s 2056 k y)) is;
+        ∙ both-cleared (used v k y) (G k y) (scratch s k y) (λ q. low k y (ltb-false k v (unused v k y q)))
+        ∙ ap (λ (z : ℕ). cond (used z k y) false (scratch s k y)) is;
   }
 
 -- ---- the first round
 
-pub heard-none : (s : List ℕ) (v letters : ℕ) → Adds 2056 s s (heardFirst v (among letters) (64 * 0))
-heard-none s v letters = adds-none 2056 s (heardFirst v (among letters) (64 * 0)) (λ a c. go a c)
+pub heard-none : (s : List ℕ) (v letters : ℕ) → Adds scratchAt s s (heardFirst v (among letters) (64 * 0))
+heard-none s v letters = adds-none scratchAt s (heardFirst v (among letters) (64 * 0)) (λ a c. go a c)
   where
     go : (a : ℕ) (c : Option ℕ) → heardFirst v (among letters) (64 * 0) a c ≡ false
     go a none = and-false (eqb a 0)
     go a (some c) = ap (λ (u : Bool). eqb a 0 && u) (below-none c (ltb c v && among letters c)) ∙ and-false (eqb a 0)
 
-pub heard-more : (s t u : List ℕ) (v letters mask j : ℕ) → Adds 2056 s t (heardFirst v (among letters) (64 * j)) → ((i : ℕ) → i < 64 → bit i mask ≡ ltb (64 * j + i) v)
-    → Adds 2056 t u (λ a c. eqb a 0 && inWord j (bitAnd mask letters) c) → Adds 2056 s u (heardFirst v (among letters) (64 * (j + 1)))
+pub heard-more : (s t u : List ℕ) (v letters mask j : ℕ) → Adds scratchAt s t (heardFirst v (among letters) (64 * j)) → ((i : ℕ) → i < 64 → bit i mask ≡ ltb (64 * j + i) v)
+    → Adds scratchAt t u (λ a c. eqb a 0 && inWord j (bitAnd mask letters) c) → Adds scratchAt s u (heardFirst v (among letters) (64 * (j + 1)))
 unfolding inWord
 heard-more s t u v letters mask j f lanes q =
-    adds-then 2056 s t u (heardFirst v (among letters) (64 * j)) (λ a c. eqb a 0 && inWord j z c) (heardFirst v (among letters) (64 * (j + 1))) f q (λ a c ha hc. go a c)
+    adds-then scratchAt s t u (heardFirst v (among letters) (64 * j)) (λ a c. eqb a 0 && inWord j z c) (heardFirst v (among letters) (64 * (j + 1))) f q (λ a c ha hc. go a c)
   where
     z : ℕ
     z = bitAnd mask letters
@@ -134,19 +134,19 @@ heard-more s t u v letters mask j f lanes q =
         ap (λ (k : Bool). (eqb a 0 && (ltb c (64 * j) && (ltb c v && among letters c))) || (eqb a 0 && k)) (word c (ℕ-discrete (c / 64) j))
         ∙ merge-under (eqb a 0) (ltb c (64 * j)) (eqb (c / 64) j) (ltb c (64 * (j + 1))) (ltb c v && among letters c) (words-one c j)
 
-pub heard-all : (s t : List ℕ) (v letters j w : ℕ) → j ≤ w → w ≤ j → Adds 2056 s t (heardFirst v (among letters) (64 * j)) → Adds 2056 s t (heardFirst v (among letters) (64 * w))
-heard-all s t v letters j w h l f = let e : j ≡ w = omega arith in subst (λ (k : ℕ). Adds 2056 s t (heardFirst v (among letters) (64 * k))) e f
+pub heard-all : (s t : List ℕ) (v letters j w : ℕ) → j ≤ w → w ≤ j → Adds scratchAt s t (heardFirst v (among letters) (64 * j)) → Adds scratchAt s t (heardFirst v (among letters) (64 * w))
+heard-all s t v letters j w h l f = let e : j ≡ w = omega arith in subst (λ (k : ℕ). Adds scratchAt s t (heardFirst v (among letters) (64 * k))) e f
 
 module _ (x : RuleSheet) (w n : ℕ) (r : ℕ → Bool) (some-valuation : 1 ≤ w) (hn : w ≤ 64 * n) (v : ℕ) (is : v ≡ w) (s s₁ s₂ s₃ s₄ s₅ : List ℕ)
-    (a : RowsCleared 2056 v s s₁) (b : Adds 2056 s₁ s₂ (heardFirst v r (64 * n))) (c : RowsCleared 1028 v s₂ s₃)
-    (d : Adds 1028 s₃ s₄ (gains x (inRow (stored s₃ 2056) w 0) (partBelow w) (stored s₃ 0) none)) (e : RowsCleared 2056 v s₄ s₅) where
+    (a : RowsCleared scratchAt v s s₁) (b : Adds scratchAt s₁ s₂ (heardFirst v r (64 * n))) (c : RowsCleared reachedAt v s₂ s₃)
+    (d : Adds reachedAt s₃ s₄ (gains x (inRow (scratch s₃) w 0) (partBelow w) (live s₃) none)) (e : RowsCleared scratchAt v s₄ s₅) where
   abbrev First : Pairs
-  First = gains x (inRow (stored s₃ 2056) w 0) (partBelow w) (stored s₃ 0) none
+  First = gains x (inRow (scratch s₃) w 0) (partBelow w) (live s₃) none
 
   first-low : (k : ℕ) (y : Option ℕ) → v ≤ k → heardFirst v r (64 * n) k y ≡ false
   first-low k y h = ap (λ (u : Bool). u && cut (λ b. ltb b (64 * n) && (ltb b v && r b)) y) (ne-eqb k 0 (λ q. omega arith))
 
-  first-brings : (k : ℕ) (y : Option ℕ) → k < 256 → Within 256 y → First k y ≡ (ltb k w && (partBelow w y && startSet x (stored s 0) r k y))
+  first-brings : (k : ℕ) (y : Option ℕ) → k < 256 → Within 256 y → First k y ≡ (ltb k w && (partBelow w y && startSet x (live s) r k y))
   unfolding gains startSet
   first-brings k y hk hy = at (decLt k w)
     where
@@ -156,23 +156,23 @@ module _ (x : RuleSheet) (w n : ℕ) (r : ℕ → Bool) (some-valuation : 1 ≤ 
       order false true false h = refl
       order false false l h = refl
 
-      row : k < w → stored s₃ 2056 0 (some k) ≡ r k
+      row : k < w → scratch s₃ 0 (some k) ≡ r k
       row h =
-          put-is w v is s s₁ s₂ s₃ s₄ s₅ (heardFirst v r (64 * n)) First (startSet x (stored s 0) r) a b c d e 0 k (omega arith) (omega arith) hk
+          put-is w v is s s₁ s₂ s₃ s₄ s₅ (heardFirst v r (64 * n)) First (startSet x (live s) r) a b c d e 0 k (omega arith) (omega arith) hk
           ∙ ap₂ (λ (u t : Bool). u && (t && r k)) (lt-ltb k (64 * n) (omega arith)) (lt-ltb k v (omega arith))
 
       at : Dec (k < w)
-          → ((ltb k w && stored s₃ 2056 0 (some k)) && (partBelow w y && (stored s₃ 0 k y && holds x none k y)))
-          ≡ (ltb k w && (partBelow w y && (stored s 0 k y && (r k && holds x none k y))))
+          → ((ltb k w && scratch s₃ 0 (some k)) && (partBelow w y && (live s₃ k y && holds x none k y)))
+          ≡ (ltb k w && (partBelow w y && (live s k y && (r k && holds x none k y))))
       at (yes h) =
           rw (lt-ltb k w h)
           (ap₂ (λ (q l : Bool). q && (partBelow w y && (l && holds x none k y))) (row h)
-          (live-same w v is s s₁ s₂ s₃ s₄ s₅ (heardFirst v r (64 * n)) First (startSet x (stored s 0) r) a b c d e k y hk hy)
-          ∙ order (r k) (partBelow w y) (stored s 0 k y) (holds x none k y))
+          (live-same w v is s s₁ s₂ s₃ s₄ s₅ (heardFirst v r (64 * n)) First (startSet x (live s) r) a b c d e k y hk hy)
+          ∙ order (r k) (partBelow w y) (live s k y) (holds x none k y))
       at (no h) = let z : w ≤ k = omega arith in rw (le-ltb k w z)
 
-  pub rounded-first : Rounded w s s₅ (startSet x (stored s 0) r)
-  rounded-first = steps-rounded w v is s s₁ s₂ s₃ s₄ s₅ (heardFirst v r (64 * n)) First (startSet x (stored s 0) r) a b c d e first-low first-brings
+  pub rounded-first : Rounded w s s₅ (startSet x (live s) r)
+  rounded-first = steps-rounded w v is s s₁ s₂ s₃ s₄ s₅ (heardFirst v r (64 * n)) First (startSet x (live s) r) a b c d e first-low first-brings
 
 -- ---- groups: those that the mask leaves alike have the same successors
 
@@ -229,53 +229,53 @@ group-low S r mask n v g c h =
     (λ a ha. ap (λ (u : Bool). u && heardIn S r n a c) (ne-eqb g (bitAnd a mask) (λ e. let l : bitAnd a mask ≤ a = and-le-l a mask in omega arith)))
 
 -- a scratch set that was cleared is sparse, and clearing another set leaves it so
-pub cleared-sparse : (v : ℕ) (groups s s₁ : List ℕ) → v ≤ 256 → RowsCleared 2056 v s s₁ → Sparse v groups (stored s₁ 2056)
+pub cleared-sparse : (v : ℕ) (groups s s₁ : List ℕ) → v ≤ 256 → RowsCleared scratchAt v s s₁ → Sparse v groups (scratch s₁)
 cleared-sparse v groups s s₁ hv a g hg e k hk =
-    a .emptied g (some k) (omega arith) hk ∙ ap (λ (u : Bool). cond u false (stored s 2056 g (some k))) (used-below v g (some k) hg)
+    a .emptied g (some k) (omega arith) hk ∙ ap (λ (u : Bool). cond u false (scratch s g (some k))) (used-below v g (some k) hg)
 
-pub sparse-kept : (v w : ℕ) (groups s t : List ℕ) → v ≡ w → v ≤ 256 → RowsCleared 1028 v s t → Sparse v groups (stored s 2056) → Sparse w groups (stored t 2056)
-sparse-kept v w groups s t is hv c f g hg e k hk = framed-beyond (c .frame) 2056 g (some k) (omega arith) hk (omega arith) ∙ f g (omega arith) e k hk
+pub sparse-kept : (v w : ℕ) (groups s t : List ℕ) → v ≡ w → v ≤ 256 → RowsCleared reachedAt v s t → Sparse v groups (scratch s) → Sparse w groups (scratch t)
+sparse-kept v w groups s t is hv c f g hg e k hk = framed-beyond (c .frame) scratchAt g (some k) (omega arith) hk (omega arith) ∙ f g (omega arith) e k hk
 
 module _ (x : RuleSheet) (mask : ℕ) (blind : Blind x mask) (w n : ℕ) (r : ℕ → Bool) (hw : w ≤ 256) (hn : w ≤ 64 * n) where
   -- the storage: at first, cleared scratch, grouped, cleared reached, brought, cleared scratch
-  module _ (s s₁ s₂ s₃ s₄ s₅ : List ℕ) (v : ℕ) (is : v ≡ w) (a : RowsCleared 2056 v s s₁) (b : Adds 2056 s₁ s₂ (grouped (stored s₁ 1028) r mask (64 * n) v)) (c : RowsCleared 1028 v s₂ s₃)
-      (d : Adds 1028 s₃ s₄ (brought x (stored s₃ 2056) w (stored s₃ 0) w)) (e : RowsCleared 2056 v s₄ s₅) where
+  module _ (s s₁ s₂ s₃ s₄ s₅ : List ℕ) (v : ℕ) (is : v ≡ w) (a : RowsCleared scratchAt v s s₁) (b : Adds scratchAt s₁ s₂ (grouped (reached s₁) r mask (64 * n) v)) (c : RowsCleared reachedAt v s₂ s₃)
+      (d : Adds reachedAt s₃ s₄ (brought x (scratch s₃) w (live s₃) w)) (e : RowsCleared scratchAt v s₄ s₅) where
     abbrev G₁ : Pairs
-    G₁ = grouped (stored s₁ 1028) r mask (64 * n) v
+    G₁ = grouped (reached s₁) r mask (64 * n) v
 
     abbrev Brought : Pairs
-    Brought = brought x (stored s₃ 2056) w (stored s₃ 0) w
+    Brought = brought x (scratch s₃) w (live s₃) w
 
     abbrev Stepped : Pairs
-    Stepped = stepSet x w (stored s 0) (stored s 1028) r
+    Stepped = stepSet x w (live s) (reached s) r
 
-    group-same : (g k : ℕ) → g < w → k < w → stored s₃ 2056 g (some k) ≡ anyBelow w (λ i. eqb g (bitAnd i mask) && (stored s 1028 i (some k) && r k))
+    group-same : (g k : ℕ) → g < w → k < w → scratch s₃ g (some k) ≡ anyBelow w (λ i. eqb g (bitAnd i mask) && (reached s i (some k) && r k))
     unfolding grouped
     group-same g k hg hk =
         let hk′ : k < 256 = omega arith in
         let hm : k < 64 * n = omega arith in
         put-is w v is s s₁ s₂ s₃ s₄ s₅ G₁ Brought Stepped a b c d e g k hg (omega arith) hk′
-        ∙ any-cong v _ (λ i. eqb g (bitAnd i mask) && (stored s 1028 i (some k) && r k))
-        (λ i hi. ap₂ (λ (p q : Bool). eqb g (bitAnd i mask) && (p && (q && r k))) (lt-ltb k (64 * n) hm) (framed-before (a .frame) 1028 i (some k) (omega arith) hk′ (omega arith)))
-        ∙ ap (λ (z : ℕ). anyBelow z (λ i. eqb g (bitAnd i mask) && (stored s 1028 i (some k) && r k))) is
+        ∙ any-cong v _ (λ i. eqb g (bitAnd i mask) && (reached s i (some k) && r k))
+        (λ i hi. ap₂ (λ (p q : Bool). eqb g (bitAnd i mask) && (p && (q && r k))) (lt-ltb k (64 * n) hm) (framed-before (a .frame) reachedAt i (some k) (omega arith) hk′ (omega arith)))
+        ∙ ap (λ (z : ℕ). anyBelow z (λ i. eqb g (bitAnd i mask) && (reached s i (some k) && r k))) is
 
     brought-is : (k : ℕ) (y : Option ℕ) → k < 256 → Within 256 y → Brought k y ≡ (ltb k w && (partBelow w y && Stepped k y))
     unfolding brought gains stepSet
     brought-is k y hk hy =
-        out w (ltb k w) (partBelow w y) (stored s₃ 0 k y) (λ g. stored s₃ 2056 g (some k)) (λ g. holds x (some g) k y)
-        ∙ ap (λ (l : Bool). ltb k w && (partBelow w y && (l && anyBelow w (λ g. stored s₃ 2056 g (some k) && holds x (some g) k y)))) (live-same w v is s s₁ s₂ s₃ s₄ s₅ G₁ Brought Stepped a b c d e k y hk hy)
+        out w (ltb k w) (partBelow w y) (live s₃ k y) (λ g. scratch s₃ g (some k)) (λ g. holds x (some g) k y)
+        ∙ ap (λ (l : Bool). ltb k w && (partBelow w y && (l && anyBelow w (λ g. scratch s₃ g (some k) && holds x (some g) k y)))) (live-same w v is s s₁ s₂ s₃ s₄ s₅ G₁ Brought Stepped a b c d e k y hk hy)
         ∙ at (decLt k w)
       where
         at : Dec (k < w)
-            → (ltb k w && (partBelow w y && (stored s 0 k y && anyBelow w (λ g. stored s₃ 2056 g (some k) && holds x (some g) k y))))
-            ≡ (ltb k w && (partBelow w y && (stored s 0 k y && (r k && anyBelow w (λ i. stored s 1028 i (some k) && holds x (some i) k y)))))
+            → (ltb k w && (partBelow w y && (live s k y && anyBelow w (λ g. scratch s₃ g (some k) && holds x (some g) k y))))
+            ≡ (ltb k w && (partBelow w y && (live s k y && (r k && anyBelow w (λ i. reached s i (some k) && holds x (some i) k y)))))
         at (yes h) =
-            ap (λ (u : Bool). ltb k w && (partBelow w y && (stored s 0 k y && u)))
+            ap (λ (u : Bool). ltb k w && (partBelow w y && (live s k y && u)))
             (any-cong w _ _ (λ g hg. ap (λ (u : Bool). u && holds x (some g) k y) (group-same g k hg h))
-            ∙ groups-same x mask blind (λ i c. stored s 1028 i c && r k) w k y
-            ∙ out-heard w (r k) (λ i. stored s 1028 i (some k)) (λ i. holds x (some i) k y))
+            ∙ groups-same x mask blind (λ i c. reached s i c && r k) w k y
+            ∙ out-heard w (r k) (λ i. reached s i (some k)) (λ i. holds x (some i) k y))
         at (no h) = let z : w ≤ k = omega arith in rw (le-ltb k w z)
 
     pub rounded-later : Rounded w s s₅ Stepped
     rounded-later =
-        steps-rounded w v is s s₁ s₂ s₃ s₄ s₅ G₁ Brought Stepped a b c d e (λ k y h. group-low (stored s₁ 1028) r mask (64 * n) v k y h) brought-is
+        steps-rounded w v is s s₁ s₂ s₃ s₄ s₅ G₁ Brought Stepped a b c d e (λ k y h. group-low (reached s₁) r mask (64 * n) v k y h) brought-is

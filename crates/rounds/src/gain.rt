@@ -6,7 +6,7 @@ ghost use mathlib.Core.Option.{Option, none};
 ghost use Prim.Native.Nat.{ℕ, _+_, _*_, _/_, _^_, _<_, _≤_};
 ghost use lib.Dec.{eqb, ltb};
 ghost use lib.ListN.{length};
-ghost use Rattle.pairs.specs.Storage.{stored};
+ghost use Rattle.pairs.specs.Storage.{live, reached, scratch, reachedAt, storageWords};
 ghost use Rattle.pairs.specs.Changes.{Adds, eqNext};
 ghost use Rattle.lanes.specs.Around.{room, Before, Seen};
 ghost use Rattle.lanes.specs.Coded.{Coded, sheetOf};
@@ -16,12 +16,12 @@ use super::valuations;
 
 // Whether row b of the live set, w words of it, may have a valuation that the reached set lacks.
 fn is_new(s: &[u64], w: usize, b: usize) -> bool
-    requires { ⌜ (w ≤ 4) × (b < 256) × (3084 ≤ length (now s)) ⌝ }
-    ensures { λ r. ⌜ (r ≡ false → NoneNew (stored (now (s .entry)) 0) (stored (now (s .entry)) 1028) (64 * w) b) ⌝ }
+    requires { ⌜ (w ≤ 4) × (b < 256) × (storageWords ≤ length (now s)) ⌝ }
+    ensures { λ r. ⌜ (r ≡ false → NoneNew (live (now (s .entry))) (reached (now (s .entry))) (64 * w) b) ⌝ }
 {
     let mut j: usize = 0;
     while j < w {
-        if s[4 * b + j] & !s[1028 + (4 * b + j)] != 0 {
+        if s[4 * b + j] & !s[pairs::REACHED + (4 * b + j)] != 0 {
             return true;
         }
         j += 1;
@@ -41,8 +41,8 @@ pub fn gain_row(
     b: usize,
 )
     requires { ⌜ Coded m n (now code) (now len) ⌝ }
-    requires { ⌜ (room ((2 ^ (m + n) + 63) / 64) ≤ length (now st)) × (3084 ≤ length (now s)) × (b < 256) ⌝ }
-    ensures { λ r. ⌜ ((p : Option ℕ) → Seen env p b → (ks : List ℕ) → Adds 1028 (now (s .entry)) (now (s .exit)) (gains (sheetOf m n (now (code .entry)) (now (len .entry)) ks) (λ x. eqb x b) (cut (λ c. ltb c (2 ^ (m + n)))) (stored (now (s .entry)) 0) p)) ⌝ }
+    requires { ⌜ (room ((2 ^ (m + n) + 63) / 64) ≤ length (now st)) × (storageWords ≤ length (now s)) × (b < 256) ⌝ }
+    ensures { λ r. ⌜ ((p : Option ℕ) → Seen env p b → (ks : List ℕ) → Adds reachedAt (now (s .entry)) (now (s .exit)) (gains (sheetOf m n (now (code .entry)) (now (len .entry)) ks) (λ x. eqb x b) (cut (λ c. ltb c (2 ^ (m + n)))) (live (now (s .entry))) p)) ⌝ }
 {
     let w = row_words(m, n);
     if !is_new(s, w, b) {
@@ -54,19 +54,19 @@ pub fn gain_row(
     let mut j: usize = 0;
     while j < w {
         let live = s[4 * b + j] & low;
-        pairs::insert_word(s, 1028, b, j, live & x[j]);
+        pairs::insert_word(s, pairs::REACHED, b, j, live & x[j]);
         j += 1;
     }
 }
 
 // Whether row g of the scratch set, w words of it, may have a valuation whose end is live and that the reached set lacks.
 fn is_end_new(s: &[u64], w: usize, g: usize) -> bool
-    requires { ⌜ (w ≤ 4) × (g < 256) × (3084 ≤ length (now s)) ⌝ }
-    ensures { λ r. ⌜ (r ≡ false → NoEndNew (stored (now (s .entry)) 0) (stored (now (s .entry)) 1028) (stored (now (s .entry)) 2056) (64 * w) g) ⌝ }
+    requires { ⌜ (w ≤ 4) × (g < 256) × (storageWords ≤ length (now s)) ⌝ }
+    ensures { λ r. ⌜ (r ≡ false → NoEndNew (live (now (s .entry))) (reached (now (s .entry))) (scratch (now (s .entry))) (64 * w) g) ⌝ }
 {
     let mut j: usize = 0;
     while j < w {
-        if s[2056 + (4 * g + j)] & s[1024 + j] & !s[1028 + (1024 + j)] != 0 {
+        if s[pairs::SCRATCH + (4 * g + j)] & s[1024 + j] & !s[pairs::REACHED + (1024 + j)] != 0 {
             return true;
         }
         j += 1;
@@ -86,8 +86,8 @@ pub fn gain_ends(
     g: usize,
 )
     requires { ⌜ Coded m n (now code) (now len) ⌝ }
-    requires { ⌜ (room ((2 ^ (m + n) + 63) / 64) ≤ length (now st)) × (3084 ≤ length (now s)) × (g < 256) × Earlier before ⌝ }
-    ensures { λ r. ⌜ ((p : Option ℕ) → Before before p → (ks : List ℕ) → Adds 1028 (now (s .entry)) (now (s .exit)) (gains (sheetOf m n (now (code .entry)) (now (len .entry)) ks) (inRow (stored (now (s .entry)) 2056) (2 ^ (m + n)) g) (λ y. eqNext y none) (stored (now (s .entry)) 0) p)) ⌝ }
+    requires { ⌜ (room ((2 ^ (m + n) + 63) / 64) ≤ length (now st)) × (storageWords ≤ length (now s)) × (g < 256) × Earlier before ⌝ }
+    ensures { λ r. ⌜ ((p : Option ℕ) → Before before p → (ks : List ℕ) → Adds reachedAt (now (s .entry)) (now (s .exit)) (gains (sheetOf m n (now (code .entry)) (now (len .entry)) ks) (inRow (scratch (now (s .entry))) (2 ^ (m + n)) g) (λ y. eqNext y none) (live (now (s .entry))) p)) ⌝ }
 {
     let w = row_words(m, n);
     if !is_end_new(s, w, g) {
@@ -99,8 +99,8 @@ pub fn gain_ends(
     let mut j: usize = 0;
     while j < w {
         let live = s[1024 + j];
-        let heard = s[2056 + (4 * g + j)] & low;
-        pairs::insert_ends(s, 1028, j, live & heard & x[j]);
+        let heard = s[pairs::SCRATCH + (4 * g + j)] & low;
+        pairs::insert_ends(s, pairs::REACHED, j, live & heard & x[j]);
         j += 1;
     }
 }

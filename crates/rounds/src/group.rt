@@ -4,31 +4,31 @@ ghost use mathlib.Core.Bool.{true, false, _&&_};
 ghost use Prim.Native.Nat.{ℕ, _+_, _*_, _<_, _≤_};
 ghost use lib.Dec.{eqb};
 ghost use lib.ListN.{length};
-ghost use Rattle.pairs.specs.Storage.{stored};
+ghost use Rattle.pairs.specs.Storage.{reached, scratch, scratchAt, storageWords};
 ghost use Rattle.pairs.specs.Changes.{Adds, RowsCleared};
 ghost use Rattle.rounds.specs.Rows.{among, heardIn, grouped, Sparse, NoEnds, Quiet};
 use super::row_lanes;
 
 // Row a of the reached set, what was heard of its w words, joins row g of the scratch set.
 fn join_row(s: &mut [u64], w: usize, letters: u64, a: usize, g: usize)
-    requires { ⌜ (w ≤ 4) × (a < 256) × (g < 256) × (3084 ≤ length (now s)) ⌝ }
-    ensures { λ r. ⌜ Adds 2056 (now (s .entry)) (now (s .exit)) (λ x y. eqb x g && heardIn (stored (now (s .entry)) 1028) (among letters) (64 * w) a y) ⌝ }
+    requires { ⌜ (w ≤ 4) × (a < 256) × (g < 256) × (storageWords ≤ length (now s)) ⌝ }
+    ensures { λ r. ⌜ Adds scratchAt (now (s .entry)) (now (s .exit)) (λ x y. eqb x g && heardIn (reached (now (s .entry))) (among letters) (64 * w) a y) ⌝ }
 {
     let mut j: usize = 0;
     while j < w {
-        let x = s[1028 + (4 * a + j)];
-        pairs::insert_word(s, 2056, g, j, x & letters);
+        let x = s[pairs::REACHED + (4 * a + j)];
+        pairs::insert_word(s, pairs::SCRATCH, g, j, x & letters);
         j += 1;
     }
 }
 
 // The same; where anything was heard, g is noted among the groups.
 fn group_row(s: &mut [u64], groups: &mut [u64], w: usize, letters: u64, a: usize, g: usize)
-    requires { ⌜ (1 ≤ w) × (w ≤ 4) × (w ≡ 3 → ⊥) × (a < 256) × (g < 256) × (length (now groups) ≡ 4) × (3084 ≤ length (now s)) ⌝ }
-    ensures joined { λ r. ⌜ Adds 2056 (now (s .entry)) (now (s .exit)) (λ x y. eqb x g && heardIn (stored (now (s .entry)) 1028) (among letters) (64 * w) a y) ⌝ }
-    ensures sparse { λ r. ⌜ ((v : ℕ) → v ≤ 256 → Sparse v (now (groups .entry)) (stored (now (s .entry)) 2056) → Sparse v (now (groups .exit)) (stored (now (s .exit)) 2056)) ⌝ }
+    requires { ⌜ (1 ≤ w) × (w ≤ 4) × (w ≡ 3 → ⊥) × (a < 256) × (g < 256) × (length (now groups) ≡ 4) × (storageWords ≤ length (now s)) ⌝ }
+    ensures joined { λ r. ⌜ Adds scratchAt (now (s .entry)) (now (s .exit)) (λ x y. eqb x g && heardIn (reached (now (s .entry))) (among letters) (64 * w) a y) ⌝ }
+    ensures sparse { λ r. ⌜ ((v : ℕ) → v ≤ 256 → Sparse v (now (groups .entry)) (scratch (now (s .entry))) → Sparse v (now (groups .exit)) (scratch (now (s .exit)))) ⌝ }
 {
-    if row_lanes(s, 1028, w, a) & letters == 0 {
+    if row_lanes(s, pairs::REACHED, w, a) & letters == 0 {
         return;
     }
     join_row(s, w, letters, a, g);
@@ -38,13 +38,13 @@ fn group_row(s: &mut [u64], groups: &mut [u64], w: usize, letters: u64, a: usize
 // Whether the four rows from a on of the reached set have nothing: rows that don't begin a block of four are not looked at. Most rows are empty
 // where little is unknown, and four at once are quickly passed over.
 fn is_quiet(s: &[u64], a: usize) -> bool
-    requires { ⌜ (a < 256) × (3084 ≤ length (now s)) ⌝ }
-    ensures { λ r. ⌜ (r ≡ true → Quiet (stored (now (s .entry)) 1028) a (a + 4)) ⌝ }
+    requires { ⌜ (a < 256) × (storageWords ≤ length (now s)) ⌝ }
+    ensures { λ r. ⌜ (r ≡ true → Quiet (reached (now (s .entry))) a (a + 4)) ⌝ }
 {
     if a % 4 != 0 {
         return false;
     }
-    let at = 1028 + 4 * a;
+    let at = pairs::REACHED + 4 * a;
     let mut any: u64 = 0;
     let mut k: usize = 0;
     while k < 16 {
@@ -56,9 +56,9 @@ fn is_quiet(s: &[u64], a: usize) -> bool
 
 // Each row below v of the reached set joins the row of its group: rows that agree in the streams of the mask.
 pub fn group_rows(s: &mut [u64], groups: &mut [u64], v: usize, w: usize, letters: u64, mask: usize)
-    requires { ⌜ (v ≤ 256) × (1 ≤ w) × (w ≤ 4) × (w ≡ 3 → ⊥) × (length (now groups) ≡ 4) × (3084 ≤ length (now s)) ⌝ }
-    ensures joined { λ r. ⌜ Adds 2056 (now (s .entry)) (now (s .exit)) (grouped (stored (now (s .entry)) 1028) (among letters) mask (64 * w) v) ⌝ }
-    ensures sparse { λ r. ⌜ (Sparse v (now (groups .entry)) (stored (now (s .entry)) 2056) → Sparse v (now (groups .exit)) (stored (now (s .exit)) 2056)) ⌝ }
+    requires { ⌜ (v ≤ 256) × (1 ≤ w) × (w ≤ 4) × (w ≡ 3 → ⊥) × (length (now groups) ≡ 4) × (storageWords ≤ length (now s)) ⌝ }
+    ensures joined { λ r. ⌜ Adds scratchAt (now (s .entry)) (now (s .exit)) (grouped (reached (now (s .entry))) (among letters) mask (64 * w) v) ⌝ }
+    ensures sparse { λ r. ⌜ (Sparse v (now (groups .entry)) (scratch (now (s .entry))) → Sparse v (now (groups .exit)) (scratch (now (s .exit)))) ⌝ }
 {
     let mut a: usize = 0;
     while a < v {
@@ -73,12 +73,12 @@ pub fn group_rows(s: &mut [u64], groups: &mut [u64], v: usize, w: usize, letters
 
 // Empties the rows of the groups, where no other row below v of the scratch set has anything.
 pub fn clear_groups(s: &mut [u64], groups: &[u64], v: usize, w: usize)
-    requires { ⌜ (v ≤ 64 * w) × (w ≤ 4) × (v ≤ 256) × (length (now groups) ≡ 4) × (3084 ≤ length (now s)) × Sparse v (now groups) (stored (now s) 2056) × NoEnds (stored (now s) 2056) ⌝ }
-    ensures { λ r. ⌜ RowsCleared 2056 v (now (s .entry)) (now (s .exit)) ⌝ }
+    requires { ⌜ (v ≤ 64 * w) × (w ≤ 4) × (v ≤ 256) × (length (now groups) ≡ 4) × (storageWords ≤ length (now s)) × Sparse v (now groups) (scratch (now s)) × NoEnds (scratch (now s)) ⌝ }
+    ensures { λ r. ⌜ RowsCleared scratchAt v (now (s .entry)) (now (s .exit)) ⌝ }
 {
     let mut g = pairs::next_bit(groups, 0, w, 0);
     while g < v {
-        pairs::take_row(s, 2056, g);
+        pairs::take_row(s, pairs::SCRATCH, g);
         g = pairs::next_bit(groups, 0, w, g + 1);
     }
 }

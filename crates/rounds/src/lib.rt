@@ -8,7 +8,7 @@ ghost use lib.ListN.{length};
 ghost use Rattle.words.specs.Bits.{bit};
 ghost use Rattle.words.specs.Below.{anyBelow};
 ghost use Rattle.completions.specs.Steps.{startSet, stepSet, partBelow};
-ghost use Rattle.pairs.specs.Storage.{stored};
+ghost use Rattle.pairs.specs.Storage.{stored, live, reached, scratch, reachedAt, scratchAt, storageWords};
 ghost use Rattle.pairs.specs.Changes.{Adds};
 ghost use Rattle.lanes.specs.Around.{room, Before};
 ghost use Rattle.lanes.specs.Coded.{Coded, sheetOf};
@@ -42,7 +42,7 @@ pub fn row_words(m: usize, n: usize) -> usize
 
 // The valuations of row a of the set at base, its w words joined: in each lane whether some word has it.
 pub fn row_lanes(s: &[u64], base: usize, w: usize, a: usize) -> u64
-    requires { ⌜ (1 ≤ w) × (w ≤ 4) × (w ≡ 3 → ⊥) × (a < 256) × (base ≤ 2056) × (3084 ≤ length (now s)) ⌝ }
+    requires { ⌜ (1 ≤ w) × (w ≤ 4) × (w ≡ 3 → ⊥) × (a < 256) × (base ≤ scratchAt) × (storageWords ≤ length (now s)) ⌝ }
     ensures { λ r. ⌜ ((i : ℕ) → i < 64 → bit i r ≡ anyBelow w (λ j. stored (now (s .entry)) base a (some (64 * j + i)))) ⌝ }
 {
     let at = base + 4 * a;
@@ -70,12 +70,12 @@ fn bring_row(
     g: usize,
 )
     requires { ⌜ Coded m n (now code) (now len) ⌝ }
-    requires { ⌜ (room ((2 ^ (m + n) + 63) / 64) ≤ length (now st)) × (3084 ≤ length (now s)) × (g < 256) × Earlier before ⌝ }
-    ensures { λ r. ⌜ ((p : Option ℕ) → Before before p → (ks : List ℕ) → Adds 1028 (now (s .entry)) (now (s .exit)) (gains (sheetOf m n (now (code .entry)) (now (len .entry)) ks) (inRow (stored (now (s .entry)) 2056) (2 ^ (m + n)) g) (partBelow (2 ^ (m + n))) (stored (now (s .entry)) 0) p)) ⌝ }
+    requires { ⌜ (room ((2 ^ (m + n) + 63) / 64) ≤ length (now st)) × (storageWords ≤ length (now s)) × (g < 256) × Earlier before ⌝ }
+    ensures { λ r. ⌜ ((p : Option ℕ) → Before before p → (ks : List ℕ) → Adds reachedAt (now (s .entry)) (now (s .exit)) (gains (sheetOf m n (now (code .entry)) (now (len .entry)) ks) (inRow (scratch (now (s .entry))) (2 ^ (m + n)) g) (partBelow (2 ^ (m + n))) (live (now (s .entry))) p)) ⌝ }
 {
     let v = valuations(m, n);
     let w = row_words(m, n);
-    let at = 2056 + 4 * g;
+    let at = pairs::SCRATCH + 4 * g;
     let mut b = pairs::next_bit(s, at, w, 0);
     while b < v {
         let env = lanes::seen(before, b);
@@ -89,12 +89,12 @@ fn bring_row(
 
 // Puts the valuations below v that were heard into row 0 of the scratch set, w words of it.
 fn hear(s: &mut [u64], v: usize, w: usize, letters: u64)
-    requires { ⌜ (v ≤ 256) × (w ≤ 4) × (3084 ≤ length (now s)) ⌝ }
-    ensures { λ r. ⌜ Adds 2056 (now (s .entry)) (now (s .exit)) (heardFirst v (among letters) (64 * w)) ⌝ }
+    requires { ⌜ (v ≤ 256) × (w ≤ 4) × (storageWords ≤ length (now s)) ⌝ }
+    ensures { λ r. ⌜ Adds scratchAt (now (s .entry)) (now (s .exit)) (heardFirst v (among letters) (64 * w)) ⌝ }
 {
     let mut j: usize = 0;
     while j < w {
-        pairs::insert_word(s, 2056, 0, j, words::lanes_below(v, j) & letters);
+        pairs::insert_word(s, pairs::SCRATCH, 0, j, words::lanes_below(v, j) & letters);
         j += 1;
     }
 }
@@ -102,8 +102,8 @@ fn hear(s: &mut [u64], v: usize, w: usize, letters: u64)
 // The pairs that row 0 of the scratch set brings, with nothing before it.
 fn bring_first(s: &mut [u64], code: &[u8], len: &[usize], m: usize, n: usize)
     requires { ⌜ Coded m n (now code) (now len) ⌝ }
-    requires { ⌜ 3084 ≤ length (now s) ⌝ }
-    ensures { λ r. ⌜ ((ks : List ℕ) → Adds 1028 (now (s .entry)) (now (s .exit)) (gains (sheetOf m n (now (code .entry)) (now (len .entry)) ks) (inRow (stored (now (s .entry)) 2056) (2 ^ (m + n)) 0) (partBelow (2 ^ (m + n))) (stored (now (s .entry)) 0) none)) ⌝ }
+    requires { ⌜ storageWords ≤ length (now s) ⌝ }
+    ensures { λ r. ⌜ ((ks : List ℕ) → Adds reachedAt (now (s .entry)) (now (s .exit)) (gains (sheetOf m n (now (code .entry)) (now (len .entry)) ks) (inRow (scratch (now (s .entry))) (2 ^ (m + n)) 0) (partBelow (2 ^ (m + n))) (live (now (s .entry))) none)) ⌝ }
 {
     let mut st = [0u64; 256];
     bring_row(s, &mut st, code, len, m, n, lanes::before(true, 0), 0);
@@ -112,15 +112,15 @@ fn bring_first(s: &mut [u64], code: &[u8], len: &[usize], m: usize, n: usize)
 // The first round, where the valuations heard are those of the lanes of `letters`.
 pub fn first_round(s: &mut [u64], code: &[u8], len: &[usize], m: usize, n: usize, letters: u64)
     requires { ⌜ Coded m n (now code) (now len) ⌝ }
-    requires { ⌜ 3084 ≤ length (now s) ⌝ }
-    ensures { λ r. ⌜ ((ks : List ℕ) → Rounded (2 ^ (m + n)) (now (s .entry)) (now (s .exit)) (startSet (sheetOf m n (now (code .entry)) (now (len .entry)) ks) (stored (now (s .entry)) 0) (among letters))) ⌝ }
+    requires { ⌜ storageWords ≤ length (now s) ⌝ }
+    ensures { λ r. ⌜ ((ks : List ℕ) → Rounded (2 ^ (m + n)) (now (s .entry)) (now (s .exit)) (startSet (sheetOf m n (now (code .entry)) (now (len .entry)) ks) (live (now (s .entry))) (among letters))) ⌝ }
 {
     let v = valuations(m, n);
-    pairs::clear_rows(s, 2056, v);
+    pairs::clear_rows(s, pairs::SCRATCH, v);
     hear(s, v, row_words(m, n), letters);
-    pairs::clear_rows(s, 1028, v);
+    pairs::clear_rows(s, pairs::REACHED, v);
     bring_first(s, code, len, m, n);
-    pairs::clear_rows(s, 2056, v);
+    pairs::clear_rows(s, pairs::SCRATCH, v);
 }
 
 // ---- A later round
@@ -136,8 +136,8 @@ fn bring_rows(
     n: usize,
 )
     requires { ⌜ Coded m n (now code) (now len) ⌝ }
-    requires { ⌜ (room ((2 ^ (m + n) + 63) / 64) ≤ length (now st)) × (length (now groups) ≡ 4) × (3084 ≤ length (now s)) × Sparse (2 ^ (m + n)) (now groups) (stored (now s) 2056) ⌝ }
-    ensures { λ r. ⌜ ((ks : List ℕ) → Adds 1028 (now (s .entry)) (now (s .exit)) (brought (sheetOf m n (now (code .entry)) (now (len .entry)) ks) (stored (now (s .entry)) 2056) (2 ^ (m + n)) (stored (now (s .entry)) 0) (2 ^ (m + n)))) ⌝ }
+    requires { ⌜ (room ((2 ^ (m + n) + 63) / 64) ≤ length (now st)) × (length (now groups) ≡ 4) × (storageWords ≤ length (now s)) × Sparse (2 ^ (m + n)) (now groups) (scratch (now s)) ⌝ }
+    ensures { λ r. ⌜ ((ks : List ℕ) → Adds reachedAt (now (s .entry)) (now (s .exit)) (brought (sheetOf m n (now (code .entry)) (now (len .entry)) ks) (scratch (now (s .entry))) (2 ^ (m + n)) (live (now (s .entry))) (2 ^ (m + n)))) ⌝ }
 {
     let v = valuations(m, n);
     let w = row_words(m, n);
@@ -151,8 +151,8 @@ fn bring_rows(
 // The same, with as much room as the valuations want.
 fn bring_pairs(s: &mut [u64], groups: &[u64], code: &[u8], len: &[usize], m: usize, n: usize)
     requires { ⌜ Coded m n (now code) (now len) ⌝ }
-    requires { ⌜ (length (now groups) ≡ 4) × (3084 ≤ length (now s)) × Sparse (2 ^ (m + n)) (now groups) (stored (now s) 2056) ⌝ }
-    ensures { λ r. ⌜ ((ks : List ℕ) → Adds 1028 (now (s .entry)) (now (s .exit)) (brought (sheetOf m n (now (code .entry)) (now (len .entry)) ks) (stored (now (s .entry)) 2056) (2 ^ (m + n)) (stored (now (s .entry)) 0) (2 ^ (m + n)))) ⌝ }
+    requires { ⌜ (length (now groups) ≡ 4) × (storageWords ≤ length (now s)) × Sparse (2 ^ (m + n)) (now groups) (scratch (now s)) ⌝ }
+    ensures { λ r. ⌜ ((ks : List ℕ) → Adds reachedAt (now (s .entry)) (now (s .exit)) (brought (sheetOf m n (now (code .entry)) (now (len .entry)) ks) (scratch (now (s .entry))) (2 ^ (m + n)) (live (now (s .entry))) (2 ^ (m + n)))) ⌝ }
 {
     if valuations(m, n) <= 128 {
         let mut st = [0u64; 128];
@@ -167,16 +167,16 @@ fn bring_pairs(s: &mut [u64], groups: &[u64], code: &[u8], len: &[usize], m: usi
 // successors, so the rows of the reached set, what was heard of them, are first joined by these groups.
 pub fn later_round(s: &mut [u64], code: &[u8], len: &[usize], m: usize, n: usize, letters: u64)
     requires { ⌜ Coded m n (now code) (now len) ⌝ }
-    requires { ⌜ 3084 ≤ length (now s) ⌝ }
-    ensures { λ r. ⌜ ((ks : List ℕ) → Rounded (2 ^ (m + n)) (now (s .entry)) (now (s .exit)) (stepSet (sheetOf m n (now (code .entry)) (now (len .entry)) ks) (2 ^ (m + n)) (stored (now (s .entry)) 0) (stored (now (s .entry)) 1028) (among letters))) ⌝ }
+    requires { ⌜ storageWords ≤ length (now s) ⌝ }
+    ensures { λ r. ⌜ ((ks : List ℕ) → Rounded (2 ^ (m + n)) (now (s .entry)) (now (s .exit)) (stepSet (sheetOf m n (now (code .entry)) (now (len .entry)) ks) (2 ^ (m + n)) (live (now (s .entry))) (reached (now (s .entry))) (among letters))) ⌝ }
 {
     let v = valuations(m, n);
     let mask = lanes::earlier_mask(code, len, m, n);
-    pairs::clear_rows(s, 2056, v);
+    pairs::clear_rows(s, pairs::SCRATCH, v);
     let mut groups = [0u64; 4];
     let w = row_words(m, n);
     group_rows(s, &mut groups, v, w, letters, mask);
-    pairs::clear_rows(s, 1028, v);
+    pairs::clear_rows(s, pairs::REACHED, v);
     bring_pairs(s, &groups, code, len, m, n);
     clear_groups(s, &groups, v, w);
 }

@@ -6,7 +6,7 @@ use Prim.Native.Nat.{ℕ, _+_, _-_, _*_, _^_, _≤_, min}
 use native.Mathlib.Omega.{arith}
 use lib.ListN.{length}
 use borrow.Author.Needs.{needs}
-use Rattle.pairs.specs.Storage.{stored}
+use Rattle.pairs.specs.Storage.{live, scratch, reachedAt}
 use Rattle.pairs.specs.Changes.{Adds}
 use Rattle.lanes.specs.Around.{unless}
 use Rattle.lanes.specs.Coded.{sheetOf}
@@ -26,7 +26,7 @@ Inv-loop s₀ st₀ groups code len m n v w g₀ s st g =
     (g ≤ 64 * w)
     × (length s ≡ length s₀)
     × (length st ≡ length st₀)
-    × ((ks : List ℕ) → Adds 1028 s₀ s (brought (sheetOf m n code len ks) (stored s₀ 2056) (2 ^ (m + n)) (stored s₀ 0) (min g (2 ^ (m + n)))))
+    × ((ks : List ℕ) → Adds reachedAt s₀ s (brought (sheetOf m n code len ks) (scratch s₀) (2 ^ (m + n)) (live s₀) (min g (2 ^ (m + n)))))
 
 abbrev μ-loop : tie.MeasureT-loop
 μ-loop s₀ st₀ groups code len m n v w g₀ s st g = 64 * w - g

@@ -4,6 +4,7 @@ use Prim.Native.Nat.{_-_, _*_, _≤_}
 use native.Mathlib.Omega.{arith}
 use lib.ListN.{length}
 use borrow.Author.Needs.{needs}
+use Rattle.pairs.specs.Storage.{scratchAt}
 use Rattle.pairs.specs.Changes.{Adds}
 use Rattle.rounds.specs.Rows.{among, heardFirst}
 use Rattle.rounds.proofs.RoundLaws.{heard-none, heard-more, heard-all}
@@ -15,7 +16,7 @@ use Rattle.pairs.proofs.insert_word.Reads as insert-word-reads
 use Rattle.words.proofs.lanes_below.Reads as lanes-below-reads
 
 abbrev Inv-loop : tie.InvT-loop
-Inv-loop s₀ v w letters j₀ s j = (j ≤ w) × (length s ≡ length s₀) × Adds 2056 s₀ s (heardFirst v (among letters) (64 * j))
+Inv-loop s₀ v w letters j₀ s j = (j ≤ w) × (length s ≡ length s₀) × Adds scratchAt s₀ s (heardFirst v (among letters) (64 * j))
 
 abbrev μ-loop : tie.MeasureT-loop
 μ-loop s₀ v w letters j₀ s j = w - j

@@ -9,7 +9,7 @@ use lib.Dec.{ltb}
 use lib.ListN.{length}
 use borrow.Author.Needs.{needs}
 use borrow.Author.Tests.{not-true}
-use Rattle.pairs.specs.Storage.{stored}
+use Rattle.pairs.specs.Storage.{live, scratch, reachedAt}
 use Rattle.pairs.specs.Changes.{Adds, eqNext}
 use Rattle.lanes.specs.Around.{room, Before}
 use Rattle.lanes.specs.Coded.{sheetOf}
@@ -31,7 +31,7 @@ Inv-loop s₀ st code len m n before g w low x j₀ s j =
     (j ≤ w)
     × (length s ≡ length s₀)
     × ((p : Option ℕ) → Before before p → (ks : List ℕ)
-    → Adds 1028 s₀ s (gains (sheetOf m n code len ks) (λ b. ltb b (64 * j) && inRow (stored s₀ 2056) (2 ^ (m + n)) g b) (λ y. eqNext y none) (stored s₀ 0) p))
+    → Adds reachedAt s₀ s (gains (sheetOf m n code len ks) (λ b. ltb b (64 * j) && inRow (scratch s₀) (2 ^ (m + n)) g b) (λ y. eqNext y none) (live s₀) p))
 
 abbrev μ-loop : tie.MeasureT-loop
 μ-loop s₀ st code len m n before g w low x j₀ s j = w - j

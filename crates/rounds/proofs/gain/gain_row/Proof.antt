@@ -9,7 +9,7 @@ use lib.Dec.{eqb, ltb}
 use lib.ListN.{length}
 use borrow.Author.Needs.{needs}
 use borrow.Author.Tests.{not-true}
-use Rattle.pairs.specs.Storage.{stored}
+use Rattle.pairs.specs.Storage.{live, reachedAt}
 use Rattle.pairs.specs.Changes.{Adds}
 use Rattle.lanes.specs.Around.{room, Seen}
 use Rattle.lanes.specs.Coded.{sheetOf}
@@ -32,7 +32,7 @@ Inv-loop s₀ st code len m n env b w low x j₀ s j =
     (j ≤ w)
     × (length s ≡ length s₀)
     × ((p : Option ℕ) → Seen env p b → (ks : List ℕ)
-    → Adds 1028 s₀ s (gains (sheetOf m n code len ks) (λ a. eqb a b) (cut (λ c. ltb c (64 * j) && ltb c (2 ^ (m + n)))) (stored s₀ 0) p))
+    → Adds reachedAt s₀ s (gains (sheetOf m n code len ks) (λ a. eqb a b) (cut (λ c. ltb c (64 * j) && ltb c (2 ^ (m + n)))) (live s₀) p))
 
 abbrev μ-loop : tie.MeasureT-loop
 μ-loop s₀ st code len m n env b w low x j₀ s j = w - j

@@ -3,7 +3,7 @@ use mathlib.Core.Bool.{true≢false}
 use Prim.Native.Nat.{_-_, _*_, _≤_}
 use native.Mathlib.Omega.{arith}
 use borrow.Author.Needs.{needs}
-use Rattle.pairs.specs.Storage.{stored}
+use Rattle.pairs.specs.Storage.{live, reached, scratch}
 use Rattle.rounds.specs.Rows.{NoEndNew}
 use Rattle.rounds.proofs.EndLaws.{no-end-more}
 use Rattle.rounds.proofs.gain.is_end_new.Statement.{statement}
@@ -12,7 +12,7 @@ use Rattle.rounds.proofs.gain.is_end_new.Reads as reads
 use Rattle.rounds.proofs.gain.is_end_new.Lts as lts
 
 abbrev Inv-loop : tie.InvT-loop
-Inv-loop s w g j₀ j = (j ≤ w) × NoEndNew (stored s 0) (stored s 1028) (stored s 2056) (64 * j) g
+Inv-loop s w g j₀ j = (j ≤ w) × NoEndNew (live s) (reached s) (scratch s) (64 * j) g
 
 abbrev μ-loop : tie.MeasureT-loop
 μ-loop s w g j₀ j = w - j

@@ -3,14 +3,14 @@ use mathlib.Core.Bool.{true≢false}
 use Prim.Native.Nat.{_-_, _*_, _≤_}
 use native.Mathlib.Omega.{arith}
 use borrow.Author.Needs.{needs}
-use Rattle.pairs.specs.Storage.{stored}
+use Rattle.pairs.specs.Storage.{live, reached}
 use Rattle.rounds.specs.Rows.{NoneNew}
 use Rattle.rounds.proofs.WordLaws.{none-new-more}
 use Rattle.rounds.proofs.gain.is_new.Statement.{statement}
 use Rattle.rounds.proofs.gain.is_new.Tie as tie
 
 abbrev Inv-loop : tie.InvT-loop
-Inv-loop s w b j₀ j = (j ≤ w) × NoneNew (stored s 0) (stored s 1028) (64 * j) b
+Inv-loop s w b j₀ j = (j ≤ w) × NoneNew (live s) (reached s) (64 * j) b
 
 abbrev μ-loop : tie.MeasureT-loop
 μ-loop s w b j₀ j = w - j

@@ -5,7 +5,7 @@ use native.Mathlib.Omega.{arith}
 use lib.ListN.{length}
 use lib.Bits.{and-le-l}
 use borrow.Author.Needs.{needs}
-use Rattle.pairs.specs.Storage.{stored}
+use Rattle.pairs.specs.Storage.{reached, scratch, scratchAt}
 use Rattle.pairs.specs.Changes.{Adds}
 use Rattle.rounds.specs.Rows.{among, grouped, Sparse}
 use Rattle.rounds.proofs.WordLaws.{upto-none, upto-row, upto-quiet, upto-all}
@@ -15,8 +15,8 @@ use Rattle.rounds.proofs.group.group_rows.Tie as tie
 abbrev Inv-loop : tie.InvT-loop
 Inv-loop s₀ groups₀ v w letters mask a₀ s groups a =
     (a ≤ v + 3) × (length s ≡ length s₀) × (length groups ≡ length groups₀)
-    × Adds 2056 s₀ s (grouped (stored s₀ 1028) (among letters) mask (64 * w) (min a v))
-    × (Sparse v groups₀ (stored s₀ 2056) → Sparse v groups (stored s 2056))
+    × Adds scratchAt s₀ s (grouped (reached s₀) (among letters) mask (64 * w) (min a v))
+    × (Sparse v groups₀ (scratch s₀) → Sparse v groups (scratch s))
 
 abbrev μ-loop : tie.MeasureT-loop
 μ-loop s₀ groups₀ v w letters mask a₀ s groups a = v - a

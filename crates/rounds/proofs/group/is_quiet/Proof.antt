@@ -4,12 +4,13 @@ use Prim.Native.Nat.{_+_, _-_, _*_, _≤_}
 use native.Mathlib.Omega.{arith}
 use borrow.Author.Needs.{needs}
 use borrow.Author.Tests.{eqb-true}
+use Rattle.pairs.specs.Storage.{reachedAt}
 use Rattle.rounds.proofs.WordLaws.{Joining, joining-none, joining-more, joining-quiet}
 use Rattle.rounds.proofs.group.is_quiet.Statement.{statement}
 use Rattle.rounds.proofs.group.is_quiet.Tie as tie
 
 abbrev Inv-loop : tie.InvT-loop
-Inv-loop s a at any₀ k₀ any k = (k ≤ 16) × Joining s (1028 + 4 * a) any k
+Inv-loop s a at any₀ k₀ any k = (k ≤ 16) × Joining s (reachedAt + 4 * a) any k
 
 abbrev μ-loop : tie.MeasureT-loop
 μ-loop s a at any₀ k₀ any k = 16 - k

@@ -4,13 +4,14 @@ use Prim.Native.Nat.{_-_, _*_, _≤_}
 use native.Mathlib.Omega.{arith}
 use lib.ListN.{length}
 use borrow.Author.Needs.{needs}
+use Rattle.pairs.specs.Storage.{scratchAt}
 use Rattle.pairs.specs.Changes.{Adds}
 use Rattle.rounds.proofs.WordLaws.{Joined, joined-none, joined-more, joined-all}
 use Rattle.rounds.proofs.group.join_row.Statement.{statement}
 use Rattle.rounds.proofs.group.join_row.Tie as tie
 
 abbrev Inv-loop : tie.InvT-loop
-Inv-loop s₀ w letters a g j₀ s j = (j ≤ w) × (length s ≡ length s₀) × Adds 2056 s₀ s (Joined s₀ letters a g (64 * j))
+Inv-loop s₀ w letters a g j₀ s j = (j ≤ w) × (length s ≡ length s₀) × Adds scratchAt s₀ s (Joined s₀ letters a g (64 * j))
 
 abbrev μ-loop : tie.MeasureT-loop
 μ-loop s₀ w letters a g j₀ s j = w - j

@@ -32,13 +32,7 @@ fn step_bit(env: u64, stack: u64, byte: u8) -> u64
             stack / 4 * 2 + 1
         };
     }
-    stack * 2 + wide(byte % 2)
-}
-
-fn wide(x: u8) -> u64
-    ensures { λ r. ⌜ r ≡ x ⌝ }
-{
-    x as u64
+    stack * 2 + words::wide(byte % 2)
 }
 
 // The value of an expression whose reads are the bits of `env`.

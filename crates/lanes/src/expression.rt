@@ -13,6 +13,7 @@ use super::row::not_row;
 use super::row::or_row;
 use super::row::read_row;
 use super::row::store_row;
+use words::Size;
 
 // One expression byte on a stack of rows of two words: the top is in `top`, what lies below it, `used` rows, in st. Returns how many then do.
 fn two_step(st: &mut [u64], top: &mut [u64], used: usize, env: u64, f: u8, e: u8) -> usize
@@ -100,22 +101,23 @@ fn four_value(st: &mut [u64], top: &mut [u64], env: u64, f: u8, expr: &[u8])
     }
 }
 
-// The lanes of two words in which the n outputs, streams m on of b, have the values of their expressions, left in acc.
+// The lanes of two words in which the outputs, as streams of b, have the values of their expressions, left in acc.
 pub fn two_equations(
     acc: &mut [u64],
     st: &mut [u64],
-    env: u64,
-    f: u8,
     code: &[u8],
     len: &[usize],
-    m: usize,
-    n: usize,
+    size: Size,
+    env: u64,
+    f: u8,
     b: usize,
 )
-    requires { ⌜ Coded m n (now code) (now len) ⌝ }
+    requires { ⌜ Coded (size .inputs) (size .outputs) (now code) (now len) ⌝ }
     requires { ⌜ (length (now acc) ≡ 4) × (128 ≤ length (now st)) ⌝ }
-    ensures { λ r. ⌜ Agree 2 env f m n (now (code .entry)) (now (len .entry)) b (now (acc .exit)) n ⌝ }
+    ensures { λ r. ⌜ Agree 2 env f (size .inputs) (size .outputs) (now (code .entry)) (now (len .entry)) b (now (acc .exit)) (size .outputs) ⌝ }
 {
+    let m = size.inputs;
+    let n = size.outputs;
     let mut x = [0u64; 4];
     fill_row(acc, 2, 0xffff_ffff_ffff_ffff);
     let mut k: usize = 0;
@@ -135,18 +137,19 @@ pub fn two_equations(
 pub fn four_equations(
     acc: &mut [u64],
     st: &mut [u64],
-    env: u64,
-    f: u8,
     code: &[u8],
     len: &[usize],
-    m: usize,
-    n: usize,
+    size: Size,
+    env: u64,
+    f: u8,
     b: usize,
 )
-    requires { ⌜ Coded m n (now code) (now len) ⌝ }
+    requires { ⌜ Coded (size .inputs) (size .outputs) (now code) (now len) ⌝ }
     requires { ⌜ (length (now acc) ≡ 4) × (256 ≤ length (now st)) ⌝ }
-    ensures { λ r. ⌜ Agree 4 env f m n (now (code .entry)) (now (len .entry)) b (now (acc .exit)) n ⌝ }
+    ensures { λ r. ⌜ Agree 4 env f (size .inputs) (size .outputs) (now (code .entry)) (now (len .entry)) b (now (acc .exit)) (size .outputs) ⌝ }
 {
+    let m = size.inputs;
+    let n = size.outputs;
     let mut x = [0u64; 4];
     fill_row(acc, 4, 0xffff_ffff_ffff_ffff);
     let mut k: usize = 0;

@@ -14,8 +14,8 @@ ghost use Rattle.lanes.specs.Coded.{Coded, sheetOf, Agree};
 use expression::four_equations;
 use expression::two_equations;
 use mask::expression_mask;
-use mask::wide;
 use sheet::OutputNo;
+use words::Size;
 
 mod expression; // expression.rt: expressions and equations on rows of two words and of four
 mod mask; // mask.rt: the streams that expressions read one round earlier
@@ -39,28 +39,26 @@ pub fn output_stream(m: usize, k: usize) -> usize
     q.0 as usize
 }
 
-// The lanes of w words in which the n outputs, streams m on of b, have the values of their expressions, left in acc.
+// The lanes of a row in which the outputs, as streams of b, have the values of their expressions, left in acc.
 fn equations_row(
     acc: &mut [u64],
     st: &mut [u64],
-    w: usize,
-    env: u64,
-    f: u8,
     code: &[u8],
     len: &[usize],
-    m: usize,
-    n: usize,
+    size: Size,
+    env: u64,
+    f: u8,
     b: usize,
 )
-    requires { ⌜ Coded m n (now code) (now len) ⌝ }
-    requires { ⌜ (w ≤ 4) × (length (now acc) ≡ 4) × (room w ≤ length (now st)) ⌝ }
-    ensures { λ r. ⌜ Agree w env f m n (now (code .entry)) (now (len .entry)) b (now (acc .exit)) n ⌝ }
+    requires { ⌜ Coded (size .inputs) (size .outputs) (now code) (now len) ⌝ }
+    requires { ⌜ (size .words ≤ 4) × (length (now acc) ≡ 4) × (room (size .words) ≤ length (now st)) ⌝ }
+    ensures { λ r. ⌜ Agree (size .words) env f (size .inputs) (size .outputs) (now (code .entry)) (now (len .entry)) b (now (acc .exit)) (size .outputs) ⌝ }
 {
-    if w <= 2 {
-        two_equations(acc, st, env, f, code, len, m, n, b);
+    if size.words <= 2 {
+        two_equations(acc, st, code, len, size, env, f, b);
         return;
     }
-    four_equations(acc, st, env, f, code, len, m, n, b);
+    four_equations(acc, st, code, len, size, env, f, b);
 }
 
 // ---- The reads of a round
@@ -103,71 +101,47 @@ pub fn ahead(b: usize, last: bool, c: usize) -> u64
 
 // ---- The equations of a round and its neighbours
 
-// The lanes i of the w words j in which the equations hold at b before 64 * j + i.
+// The lanes i of the words j of a row in which the equations hold at b before 64 * j + i.
 pub fn successors(
     row: &mut [u64],
     st: &mut [u64],
-    w: usize,
     code: &[u8],
     len: &[usize],
-    m: usize,
-    n: usize,
+    size: Size,
     env: u64,
     b: usize,
 )
-    requires { ⌜ Coded m n (now code) (now len) ⌝ }
-    requires { ⌜ (w ≤ 4) × (length (now row) ≡ 4) × (room w ≤ length (now st)) ⌝ }
-    ensures { λ r. ⌜ ((p : Option ℕ) → Seen env p b → (ks : List ℕ) (j i : ℕ) → j < w → i < 64 → bit i (getD (now (row .exit)) j 0) ≡ holds (sheetOf m n (now (code .entry)) (now (len .entry)) ks) p b (some (64 * j + i))) ⌝ }
+    requires { ⌜ Coded (size .inputs) (size .outputs) (now code) (now len) ⌝ }
+    requires { ⌜ (size .words ≤ 4) × (length (now row) ≡ 4) × (room (size .words) ≤ length (now st)) ⌝ }
+    ensures { λ r. ⌜ ((p : Option ℕ) → Seen env p b → (ks : List ℕ) (j i : ℕ) → j < size .words → i < 64 → bit i (getD (now (row .exit)) j 0) ≡ holds (sheetOf (size .inputs) (size .outputs) (now (code .entry)) (now (len .entry)) ks) p b (some (64 * j + i))) ⌝ }
 {
-    equations_row(row, st, w, env, LATER, code, len, m, n, b);
+    equations_row(row, st, code, len, size, env, LATER, b);
 }
 
-// The lanes i of the w words j in which the equations hold at 64 * j + i with nothing after it, after the round whose reads are `before`.
-pub fn enders(
-    row: &mut [u64],
-    st: &mut [u64],
-    w: usize,
-    code: &[u8],
-    len: &[usize],
-    m: usize,
-    n: usize,
-    before: u64,
-)
-    requires { ⌜ Coded m n (now code) (now len) ⌝ }
-    requires { ⌜ (w ≤ 4) × (length (now row) ≡ 4) × (room w ≤ length (now st)) × (before < 4294967296) ⌝ }
-    ensures { λ r. ⌜ ((p : Option ℕ) → Before before p → (ks : List ℕ) (j i : ℕ) → j < w → i < 64 → bit i (getD (now (row .exit)) j 0) ≡ holds (sheetOf m n (now (code .entry)) (now (len .entry)) ks) p (64 * j + i) none) ⌝ }
+// The lanes i of the words j of a row in which the equations hold at 64 * j + i with nothing after it, after the round whose reads are `before`.
+pub fn enders(row: &mut [u64], st: &mut [u64], code: &[u8], len: &[usize], size: Size, before: u64)
+    requires { ⌜ Coded (size .inputs) (size .outputs) (now code) (now len) ⌝ }
+    requires { ⌜ (size .words ≤ 4) × (length (now row) ≡ 4) × (room (size .words) ≤ length (now st)) × (before < 4294967296) ⌝ }
+    ensures { λ r. ⌜ ((p : Option ℕ) → Before before p → (ks : List ℕ) (j i : ℕ) → j < size .words → i < 64 → bit i (getD (now (row .exit)) j 0) ≡ holds (sheetOf (size .inputs) (size .outputs) (now (code .entry)) (now (len .entry)) ks) p (64 * j + i) none) ⌝ }
 {
-    equations_row(
-        row,
-        st,
-        w,
-        before + 0xff00_0000_0000,
-        NOW,
-        code,
-        len,
-        m,
-        n,
-        0,
-    );
+    equations_row(row, st, code, len, size, before + 0xff00_0000_0000, NOW, 0);
 }
 
-// The lanes i of the w words j in which the equations hold at b after 64 * j + i.
+// The lanes i of the words j of a row in which the equations hold at b after 64 * j + i.
 pub fn predecessors(
     row: &mut [u64],
     st: &mut [u64],
-    w: usize,
     code: &[u8],
     len: &[usize],
-    m: usize,
-    n: usize,
+    size: Size,
     env: u64,
     b: usize,
 )
-    requires { ⌜ Coded m n (now code) (now len) ⌝ }
-    requires { ⌜ (w ≤ 4) × (length (now row) ≡ 4) × (room w ≤ length (now st)) ⌝ }
-    ensures { λ r. ⌜ ((c : Option ℕ) → Ahead env b c → (ks : List ℕ) (j i : ℕ) → j < w → i < 64 → bit i (getD (now (row .exit)) j 0) ≡ holds (sheetOf m n (now (code .entry)) (now (len .entry)) ks) (some (64 * j + i)) b c) ⌝ }
+    requires { ⌜ Coded (size .inputs) (size .outputs) (now code) (now len) ⌝ }
+    requires { ⌜ (size .words ≤ 4) × (length (now row) ≡ 4) × (room (size .words) ≤ length (now st)) ⌝ }
+    ensures { λ r. ⌜ ((c : Option ℕ) → Ahead env b c → (ks : List ℕ) (j i : ℕ) → j < size .words → i < 64 → bit i (getD (now (row .exit)) j 0) ≡ holds (sheetOf (size .inputs) (size .outputs) (now (code .entry)) (now (len .entry)) ks) (some (64 * j + i)) b c) ⌝ }
 {
-    equations_row(row, st, w, env, EARLIER, code, len, m, n, b);
+    equations_row(row, st, code, len, size, env, EARLIER, b);
 }
 
 // ---- What the equations see of the round before
@@ -185,5 +159,5 @@ pub fn earlier_mask(code: &[u8], len: &[usize], m: usize, n: usize) -> usize
         w = w | expression_mask(&code[from..to]);
         k += 1;
     }
-    wide(w)
+    words::wide(w) as usize
 }

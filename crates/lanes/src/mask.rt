@@ -32,10 +32,3 @@ pub fn expression_mask(expr: &[u8]) -> u8
     }
     w
 }
-
-// The same number in more bits.
-pub fn wide(x: u8) -> usize
-    ensures { λ r. ⌜ r ≡ x ⌝ }
-{
-    x as usize
-}

@@ -6,6 +6,7 @@ ghost use mathlib.Core.Option.{none, some};
 ghost use lib.Dec.{eqb};
 ghost use lib.ListN.{length};
 ghost use Prim.Native.Nat.{ℕ, _+_, _*_, _^_, _<_, _≤_};
+ghost use Rattle.words.specs.Sizes.{Sized};
 ghost use Rattle.sheet.specs.RuleSheet.{requiredOf};
 ghost use Rattle.sheet.specs.Reading.{Below};
 ghost use Rattle.completions.specs.Live.{allowed};
@@ -16,6 +17,7 @@ ghost use Rattle.unions.specs.Rows.{Row};
 ghost use Rattle.preparation.specs.Search.{joinersAt, newcomers, newcomersIn, enders, Joins, Occupied, Apart, Started, Swept};
 ghost use Rattle.preparation.specs.Prepared.{Prepared, Reach};
 use sheet::Assumed;
+use words::Size;
 
 // (a, b) joins the live set and the next layer, unless it is live. `rows` are the next layer's rows.
 fn join(s: &mut [u64], rows: &mut [u64], next: usize, a: usize, b: usize)
@@ -87,20 +89,19 @@ fn join_before(
     ok: &[u64],
     code: &[u8],
     len: &[usize],
-    m: usize,
-    n: usize,
-    w: usize,
+    size: Size,
     layer: usize,
     next: usize,
     b: usize,
 )
-    requires { ⌜ Coded m n (now code) (now len) ⌝ }
-    requires { ⌜ (w ≤ 4) × (2 ^ (m + n) ≤ 64 * w) × (length (now ok) ≡ 4) × (length (now rows) ≡ 4) × (256 ≤ length (now st)) × (b < 256) × (layer ≤ scratchAt) × (reachedAt ≤ next) × (next ≤ scratchAt) × (storageWords ≤ length (now s)) ⌝ }
-    ensures { λ r. ⌜ ((ks : List ℕ) → Row w (now (ok .entry)) (allowed (sheetOf m n (now (code .entry)) (now (len .entry)) ks)) → Joins next (now (s .entry)) (now (s .exit)) (joinersAt (sheetOf m n (now (code .entry)) (now (len .entry)) ks) (64 * w) b (live (now (s .entry))) (stored (now (s .entry)) layer))) ⌝ }
-    ensures { λ r. ⌜ (Occupied w (now (rows .entry)) (now (s .entry)) next → Occupied w (now (rows .exit)) (now (s .exit)) next) ⌝ }
+    requires { ⌜ Coded (size .inputs) (size .outputs) (now code) (now len) ⌝ }
+    requires { ⌜ Sized size × (length (now ok) ≡ 4) × (length (now rows) ≡ 4) × (256 ≤ length (now st)) × (b < 256) × (layer ≤ scratchAt) × (reachedAt ≤ next) × (next ≤ scratchAt) × (storageWords ≤ length (now s)) ⌝ }
+    ensures { λ r. ⌜ ((ks : List ℕ) → Row (size .words) (now (ok .entry)) (allowed (sheetOf (size .inputs) (size .outputs) (now (code .entry)) (now (len .entry)) ks)) → Joins next (now (s .entry)) (now (s .exit)) (joinersAt (sheetOf (size .inputs) (size .outputs) (now (code .entry)) (now (len .entry)) ks) (64 * size .words) b (live (now (s .entry))) (stored (now (s .entry)) layer))) ⌝ }
+    ensures { λ r. ⌜ (Occupied (size .words) (now (rows .entry)) (now (s .entry)) next → Occupied (size .words) (now (rows .exit)) (now (s .exit)) next) ⌝ }
 {
+    let w = size.words;
     let mut row = [0u64; 4];
-    unions::unite_row(&mut row, st, ok, s, code, len, m, n, w, layer, b);
+    unions::unite_row(&mut row, st, ok, s, code, len, size, layer, b);
     join_row(s, rows, &row, w, next, b);
 }
 
@@ -113,22 +114,21 @@ fn sweep(
     ok: &[u64],
     code: &[u8],
     len: &[usize],
-    m: usize,
-    n: usize,
-    w: usize,
+    size: Size,
     layer: usize,
     next: usize,
 )
-    requires { ⌜ Coded m n (now code) (now len) ⌝ }
-    requires { ⌜ (w ≤ 4) × (2 ^ (m + n) ≤ 64 * w) × (length (now occupied) ≡ 4) × (length (now ok) ≡ 4) × (length (now rows) ≡ 4) × (256 ≤ length (now st)) × (storageWords ≤ length (now s)) ⌝ }
+    requires { ⌜ Coded (size .inputs) (size .outputs) (now code) (now len) ⌝ }
+    requires { ⌜ Sized size × (length (now occupied) ≡ 4) × (length (now ok) ≡ 4) × (length (now rows) ≡ 4) × (256 ≤ length (now st)) × (storageWords ≤ length (now s)) ⌝ }
     requires { ⌜ (reachedAt ≤ layer) × (layer ≤ scratchAt) × (reachedAt ≤ next) × (next ≤ scratchAt) × Apart layer next ⌝ }
-    requires { ⌜ Occupied w (now occupied) (now s) layer ⌝ }
-    ensures { λ r. ⌜ ((ks : List ℕ) → Row w (now (ok .entry)) (allowed (sheetOf m n (now (code .entry)) (now (len .entry)) ks)) → Swept (sheetOf m n (now (code .entry)) (now (len .entry)) ks) (64 * w) (64 * w) layer next (now (s .entry)) (now (s .exit))) ⌝ }
-    ensures { λ r. ⌜ (Occupied w (now (rows .entry)) (now (s .entry)) next → Occupied w (now (rows .exit)) (now (s .exit)) next) ⌝ }
+    requires { ⌜ Occupied (size .words) (now occupied) (now s) layer ⌝ }
+    ensures { λ r. ⌜ ((ks : List ℕ) → Row (size .words) (now (ok .entry)) (allowed (sheetOf (size .inputs) (size .outputs) (now (code .entry)) (now (len .entry)) ks)) → Swept (sheetOf (size .inputs) (size .outputs) (now (code .entry)) (now (len .entry)) ks) (64 * size .words) (64 * size .words) layer next (now (s .entry)) (now (s .exit))) ⌝ }
+    ensures { λ r. ⌜ (Occupied (size .words) (now (rows .entry)) (now (s .entry)) next → Occupied (size .words) (now (rows .exit)) (now (s .exit)) next) ⌝ }
 {
+    let w = size.words;
     let mut b = pairs::next_bit(occupied, 0, w, 0);
     while b < 64 * w {
-        join_before(s, rows, st, ok, code, len, m, n, w, layer, next, b);
+        join_before(s, rows, st, ok, code, len, size, layer, next, b);
         pairs::take_row(s, layer, b);
         b = pairs::next_bit(occupied, 0, w, b + 1);
     }
@@ -151,26 +151,18 @@ pub struct Found {
     pub reach: usize,
 }
 
-// Leaves the live pairs of a sheet in the live set, and the other two sets empty.
-pub fn prepare(
-    s: &mut [u64],
-    code: &[u8],
-    len: &[usize],
-    m: usize,
-    n: usize,
-    assumed: Assumed,
-) -> Found
-    requires { ⌜ Coded m n (now code) (now len) ⌝ }
-    requires { ⌜ Below assumed n ⌝ }
-    requires { ⌜ storageWords ≤ length (now s) ⌝ }
-    ensures { λ r. ⌜ Prepared (sheetOf m n (now (code .entry)) (now (len .entry)) (requiredOf assumed)) (now (s .entry)) (now (s .exit)) (r .live) ⌝ }
-    ensures { λ r. ⌜ Reach (sheetOf m n (now (code .entry)) (now (len .entry)) (requiredOf assumed)) (r .reach) × (r .reach < r .live) ⌝ }
+// Leaves the live pairs of a sheet of that size in the live set, and the other two sets empty.
+fn search(s: &mut [u64], code: &[u8], len: &[usize], size: Size, assumed: Assumed) -> Found
+    requires { ⌜ Coded (size .inputs) (size .outputs) (now code) (now len) ⌝ }
+    requires { ⌜ Below assumed (size .outputs) ⌝ }
+    requires { ⌜ Sized size × (storageWords ≤ length (now s)) ⌝ }
+    ensures { λ r. ⌜ Prepared (sheetOf (size .inputs) (size .outputs) (now (code .entry)) (now (len .entry)) (requiredOf assumed)) (now (s .entry)) (now (s .exit)) (r .live) ⌝ }
+    ensures { λ r. ⌜ Reach (sheetOf (size .inputs) (size .outputs) (now (code .entry)) (now (len .entry)) (requiredOf assumed)) (r .reach) × (r .reach < r .live) ⌝ }
 {
-    let v: usize = 1 << (m + n);
-    let w = (v + 63) / 64;
+    let w = size.words;
     let mut st = [0u64; 256];
     let mut ok = [0u64; 4];
-    unions::fill_allowed(&mut ok, m, n, assumed, v, w);
+    unions::fill_allowed(&mut ok, size, assumed);
     start(s, &ok, w);
     let mut occupied = ok;
     let mut layer: usize = pairs::REACHED;
@@ -186,9 +178,7 @@ pub fn prepare(
             &ok,
             code,
             len,
-            m,
-            n,
-            w,
+            size,
             layer,
             next,
         );
@@ -199,8 +189,27 @@ pub fn prepare(
         layers += 1;
     }
     let live = pairs::count(s);
+    let reach = layers - 1;
     Found {
         live: live,
-        reach: layers - 1,
+        reach: reach,
     }
+}
+
+// The same, by the numbers of inputs and outputs.
+pub fn prepare(
+    s: &mut [u64],
+    code: &[u8],
+    len: &[usize],
+    m: usize,
+    n: usize,
+    assumed: Assumed,
+) -> Found
+    requires { ⌜ Coded m n (now code) (now len) ⌝ }
+    requires { ⌜ Below assumed n ⌝ }
+    requires { ⌜ storageWords ≤ length (now s) ⌝ }
+    ensures { λ r. ⌜ Prepared (sheetOf m n (now (code .entry)) (now (len .entry)) (requiredOf assumed)) (now (s .entry)) (now (s .exit)) (r .live) ⌝ }
+    ensures { λ r. ⌜ Reach (sheetOf m n (now (code .entry)) (now (len .entry)) (requiredOf assumed)) (r .reach) × (r .reach < r .live) ⌝ }
+{
+    search(s, code, len, words::size_of(m, n), assumed)
 }

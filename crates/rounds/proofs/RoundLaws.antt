@@ -29,27 +29,6 @@ use Rattle.rounds.specs.Round.{Rounded}
 use Rattle.rounds.proofs.Bools.{merge-under}
 use Rattle.rounds.proofs.WordLaws.{heard-lane}
 
-pub two-to : (k : ℕ) → k ≤ 8 → (1 * 2 ^ k % 2 ^ 64 ≡ 2 ^ k) × (1 * 2 ^ k % 2 ^ 64 ≤ 256)
-two-to k h = let g : 2 ^ k ≤ 256 = pow-mono h in (one-shl k (omega arith), omega (arith, one-shl k (omega arith)))
-
--- the words that they take
-pub wide : (k v : ℕ) → k ≤ 8 → v ≡ 2 ^ k → Wide (2 ^ k) ((v + 63) / 64)
-wide k v h e = go (decLt k 7) (ℕ-discrete k 7)
-  where
-    one : 1 ≤ 2 ^ k → 2 ^ k ≤ 64 → Wide (2 ^ k) ((v + 63) / 64)
-    one l g = record { count = omega arith; least = omega arith; most = omega arith; not-three = λ q. omega arith; under = omega arith; full = λ q. omega arith }
-
-    two : 2 ^ k ≡ 128 → Wide (2 ^ k) ((v + 63) / 64)
-    two g = record { count = omega arith; least = omega arith; most = omega arith; not-three = λ q. omega arith; under = omega arith; full = λ q. omega arith }
-
-    four : 2 ^ k ≡ 256 → Wide (2 ^ k) ((v + 63) / 64)
-    four g = record { count = omega arith; least = omega arith; most = omega arith; not-three = λ q. omega arith; under = omega arith; full = λ q. omega arith }
-
-    go : Dec (k < 7) → Dec (k ≡ 7) → Wide (2 ^ k) ((v + 63) / 64)
-    go (yes l) d = let l′ : k ≤ 6 = omega arith in one (pow-pos k) (pow-mono l′)
-    go (no l) (yes d) = two (ap (λ (i : ℕ). 2 ^ i) d)
-    go (no l) (no d) = let q : k ≡ 8 = omega arith in four (ap (λ (i : ℕ). 2 ^ i) q)
-
 -- ---- the words in use
 
 -- what a set gains that was cleared where u says so, if all of it lies there

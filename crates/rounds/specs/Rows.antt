@@ -8,6 +8,7 @@ use lib.Bits.{bitAnd}
 use lib.Dec.{eqb, ltb}
 use Rattle.words.specs.Bits.{bit}
 use Rattle.words.specs.Below.{anyBelow}
+use Rattle.words.specs.Sizes as sizes
 use Rattle.sheet.specs.RuleSheet.{RuleSheet}
 use Rattle.lola.specs.Equations.{holds}
 use Rattle.completions.specs.Live.{Pairs}
@@ -19,14 +20,9 @@ use Rattle.lanes.specs.Around.{Before}
 unfoldable pub among : ℕ → ℕ → Bool
 among letters v = bit (v % 64) letters
 
--- w is the number of words that v valuations take: one, two or four
-pub record Wide (v w : ℕ) : Type 0 where
-  pub count : w ≡ (v + 63) / 64
-  pub least : 1 ≤ w
-  pub most : w ≤ 4
-  pub not-three : w ≡ 3 → ⊥
-  pub under : v ≤ 64 * w
-  pub full : 1 < w → v ≡ 64 * w
+-- w is the number of words that v valuations take
+abbrev pub Wide : ℕ → ℕ → Type 0
+Wide v w = sizes.Wide v w
 
 -- the word has the reads of some round before
 pub record Earlier (w : ℕ) : Type 0 where

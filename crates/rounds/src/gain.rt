@@ -3,16 +3,16 @@ ghost use mathlib.Core.Path.{_≡_};
 ghost use mathlib.Core.Bool.{true, false};
 ghost use mathlib.Core.List.{List};
 ghost use mathlib.Core.Option.{Option, none};
-ghost use Prim.Native.Nat.{ℕ, _+_, _*_, _/_, _^_, _<_, _≤_};
+ghost use Prim.Native.Nat.{ℕ, _+_, _*_, _<_, _≤_};
 ghost use lib.Dec.{eqb, ltb};
 ghost use lib.ListN.{length};
+ghost use Rattle.words.specs.Sizes.{Sized};
 ghost use Rattle.pairs.specs.Storage.{live, reached, scratch, reachedAt, storageWords};
 ghost use Rattle.pairs.specs.Changes.{Adds, eqNext};
 ghost use Rattle.lanes.specs.Around.{room, Before, Seen};
 ghost use Rattle.lanes.specs.Coded.{Coded, sheetOf};
 ghost use Rattle.rounds.specs.Rows.{Earlier, cut, gains, NoneNew, NoEndNew, inRow};
-use super::row_words;
-use super::valuations;
+use words::Size;
 
 // Whether row b of the live set, w words of it, may have a valuation that the reached set lacks.
 fn is_new(s: &[u64], w: usize, b: usize) -> bool
@@ -35,22 +35,22 @@ pub fn gain_row(
     st: &mut [u64],
     code: &[u8],
     len: &[usize],
-    m: usize,
-    n: usize,
+    size: Size,
     env: u64,
     b: usize,
 )
-    requires { ⌜ Coded m n (now code) (now len) ⌝ }
-    requires { ⌜ (room ((2 ^ (m + n) + 63) / 64) ≤ length (now st)) × (storageWords ≤ length (now s)) × (b < 256) ⌝ }
-    ensures { λ r. ⌜ ((p : Option ℕ) → Seen env p b → (ks : List ℕ) → Adds reachedAt (now (s .entry)) (now (s .exit)) (gains (sheetOf m n (now (code .entry)) (now (len .entry)) ks) (λ x. eqb x b) (cut (λ c. ltb c (2 ^ (m + n)))) (live (now (s .entry))) p)) ⌝ }
+    requires { ⌜ Coded (size .inputs) (size .outputs) (now code) (now len) ⌝ }
+    requires { ⌜ Sized size × (room (size .words) ≤ length (now st)) × (storageWords ≤ length (now s)) × (b < 256) ⌝ }
+    ensures { λ r. ⌜ ((p : Option ℕ) → Seen env p b → (ks : List ℕ) → Adds reachedAt (now (s .entry)) (now (s .exit)) (gains (sheetOf (size .inputs) (size .outputs) (now (code .entry)) (now (len .entry)) ks) (λ x. eqb x b) (cut (λ c. ltb c (size .valuations))) (live (now (s .entry))) p)) ⌝ }
 {
-    let w = row_words(m, n);
+    let v = size.valuations;
+    let w = size.words;
     if !is_new(s, w, b) {
         return;
     }
-    let low = words::lanes_below(valuations(m, n), 0);
+    let low = words::lanes_below(v, 0);
     let mut x = [0u64; 4];
-    lanes::successors(&mut x, st, w, code, len, m, n, env, b);
+    lanes::successors(&mut x, st, code, len, size, env, b);
     let mut j: usize = 0;
     while j < w {
         let live = s[4 * b + j] & low;
@@ -80,22 +80,22 @@ pub fn gain_ends(
     st: &mut [u64],
     code: &[u8],
     len: &[usize],
-    m: usize,
-    n: usize,
+    size: Size,
     before: u64,
     g: usize,
 )
-    requires { ⌜ Coded m n (now code) (now len) ⌝ }
-    requires { ⌜ (room ((2 ^ (m + n) + 63) / 64) ≤ length (now st)) × (storageWords ≤ length (now s)) × (g < 256) × Earlier before ⌝ }
-    ensures { λ r. ⌜ ((p : Option ℕ) → Before before p → (ks : List ℕ) → Adds reachedAt (now (s .entry)) (now (s .exit)) (gains (sheetOf m n (now (code .entry)) (now (len .entry)) ks) (inRow (scratch (now (s .entry))) (2 ^ (m + n)) g) (λ y. eqNext y none) (live (now (s .entry))) p)) ⌝ }
+    requires { ⌜ Coded (size .inputs) (size .outputs) (now code) (now len) ⌝ }
+    requires { ⌜ Sized size × (room (size .words) ≤ length (now st)) × (storageWords ≤ length (now s)) × (g < 256) × Earlier before ⌝ }
+    ensures { λ r. ⌜ ((p : Option ℕ) → Before before p → (ks : List ℕ) → Adds reachedAt (now (s .entry)) (now (s .exit)) (gains (sheetOf (size .inputs) (size .outputs) (now (code .entry)) (now (len .entry)) ks) (inRow (scratch (now (s .entry))) (size .valuations) g) (λ y. eqNext y none) (live (now (s .entry))) p)) ⌝ }
 {
-    let w = row_words(m, n);
+    let v = size.valuations;
+    let w = size.words;
     if !is_end_new(s, w, g) {
         return;
     }
-    let low = words::lanes_below(valuations(m, n), 0);
+    let low = words::lanes_below(v, 0);
     let mut x = [0u64; 4];
-    lanes::enders(&mut x, st, w, code, len, m, n, before);
+    lanes::enders(&mut x, st, code, len, size, before);
     let mut j: usize = 0;
     while j < w {
         let live = s[1024 + j];

@@ -4,10 +4,12 @@ ghost use mathlib.Core.Bool.{true, false, _&&_};
 ghost use Prim.Native.Nat.{ℕ, _+_, _*_, _<_, _≤_};
 ghost use lib.Dec.{eqb};
 ghost use lib.ListN.{length};
+ghost use Rattle.words.specs.Sizes.{Sized};
 ghost use Rattle.pairs.specs.Storage.{reached, scratch, scratchAt, storageWords};
 ghost use Rattle.pairs.specs.Changes.{Adds, RowsCleared};
 ghost use Rattle.rounds.specs.Rows.{among, heardIn, grouped, Sparse, NoEnds, Quiet};
 use super::row_lanes;
+use words::Size;
 
 // Row a of the reached set, what was heard of its w words, joins row g of the scratch set.
 fn join_row(s: &mut [u64], w: usize, letters: u64, a: usize, g: usize)
@@ -54,12 +56,14 @@ fn is_quiet(s: &[u64], a: usize) -> bool
     any == 0
 }
 
-// Each row below v of the reached set joins the row of its group: rows that agree in the streams of the mask.
-pub fn group_rows(s: &mut [u64], groups: &mut [u64], v: usize, w: usize, letters: u64, mask: usize)
-    requires { ⌜ (v ≤ 256) × (1 ≤ w) × (w ≤ 4) × (w ≡ 3 → ⊥) × (length (now groups) ≡ 4) × (storageWords ≤ length (now s)) ⌝ }
-    ensures joined { λ r. ⌜ Adds scratchAt (now (s .entry)) (now (s .exit)) (grouped (reached (now (s .entry))) (among letters) mask (64 * w) v) ⌝ }
-    ensures sparse { λ r. ⌜ (Sparse v (now (groups .entry)) (scratch (now (s .entry))) → Sparse v (now (groups .exit)) (scratch (now (s .exit)))) ⌝ }
+// Each row of the reached set that a valuation has joins the row of its group: rows that agree in the streams of the mask.
+pub fn group_rows(s: &mut [u64], groups: &mut [u64], size: Size, letters: u64, mask: usize)
+    requires { ⌜ Sized size × (length (now groups) ≡ 4) × (storageWords ≤ length (now s)) ⌝ }
+    ensures joined { λ r. ⌜ Adds scratchAt (now (s .entry)) (now (s .exit)) (grouped (reached (now (s .entry))) (among letters) mask (64 * size .words) (size .valuations)) ⌝ }
+    ensures sparse { λ r. ⌜ (Sparse (size .valuations) (now (groups .entry)) (scratch (now (s .entry))) → Sparse (size .valuations) (now (groups .exit)) (scratch (now (s .exit)))) ⌝ }
 {
+    let v = size.valuations;
+    let w = size.words;
     let mut a: usize = 0;
     while a < v {
         if is_quiet(s, a) {
@@ -71,11 +75,13 @@ pub fn group_rows(s: &mut [u64], groups: &mut [u64], v: usize, w: usize, letters
     }
 }
 
-// Empties the rows of the groups, where no other row below v of the scratch set has anything.
-pub fn clear_groups(s: &mut [u64], groups: &[u64], v: usize, w: usize)
-    requires { ⌜ (v ≤ 64 * w) × (w ≤ 4) × (v ≤ 256) × (length (now groups) ≡ 4) × (storageWords ≤ length (now s)) × Sparse v (now groups) (scratch (now s)) × NoEnds (scratch (now s)) ⌝ }
-    ensures { λ r. ⌜ RowsCleared scratchAt v (now (s .entry)) (now (s .exit)) ⌝ }
+// Empties the rows of the groups, where no other row of the scratch set that a valuation has holds anything.
+pub fn clear_groups(s: &mut [u64], groups: &[u64], size: Size)
+    requires { ⌜ Sized size × (length (now groups) ≡ 4) × (storageWords ≤ length (now s)) × Sparse (size .valuations) (now groups) (scratch (now s)) × NoEnds (scratch (now s)) ⌝ }
+    ensures { λ r. ⌜ RowsCleared scratchAt (size .valuations) (now (s .entry)) (now (s .exit)) ⌝ }
 {
+    let v = size.valuations;
+    let w = size.words;
     let mut g = pairs::next_bit(groups, 0, w, 0);
     while g < v {
         pairs::take_row(s, pairs::SCRATCH, g);

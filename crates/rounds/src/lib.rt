@@ -3,10 +3,11 @@ ghost use mathlib.Core.Path.{_≡_};
 ghost use mathlib.Core.Bool.{true, false};
 ghost use mathlib.Core.List.{List};
 ghost use mathlib.Core.Option.{Option, none, some};
-ghost use Prim.Native.Nat.{ℕ, _+_, _*_, _/_, _^_, _<_, _≤_};
+ghost use Prim.Native.Nat.{ℕ, _+_, _*_, _^_, _<_, _≤_};
 ghost use lib.ListN.{length};
 ghost use Rattle.words.specs.Bits.{bit};
 ghost use Rattle.words.specs.Below.{anyBelow};
+ghost use Rattle.words.specs.Sizes.{Sized};
 ghost use Rattle.completions.specs.Steps.{startSet, stepSet, partBelow};
 ghost use Rattle.pairs.specs.Storage.{stored, live, reached, scratch, reachedAt, scratchAt, storageWords};
 ghost use Rattle.pairs.specs.Changes.{Adds};
@@ -18,6 +19,7 @@ use gain::gain_ends;
 use gain::gain_row;
 use group::clear_groups;
 use group::group_rows;
+use words::Size;
 
 mod gain; // gain.rt: what one valuation, and the ends of a row, bring to the reached set
 mod group; // group.rt: rows of the reached set joined by the streams that are read one round earlier
@@ -29,7 +31,8 @@ pub fn valuations(m: usize, n: usize) -> usize
     requires { ⌜ m + n ≤ 8 ⌝ }
     ensures { λ r. ⌜ (r ≡ 2 ^ (m + n)) × (r ≤ 256) ⌝ }
 {
-    1 << (m + n)
+    let size = words::size_of(m, n);
+    size.valuations
 }
 
 // How many words of a row they take: one, two or four.
@@ -37,7 +40,8 @@ pub fn row_words(m: usize, n: usize) -> usize
     requires { ⌜ m + n ≤ 8 ⌝ }
     ensures { λ r. ⌜ Wide (2 ^ (m + n)) r ⌝ }
 {
-    (valuations(m, n) + 63) / 64
+    let size = words::size_of(m, n);
+    size.words
 }
 
 // The valuations of row a of the set at base, its w words joined: in each lane whether some word has it.
@@ -64,34 +68,35 @@ fn bring_row(
     st: &mut [u64],
     code: &[u8],
     len: &[usize],
-    m: usize,
-    n: usize,
+    size: Size,
     before: u64,
     g: usize,
 )
-    requires { ⌜ Coded m n (now code) (now len) ⌝ }
-    requires { ⌜ (room ((2 ^ (m + n) + 63) / 64) ≤ length (now st)) × (storageWords ≤ length (now s)) × (g < 256) × Earlier before ⌝ }
-    ensures { λ r. ⌜ ((p : Option ℕ) → Before before p → (ks : List ℕ) → Adds reachedAt (now (s .entry)) (now (s .exit)) (gains (sheetOf m n (now (code .entry)) (now (len .entry)) ks) (inRow (scratch (now (s .entry))) (2 ^ (m + n)) g) (partBelow (2 ^ (m + n))) (live (now (s .entry))) p)) ⌝ }
+    requires { ⌜ Coded (size .inputs) (size .outputs) (now code) (now len) ⌝ }
+    requires { ⌜ Sized size × (room (size .words) ≤ length (now st)) × (storageWords ≤ length (now s)) × (g < 256) × Earlier before ⌝ }
+    ensures { λ r. ⌜ ((p : Option ℕ) → Before before p → (ks : List ℕ) → Adds reachedAt (now (s .entry)) (now (s .exit)) (gains (sheetOf (size .inputs) (size .outputs) (now (code .entry)) (now (len .entry)) ks) (inRow (scratch (now (s .entry))) (size .valuations) g) (partBelow (size .valuations)) (live (now (s .entry))) p)) ⌝ }
 {
-    let v = valuations(m, n);
-    let w = row_words(m, n);
+    let v = size.valuations;
+    let w = size.words;
     let at = pairs::SCRATCH + 4 * g;
     let mut b = pairs::next_bit(s, at, w, 0);
     while b < v {
         let env = lanes::seen(before, b);
-        gain_row(s, st, code, len, m, n, env, b);
+        gain_row(s, st, code, len, size, env, b);
         b = pairs::next_bit(s, at, w, b + 1);
     }
-    gain_ends(s, st, code, len, m, n, before, g);
+    gain_ends(s, st, code, len, size, before, g);
 }
 
 // ---- The first round
 
-// Puts the valuations below v that were heard into row 0 of the scratch set, w words of it.
-fn hear(s: &mut [u64], v: usize, w: usize, letters: u64)
-    requires { ⌜ (v ≤ 256) × (w ≤ 4) × (storageWords ≤ length (now s)) ⌝ }
-    ensures { λ r. ⌜ Adds scratchAt (now (s .entry)) (now (s .exit)) (heardFirst v (among letters) (64 * w)) ⌝ }
+// Puts the valuations that were heard into row 0 of the scratch set.
+fn hear(s: &mut [u64], size: Size, letters: u64)
+    requires { ⌜ Sized size × (storageWords ≤ length (now s)) ⌝ }
+    ensures { λ r. ⌜ Adds scratchAt (now (s .entry)) (now (s .exit)) (heardFirst (size .valuations) (among letters) (64 * size .words)) ⌝ }
 {
+    let v = size.valuations;
+    let w = size.words;
     let mut j: usize = 0;
     while j < w {
         pairs::insert_word(s, pairs::SCRATCH, 0, j, words::lanes_below(v, j) & letters);
@@ -100,13 +105,13 @@ fn hear(s: &mut [u64], v: usize, w: usize, letters: u64)
 }
 
 // The pairs that row 0 of the scratch set brings, with nothing before it.
-fn bring_first(s: &mut [u64], code: &[u8], len: &[usize], m: usize, n: usize)
-    requires { ⌜ Coded m n (now code) (now len) ⌝ }
-    requires { ⌜ storageWords ≤ length (now s) ⌝ }
-    ensures { λ r. ⌜ ((ks : List ℕ) → Adds reachedAt (now (s .entry)) (now (s .exit)) (gains (sheetOf m n (now (code .entry)) (now (len .entry)) ks) (inRow (scratch (now (s .entry))) (2 ^ (m + n)) 0) (partBelow (2 ^ (m + n))) (live (now (s .entry))) none)) ⌝ }
+fn bring_first(s: &mut [u64], code: &[u8], len: &[usize], size: Size)
+    requires { ⌜ Coded (size .inputs) (size .outputs) (now code) (now len) ⌝ }
+    requires { ⌜ Sized size × (storageWords ≤ length (now s)) ⌝ }
+    ensures { λ r. ⌜ ((ks : List ℕ) → Adds reachedAt (now (s .entry)) (now (s .exit)) (gains (sheetOf (size .inputs) (size .outputs) (now (code .entry)) (now (len .entry)) ks) (inRow (scratch (now (s .entry))) (size .valuations) 0) (partBelow (size .valuations)) (live (now (s .entry))) none)) ⌝ }
 {
     let mut st = [0u64; 256];
-    bring_row(s, &mut st, code, len, m, n, lanes::before(true, 0), 0);
+    bring_row(s, &mut st, code, len, size, lanes::before(true, 0), 0);
 }
 
 // The first round, where the valuations heard are those of the lanes of `letters`.
@@ -115,52 +120,45 @@ pub fn first_round(s: &mut [u64], code: &[u8], len: &[usize], m: usize, n: usize
     requires { ⌜ storageWords ≤ length (now s) ⌝ }
     ensures { λ r. ⌜ ((ks : List ℕ) → Rounded (2 ^ (m + n)) (now (s .entry)) (now (s .exit)) (startSet (sheetOf m n (now (code .entry)) (now (len .entry)) ks) (live (now (s .entry))) (among letters))) ⌝ }
 {
-    let v = valuations(m, n);
+    let size = words::size_of(m, n);
+    let v = size.valuations;
     pairs::clear_rows(s, pairs::SCRATCH, v);
-    hear(s, v, row_words(m, n), letters);
+    hear(s, size, letters);
     pairs::clear_rows(s, pairs::REACHED, v);
-    bring_first(s, code, len, m, n);
+    bring_first(s, code, len, size);
     pairs::clear_rows(s, pairs::SCRATCH, v);
 }
 
 // ---- A later round
 
 // The pairs that the scratch set brings; only rows of the groups have any, and st is room to work in.
-fn bring_rows(
-    s: &mut [u64],
-    st: &mut [u64],
-    groups: &[u64],
-    code: &[u8],
-    len: &[usize],
-    m: usize,
-    n: usize,
-)
-    requires { ⌜ Coded m n (now code) (now len) ⌝ }
-    requires { ⌜ (room ((2 ^ (m + n) + 63) / 64) ≤ length (now st)) × (length (now groups) ≡ 4) × (storageWords ≤ length (now s)) × Sparse (2 ^ (m + n)) (now groups) (scratch (now s)) ⌝ }
-    ensures { λ r. ⌜ ((ks : List ℕ) → Adds reachedAt (now (s .entry)) (now (s .exit)) (brought (sheetOf m n (now (code .entry)) (now (len .entry)) ks) (scratch (now (s .entry))) (2 ^ (m + n)) (live (now (s .entry))) (2 ^ (m + n)))) ⌝ }
+fn bring_rows(s: &mut [u64], st: &mut [u64], groups: &[u64], code: &[u8], len: &[usize], size: Size)
+    requires { ⌜ Coded (size .inputs) (size .outputs) (now code) (now len) ⌝ }
+    requires { ⌜ Sized size × (room (size .words) ≤ length (now st)) × (length (now groups) ≡ 4) × (storageWords ≤ length (now s)) × Sparse (size .valuations) (now groups) (scratch (now s)) ⌝ }
+    ensures { λ r. ⌜ ((ks : List ℕ) → Adds reachedAt (now (s .entry)) (now (s .exit)) (brought (sheetOf (size .inputs) (size .outputs) (now (code .entry)) (now (len .entry)) ks) (scratch (now (s .entry))) (size .valuations) (live (now (s .entry))) (size .valuations))) ⌝ }
 {
-    let v = valuations(m, n);
-    let w = row_words(m, n);
+    let v = size.valuations;
+    let w = size.words;
     let mut g = pairs::next_bit(groups, 0, w, 0);
     while g < v {
-        bring_row(s, st, code, len, m, n, lanes::before(false, g), g);
+        bring_row(s, st, code, len, size, lanes::before(false, g), g);
         g = pairs::next_bit(groups, 0, w, g + 1);
     }
 }
 
 // The same, with as much room as the valuations want.
-fn bring_pairs(s: &mut [u64], groups: &[u64], code: &[u8], len: &[usize], m: usize, n: usize)
-    requires { ⌜ Coded m n (now code) (now len) ⌝ }
-    requires { ⌜ (length (now groups) ≡ 4) × (storageWords ≤ length (now s)) × Sparse (2 ^ (m + n)) (now groups) (scratch (now s)) ⌝ }
-    ensures { λ r. ⌜ ((ks : List ℕ) → Adds reachedAt (now (s .entry)) (now (s .exit)) (brought (sheetOf m n (now (code .entry)) (now (len .entry)) ks) (scratch (now (s .entry))) (2 ^ (m + n)) (live (now (s .entry))) (2 ^ (m + n)))) ⌝ }
+fn bring_pairs(s: &mut [u64], groups: &[u64], code: &[u8], len: &[usize], size: Size)
+    requires { ⌜ Coded (size .inputs) (size .outputs) (now code) (now len) ⌝ }
+    requires { ⌜ Sized size × (length (now groups) ≡ 4) × (storageWords ≤ length (now s)) × Sparse (size .valuations) (now groups) (scratch (now s)) ⌝ }
+    ensures { λ r. ⌜ ((ks : List ℕ) → Adds reachedAt (now (s .entry)) (now (s .exit)) (brought (sheetOf (size .inputs) (size .outputs) (now (code .entry)) (now (len .entry)) ks) (scratch (now (s .entry))) (size .valuations) (live (now (s .entry))) (size .valuations))) ⌝ }
 {
-    if valuations(m, n) <= 128 {
+    if size.valuations <= 128 {
         let mut st = [0u64; 128];
-        bring_rows(s, &mut st, groups, code, len, m, n);
+        bring_rows(s, &mut st, groups, code, len, size);
         return;
     }
     let mut st = [0u64; 256];
-    bring_rows(s, &mut st, groups, code, len, m, n);
+    bring_rows(s, &mut st, groups, code, len, size);
 }
 
 // A later round. Pairs (a, b) and (a', b) whose first parts agree in every stream that is read one round earlier have the same
@@ -170,13 +168,12 @@ pub fn later_round(s: &mut [u64], code: &[u8], len: &[usize], m: usize, n: usize
     requires { ⌜ storageWords ≤ length (now s) ⌝ }
     ensures { λ r. ⌜ ((ks : List ℕ) → Rounded (2 ^ (m + n)) (now (s .entry)) (now (s .exit)) (stepSet (sheetOf m n (now (code .entry)) (now (len .entry)) ks) (2 ^ (m + n)) (live (now (s .entry))) (reached (now (s .entry))) (among letters))) ⌝ }
 {
-    let v = valuations(m, n);
+    let size = words::size_of(m, n);
     let mask = lanes::earlier_mask(code, len, m, n);
-    pairs::clear_rows(s, pairs::SCRATCH, v);
+    pairs::clear_rows(s, pairs::SCRATCH, size.valuations);
     let mut groups = [0u64; 4];
-    let w = row_words(m, n);
-    group_rows(s, &mut groups, v, w, letters, mask);
-    pairs::clear_rows(s, pairs::REACHED, v);
-    bring_pairs(s, &groups, code, len, m, n);
-    clear_groups(s, &groups, v, w);
+    group_rows(s, &mut groups, size, letters, mask);
+    pairs::clear_rows(s, pairs::REACHED, size.valuations);
+    bring_pairs(s, &groups, code, len, size);
+    clear_groups(s, &groups, size);
 }

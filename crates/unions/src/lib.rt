@@ -4,9 +4,10 @@ ghost use mathlib.Core.Bool.{true, _&&_};
 ghost use mathlib.Core.List.{List};
 ghost use mathlib.Core.Option.{some};
 ghost use lib.ListN.{length};
-ghost use Prim.Native.Nat.{ℕ, _+_, _*_, _^_, _<_, _≤_};
+ghost use Prim.Native.Nat.{ℕ, _+_, _*_, _<_, _≤_};
 ghost use Rattle.words.specs.Bits.{bit};
 ghost use Rattle.words.specs.Below.{anyBelow};
+ghost use Rattle.words.specs.Sizes.{Sized};
 ghost use Rattle.sheet.specs.RuleSheet.{requiredOf};
 ghost use Rattle.sheet.specs.Reading.{Below};
 ghost use Rattle.completions.specs.Live.{allowed};
@@ -17,14 +18,16 @@ ghost use Rattle.lanes.specs.Around.{unless};
 ghost use Rattle.lanes.specs.Coded.{Coded, sheetOf};
 ghost use Rattle.unions.specs.Rows.{meets, Row, United};
 use sheet::Assumed;
+use words::Size;
 
-// The lanes i of word j whose valuation 64 j + i is allowed: below v, with the assumption bit 1.
-fn allowed_word(m: usize, n: usize, assumed: Assumed, v: usize, j: usize) -> u64
-    requires { ⌜ (m + n ≤ 8) × (v ≡ 2 ^ (m + n)) × (64 * j < v) × (v ≤ 256) ⌝ }
-    requires { ⌜ Below assumed n ⌝ }
-    ensures { λ r. ⌜ ((code len : List ℕ) (i : ℕ) → i < 64 → bit i r ≡ allowed (sheetOf m n code len (requiredOf assumed)) (64 * j + i)) ⌝ }
+// The lanes i of word j whose valuation 64 j + i is allowed: one of the sheet's, with the assumption bit 1.
+fn allowed_word(size: Size, assumed: Assumed, j: usize) -> u64
+    requires { ⌜ Sized size × (j < size .words) ⌝ }
+    requires { ⌜ Below assumed (size .outputs) ⌝ }
+    ensures { λ r. ⌜ ((code len : List ℕ) (i : ℕ) → i < 64 → bit i r ≡ allowed (sheetOf (size .inputs) (size .outputs) code len (requiredOf assumed)) (64 * j + i)) ⌝ }
 {
-    let low = words::lanes_below(v, j);
+    let m = size.inputs;
+    let low = words::lanes_below(size.valuations, j);
     match assumed {
         Assumed::Nothing => low,
         Assumed::Output(k) => {
@@ -34,15 +37,16 @@ fn allowed_word(m: usize, n: usize, assumed: Assumed, v: usize, j: usize) -> u64
     }
 }
 
-// Writes the allowed valuations into the first w words of the row.
-pub fn fill_allowed(row: &mut [u64], m: usize, n: usize, assumed: Assumed, v: usize, w: usize)
-    requires { ⌜ (m + n ≤ 8) × (v ≡ 2 ^ (m + n)) × (v ≤ 256) × (64 * w ≤ v + 63) × (length (now row) ≡ 4) ⌝ }
-    requires { ⌜ Below assumed n ⌝ }
-    ensures { λ r. ⌜ ((code len : List ℕ) → Row w (now (row .exit)) (allowed (sheetOf m n code len (requiredOf assumed)))) ⌝ }
+// Writes the allowed valuations into the row.
+pub fn fill_allowed(row: &mut [u64], size: Size, assumed: Assumed)
+    requires { ⌜ Sized size × (length (now row) ≡ 4) ⌝ }
+    requires { ⌜ Below assumed (size .outputs) ⌝ }
+    ensures { λ r. ⌜ ((code len : List ℕ) → Row (size .words) (now (row .exit)) (allowed (sheetOf (size .inputs) (size .outputs) code len (requiredOf assumed)))) ⌝ }
 {
+    let w = size.words;
     let mut j: usize = 0;
     while j < w {
-        row[j] = allowed_word(m, n, assumed, v, j);
+        row[j] = allowed_word(size, assumed, j);
         j += 1;
     }
 }
@@ -81,23 +85,22 @@ fn unite(
     ok: &[u64],
     code: &[u8],
     len: &[usize],
-    m: usize,
-    n: usize,
-    w: usize,
+    size: Size,
     b: usize,
     last: bool,
     c: usize,
 )
-    requires { ⌜ Coded m n (now code) (now len) ⌝ }
-    requires { ⌜ (w ≤ 4) × (length (now row) ≡ 4) × (length (now ok) ≡ 4) × (256 ≤ length (now st)) × (b < 256) × (c < 256) ⌝ }
-    ensures { λ r. ⌜ ((ks : List ℕ) → United w (now (row .entry)) (now (row .exit)) (λ a. rowBit (now (ok .entry)) 0 a && holds (sheetOf m n (now (code .entry)) (now (len .entry)) ks) (some a) b (unless last c))) ⌝ }
+    requires { ⌜ Coded (size .inputs) (size .outputs) (now code) (now len) ⌝ }
+    requires { ⌜ Sized size × (length (now row) ≡ 4) × (length (now ok) ≡ 4) × (256 ≤ length (now st)) × (b < 256) × (c < 256) ⌝ }
+    ensures { λ r. ⌜ ((ks : List ℕ) → United (size .words) (now (row .entry)) (now (row .exit)) (λ a. rowBit (now (ok .entry)) 0 a && holds (sheetOf (size .inputs) (size .outputs) (now (code .entry)) (now (len .entry)) ks) (some a) b (unless last c))) ⌝ }
 {
+    let w = size.words;
     if covers(row, ok, w) {
         return;
     }
     let env = lanes::ahead(b, last, c);
     let mut x = [0u64; 4];
-    lanes::predecessors(&mut x, st, w, code, len, m, n, env, b);
+    lanes::predecessors(&mut x, st, code, len, size, env, b);
     gain(row, ok, &x, w);
 }
 
@@ -109,20 +112,19 @@ fn unite_valuations(
     s: &[u64],
     code: &[u8],
     len: &[usize],
-    m: usize,
-    n: usize,
-    w: usize,
+    size: Size,
     layer: usize,
     b: usize,
 )
-    requires { ⌜ Coded m n (now code) (now len) ⌝ }
-    requires { ⌜ (w ≤ 4) × (length (now row) ≡ 4) × (length (now ok) ≡ 4) × (256 ≤ length (now st)) × (b < 256) × (layer ≤ scratchAt) × (storageWords ≤ length (now s)) ⌝ }
-    ensures { λ r. ⌜ ((ks : List ℕ) → United w (now (row .entry)) (now (row .exit)) (λ a. rowBit (now (ok .entry)) 0 a && anyBelow (64 * w) (λ c. stored (now (s .entry)) layer b (some c) && holds (sheetOf m n (now (code .entry)) (now (len .entry)) ks) (some a) b (some c)))) ⌝ }
+    requires { ⌜ Coded (size .inputs) (size .outputs) (now code) (now len) ⌝ }
+    requires { ⌜ Sized size × (length (now row) ≡ 4) × (length (now ok) ≡ 4) × (256 ≤ length (now st)) × (b < 256) × (layer ≤ scratchAt) × (storageWords ≤ length (now s)) ⌝ }
+    ensures { λ r. ⌜ ((ks : List ℕ) → United (size .words) (now (row .entry)) (now (row .exit)) (λ a. rowBit (now (ok .entry)) 0 a && anyBelow (64 * size .words) (λ c. stored (now (s .entry)) layer b (some c) && holds (sheetOf (size .inputs) (size .outputs) (now (code .entry)) (now (len .entry)) ks) (some a) b (some c)))) ⌝ }
 {
+    let w = size.words;
     let first = layer + 4 * b;
     let mut c = pairs::next_bit(s, first, w, 0);
     while c < 64 * w {
-        unite(row, st, ok, code, len, m, n, w, b, false, c);
+        unite(row, st, ok, code, len, size, b, false, c);
         c = pairs::next_bit(s, first, w, c + 1);
     }
 }
@@ -135,19 +137,17 @@ pub fn unite_row(
     s: &[u64],
     code: &[u8],
     len: &[usize],
-    m: usize,
-    n: usize,
-    w: usize,
+    size: Size,
     layer: usize,
     b: usize,
 )
-    requires { ⌜ Coded m n (now code) (now len) ⌝ }
-    requires { ⌜ (w ≤ 4) × (length (now row) ≡ 4) × (length (now ok) ≡ 4) × (256 ≤ length (now st)) × (b < 256) × (layer ≤ scratchAt) × (storageWords ≤ length (now s)) ⌝ }
-    ensures { λ r. ⌜ ((ks : List ℕ) → United w (now (row .entry)) (now (row .exit)) (λ a. rowBit (now (ok .entry)) 0 a && meets (sheetOf m n (now (code .entry)) (now (len .entry)) ks) (64 * w) (stored (now (s .entry)) layer) a b)) ⌝ }
+    requires { ⌜ Coded (size .inputs) (size .outputs) (now code) (now len) ⌝ }
+    requires { ⌜ Sized size × (length (now row) ≡ 4) × (length (now ok) ≡ 4) × (256 ≤ length (now st)) × (b < 256) × (layer ≤ scratchAt) × (storageWords ≤ length (now s)) ⌝ }
+    ensures { λ r. ⌜ ((ks : List ℕ) → United (size .words) (now (row .entry)) (now (row .exit)) (λ a. rowBit (now (ok .entry)) 0 a && meets (sheetOf (size .inputs) (size .outputs) (now (code .entry)) (now (len .entry)) ks) (64 * size .words) (stored (now (s .entry)) layer) a b)) ⌝ }
 {
-    unite_valuations(row, st, ok, s, code, len, m, n, w, layer, b);
+    unite_valuations(row, st, ok, s, code, len, size, layer, b);
     if !pairs::has_end(s, layer, b) {
         return;
     }
-    unite(row, st, ok, code, len, m, n, w, b, true, 0);
+    unite(row, st, ok, code, len, size, b, true, 0);
 }

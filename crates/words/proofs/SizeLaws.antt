@@ -30,8 +30,11 @@ wide k v h e = go (decLt k 7) (ℕ-discrete k 7)
     go (no l) (no d) = let q : k ≡ 8 = omega arith in four (ap (λ (i : ℕ). 2 ^ i) q)
 
 pub sized : (m n : ℕ) → m + n ≤ 8 → Sized (sizeOf m n)
-sized m n h = record { power = refl; some-valuation = pow-pos (m + n); most-valuations = pow-mono h; wide = wide (m + n) (2 ^ (m + n)) h refl }
+sized m n h = record { streams = h; power = refl; some-valuation = pow-pos (m + n); most-valuations = pow-mono h; wide = wide (m + n) (2 ^ (m + n)) h refl }
 
 -- with the number of valuations as the code has it
 pub size-is : (m n v : ℕ) → v ≡ 2 ^ (m + n) → _≡_ {A = Size} (record { inputs = m; outputs = n; valuations = v; words = (v + 63) / 64 }) (sizeOf m n)
 size-is m n v e = ap (λ (k : ℕ). record { inputs = m; outputs = n; valuations = k; words = (k + 63) / 64 }) e
+
+pub sized-under : (z : Size) → Sized z → 2 ^ (z .inputs + z .outputs) ≤ 64 * z .words
+sized-under z h = omega (arith, h .power, h .wide .under)

@@ -18,6 +18,7 @@ sizeOf m n = record { inputs = m; outputs = n; valuations = 2 ^ (m + n); words =
 
 -- the size of some sheet
 pub record Sized (z : Size) : Type 0 where
+  pub streams : z .inputs + z .outputs ≤ 8
   pub power : z .valuations ≡ 2 ^ (z .inputs + z .outputs)
   pub some-valuation : 1 ≤ z .valuations
   pub most-valuations : z .valuations ≤ 256

@@ -1,5 +1,6 @@
 -- `preparation::join_before` meets its contract.
 use borrow.Author.Needs.{needs}
+use Rattle.words.proofs.SizeLaws.{sized-under}
 use Rattle.unions.proofs.Rows.{streams-low}
 use Rattle.unions.proofs.Uniting.{row-from, empty-row}
 use Rattle.preparation.proofs.Joining.{column-joins}
@@ -10,7 +11,7 @@ slice-aggregate-unite-row : tie.Need-slice-aggregate-unite-row
 slice-aggregate-unite-row c = search needs
 
 unite-row-requires : tie.Need-unite-row-requires
-unite-row-requires c κs = let p = c .before .before .before .before .before .before .before .before .before .pre in (p .0, (p .1 .0, search needs, p .1 .2, p .1 .4, p .1 .5, p .1 .6, p .1 .9))
+unite-row-requires c κs = let p = c .before .before .before .before .before .before .before .before .before .pre in (p .0, (p .1 .0, search needs, p .1 .1, p .1 .3, p .1 .4, p .1 .5, p .1 .8))
 
 slice-aggregate-join-row : tie.Need-slice-aggregate-join-row
 slice-aggregate-join-row c = search needs
@@ -33,7 +34,7 @@ returns c =
     let after-unite-row = after-join-row .before .before .before .before .before .before .before in
     let start = after-unite-row .before .before .before .before .before .before .before .before .before .before in (
       λ ks r.
-          column-joins _ _ (streams-low _ _ _ _ ks _ (start .pre .1 .1)) _ _ _ _ _ _ (row-from _ _ _ _ _ _ (λ a l. empty-row 4 a) r (after-unite-row .unite-row .ensures ks))
+          column-joins _ _ (streams-low _ _ _ _ ks _ (sized-under _ (start .pre .1 .0))) _ _ _ _ _ _ (row-from _ _ _ _ _ _ (λ a l. empty-row 4 a) r (after-unite-row .unite-row .ensures ks))
           (after-join-row .join-row .ensures .0),
       after-join-row .join-row .ensures .1,
     )

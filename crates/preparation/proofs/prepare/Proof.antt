@@ -1,192 +1,40 @@
 -- `preparation::prepare` meets its contract.
-use mathlib.Core.Path.{_≡_, refl}
-use mathlib.Core.Logic.{inl}
-use mathlib.Core.List.{List}
-use Prim.Native.Nat.{ℕ, _+_, _*_, _-_, _^_, _≤_, _<_}
-use native.Mathlib.Omega.{arith}
-use lib.ListN.{length, getD}
+use mathlib.Core.Path.{sym, subst}
 use borrow.Author.Needs.{needs}
+use Rattle.words.specs.declared.Size.{Size}
 use Rattle.sheet.specs.RuleSheet.{requiredOf}
-use Rattle.completions.specs.Live.{allowed}
-use Rattle.pairs.specs.Storage.{reachedAt, scratchAt, storageWords}
-use Rattle.lanes.specs.Coded.{sheetOf}
-use Rattle.unions.specs.Rows.{Row}
-use Rattle.unions.proofs.Rows.{two-to}
-use Rattle.preparation.specs.Search.{Occupied, Apart}
-use Rattle.preparation.proofs.Searching.{Searching, rows-started, rows-none, apart-turned}
-use Rattle.preparation.proofs.Preparing.{search-bound, search-begin, search-step, layers-some, search-finish}
+use Rattle.sheet.specs.Reading.{Below}
+use Rattle.lanes.specs.Coded.{Coded, sheetOf}
+use Rattle.preparation.specs.Prepared.{Prepared, Reach}
 use Rattle.preparation.proofs.prepare.Statement.{statement}
 use Rattle.preparation.proofs.prepare.Tie as tie
 
-abbrev Inv-loop : tie.InvT-loop
-Inv-loop s₀ code len m n v w st₀ ok occupied₀ layer₀ next₀ layers₀ s st occupied layer next layers =
-    (v ≡ 2 ^ (m + n)) × (v ≤ 64 * w) × (w ≤ 4) × (length ok ≡ 4) × (length occupied ≡ 4) × (length st ≡ 256) × (storageWords ≤ length s) × (length s ≡ length s₀)
-    × ((reachedAt ≤ layer) × (layer ≤ scratchAt) × (reachedAt ≤ next) × (next ≤ scratchAt)) × Apart layer next × ((k : ℕ) → getD s k 0 < 2 ^ 64) × Occupied w occupied s layer
-    × ((ks : List ℕ) → Row w ok (allowed (sheetOf m n code len ks)) → Searching (sheetOf m n code len ks) layer next s₀ s layers)
+size-of-requires : tie.Need-size-of-requires
+size-of-requires c κs = search needs
 
-abbrev μ-loop : tie.MeasureT-loop
-μ-loop s₀ code len m n v w st₀ ok occupied₀ layer₀ next₀ layers₀ s st occupied layer next layers = 65793 - layers
-
--- In each answer behind the loop, h is the state at its head and e the state at entry.
-
-add-v : tie.Need-add-v Inv-loop μ-loop
-add-v c = omega (arith, c .before .before .before .pre .0 .ranges .streams)
-
-shl-v : tie.Need-shl-v Inv-loop μ-loop
-shl-v c = omega (arith, c .before .before .before .pre .0 .ranges .streams)
-
-add-w : tie.Need-add-w Inv-loop μ-loop
-add-w c = omega (arith, two-to _ (c .before .before .before .pre .0 .ranges .streams))
-
-slice-aggregate-fill-allowed : tie.Need-slice-aggregate-fill-allowed Inv-loop μ-loop
-slice-aggregate-fill-allowed c = search needs
-
-fill-allowed-requires : tie.Need-fill-allowed-requires Inv-loop μ-loop
-fill-allowed-requires c κs =
-    let q = c .before .before .before .before .pre in
-    let p = two-to _ (q .0 .ranges .streams) in
-    ((q .0 .ranges .streams, p .0, omega (arith, p .0, p .2), omega arith, search needs), q .1 .0)
-
-slice-aggregate-start : tie.Need-slice-aggregate-start Inv-loop μ-loop
-slice-aggregate-start c = search needs
-
-start-requires : tie.Need-start-requires Inv-loop μ-loop
-start-requires c κs = let p = two-to _ (c .before .before .before .before .before .before .before .before .pre .0 .ranges .streams) in (omega (arith, p .0, p .2), search needs, search needs)
-
-loop-holds : tie.Need-loop-holds Inv-loop μ-loop
-loop-holds c =
-    let few = c .before .before .before .before .before .before .before .before .before .before .before .pre .0 .ranges .streams in
-    let p = two-to _ few in
-    let st = c .before .before .start .ensures in (
-      p .0,
-      omega arith,
-      omega (arith, p .0, p .2),
-      search needs,
-      search needs,
-      search needs,
-      omega arith,
-      refl,
-      (omega arith, omega arith, omega arith, omega arith),
-      inl (omega arith),
-      λ k. c .slice-known2 .given k .fits,
-      rows-started _ _ _ _ (omega (arith, p .0, p .2)) st,
-      λ ks r. search-begin _ _ _ _ few _ _ (p .0) (omega arith) (omega (arith, p .0, p .2)) ks _ _ _ r st,
+search-requires : tie.Need-search-requires
+search-requires c κs =
+    let start = c .before .before .before .before .before in
+    let a = start .args in
+    let e = c .size-of .ensures .0 in (
+      subst (λ (z : Size). Coded (z .inputs) (z .outputs) (a .code .now) (a .len .now)) (sym e) (start .pre .0),
+      (subst (λ (z : Size). Below (a .assumed) (z .outputs)) (sym e) (start .pre .1 .0), (c .size-of .ensures .1, search needs)),
     )
 
-slice-aggregate-next-bit : tie.Need-slice-aggregate-next-bit Inv-loop μ-loop
-slice-aggregate-next-bit c = search needs
-
-next-bit-requires : tie.Need-next-bit-requires Inv-loop μ-loop
-next-bit-requires c κs = let i = c .before .loop .inv in (omega arith, i .2, omega arith, omega arith)
-
-mul-if1 : tie.Need-mul-if1 Inv-loop μ-loop
-mul-if1 c = let i = c .before .before .loop .inv in omega arith
-
-slice-aggregate-sweep : tie.Need-slice-aggregate-sweep Inv-loop μ-loop
-slice-aggregate-sweep c = search needs
-
-slice-aggregate-sweep-2 : tie.Need-slice-aggregate-sweep-2 Inv-loop μ-loop
-slice-aggregate-sweep-2 c = search needs
-
-slice-aggregate-sweep-3 : tie.Need-slice-aggregate-sweep-3 Inv-loop μ-loop
-slice-aggregate-sweep-3 c = search needs
-
-slice-aggregate-sweep-4 : tie.Need-slice-aggregate-sweep-4 Inv-loop μ-loop
-slice-aggregate-sweep-4 c = search needs
-
-sweep-requires : tie.Need-sweep-requires Inv-loop μ-loop
-sweep-requires c κs =
-    let h = c .before .before .before .before .before .before .before .before in
-    let i = h .loop .inv in
-    (h .before .before .before .before .before .before .before .before .before .before .before .before .pre .0, ((i .2, omega arith, i .4, i .3, search needs, omega arith, i .6), ((i .8 .0, i .8 .1, i .8 .2, i .8 .3, i .9), i .11)))
-
-add-layers : tie.Need-add-layers Inv-loop μ-loop
-add-layers c =
-    let h = c .before .before .before .before .before .before .before .before .before .before .before .before .before in
-    let e = h .before .before .before .before .before .before .before .before .before .before .before .before in
-    omega (arith, search-bound _ _ _ _ (e .pre .0 .ranges .streams) _ _ _ _ _ _ (h .loop .inv .12 (requiredOf (e .args .assumed)) (h .before .before .before .before .before .before .before .fill-allowed .ensures _ _)))
-
-loop-less : tie.Need-loop-less Inv-loop μ-loop
-loop-less c =
-    let h = c .before .before .before .before .before .before .before .before .before .before .before .before .before in
-    let e = h .before .before .before .before .before .before .before .before .before .before .before .before in
-    omega (arith, search-bound _ _ _ _ (e .pre .0 .ranges .streams) _ _ _ _ _ _ (h .loop .inv .12 (requiredOf (e .args .assumed)) (h .before .before .before .before .before .before .before .fill-allowed .ensures _ _)))
-
-loop-again : tie.Need-loop-again Inv-loop μ-loop
-loop-again c =
-    let after-if1 = c .before .before .before .before .before .before .before .before .before .before in
-    let after-next-bit = after-if1 .before in
-    let h = after-next-bit .before .before in
-    let e = h .before .before .before .before .before .before .before .before .before .before .before .before in
-    let i = h .loop .inv in
-    let q = i .12 (requiredOf (e .args .assumed)) (h .before .before .before .before .before .before .before .fill-allowed .ensures _ _) in
-    let w = c .before .before .before .before .sweep .ensures in (
-      i .0,
-      i .1,
-      i .2,
-      i .3,
-      omega arith,
-      omega arith,
-      omega arith,
-      omega arith,
-      (i .8 .2, i .8 .3, i .8 .0, i .8 .1),
-      apart-turned _ _ (i .9),
-      λ k. c .before .before .slice-known3 .given k .fits,
-      w .1 (rows-none _ _ _ (q .free)),
-      λ ks r.
-          search-step _ _ _ _ (e .pre .0 .ranges .streams) _ _ (i .0) (i .1) (i .2) ks _ _ _ _ _ _ _ _ (i .12 ks r) (i .11) (after-next-bit .next-bit .ensures) (after-if1 .if1 .taken) (w .0 ks r),
-    )
-
-count-requires : tie.Need-count-requires Inv-loop μ-loop
-count-requires c κs = let i = c .before .before .before .before .loop .inv in i .6
-
-sub-t18 : tie.Need-sub-t18 Inv-loop μ-loop
-sub-t18 c =
-    let h = c .before .before .before .before .before in
-    let e = h .before .before .before .before .before .before .before .before .before .before .before .before in
-    let i = h .loop .inv in
-    layers-some _ _ _ _ (e .pre .0 .ranges .streams) (e .args .assumed) (e .pre .1 .0) _ _ _ _ _ _ _ _ (i .12 (requiredOf (e .args .assumed)) (h .before .before .before .before .before .before .before .fill-allowed .ensures _ _)) (i .11) (c .before .before .before .next-bit .ensures) (c .before .before .if1 .left)
-
-same-length : tie.Need-same-length Inv-loop μ-loop
+same-length : tie.Need-same-length
 same-length c = search needs
 
-returns : tie.Need-returns Inv-loop μ-loop
+returns : tie.Need-returns
 returns c =
-    let h = c .before .before .before .before .before in
-    let e = h .before .before .before .before .before .before .before .before .before .before .before .before in
-    let i = h .loop .inv in
-    let n = c .count .ensures in
-    let f =
-    search-finish _ _ _ _ (e .pre .0 .ranges .streams) (e .args .assumed) (e .pre .1 .0) _ _ _ _ _ _ _ _ (i .12 (requiredOf (e .args .assumed)) (h .before .before .before .before .before .before .before .fill-allowed .ensures _ _)) (i .11)
-    (c .before .before .before .next-bit .ensures) (c .before .before .if1 .left) _ _ _ (i .9) (i .8) (i .10) (h .before .before .before .start .ensures) (n .0) (n .1) in
-    (f .0, (f .1, f .2))
+    let after-search = c .before .before in
+    let after-size-of = after-search .before in
+    let a = after-size-of .before .before .before .before .before .args in
+    let e = after-size-of .size-of .ensures .0 in
+    let r = after-search .search .ensures in
+    let f = after-search .search .result in (
+      subst (λ (z : Size). Prepared (sheetOf (z .inputs) (z .outputs) (a .code .now) (a .len .now) (requiredOf (a .assumed))) (a .s .now) (after-search .search .last .0) (f .live)) e (r .0),
+      (subst (λ (z : Size). Reach (sheetOf (z .inputs) (z .outputs) (a .code .now) (a .len .now) (requiredOf (a .assumed))) (f .reach)) e (r .1 .0), r .1 .1),
+    )
 
 pub prepare-spec : {M : Type 1} → statement M
-prepare-spec =
-    tie.close
-    (tie.spec
-    Inv-loop
-    μ-loop
-    add-v
-    shl-v
-    add-w
-    slice-aggregate-fill-allowed
-    fill-allowed-requires
-    slice-aggregate-start
-    start-requires
-    loop-holds
-    slice-aggregate-next-bit
-    next-bit-requires
-    mul-if1
-    slice-aggregate-sweep
-    slice-aggregate-sweep-2
-    slice-aggregate-sweep-3
-    slice-aggregate-sweep-4
-    sweep-requires
-    add-layers
-    loop-less
-    loop-again
-    count-requires
-    sub-t18
-    same-length
-    returns)
+prepare-spec = tie.close (tie.spec size-of-requires search-requires same-length returns)

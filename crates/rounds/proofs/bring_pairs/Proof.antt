@@ -6,19 +6,15 @@ use Rattle.lanes.proofs.RowLaws.{room-two, room-four}
 use Rattle.rounds.proofs.bring_pairs.Statement.{statement}
 use Rattle.rounds.proofs.bring_pairs.Tie as tie
 
-valuations-requires : tie.Need-valuations-requires
-valuations-requires c κs = search needs
-
 slice-aggregate-bring-rows : tie.Need-slice-aggregate-bring-rows
 slice-aggregate-bring-rows c = search needs
 
 bring-rows-requires : tie.Need-bring-rows-requires
 bring-rows-requires c κs =
-    let after-valuations = c .before .before .before in
-    let start = after-valuations .before .before .before .before .before in
+    let start = c .before .before .before .before .before .before .before .before in
     let a = start .args in
-    let h : (2 ^ (a .m + a .n) + 63) / 64 ≤ 2 = omega (arith, after-valuations .valuations .ensures .0) in
-    (start .pre .0, (omega (arith, room-two _ h), start .pre .1 .0, start .pre .1 .1, start .pre .1 .2))
+    let h : a .size .words ≤ 2 = omega (arith, start .pre .1 .0 .wide .count) in
+    (start .pre .0, (start .pre .1 .0, omega (arith, room-two _ h), start .pre .1 .1, start .pre .1 .2, start .pre .1 .3))
 
 same-length : tie.Need-same-length
 same-length c = search needs
@@ -31,11 +27,10 @@ slice-aggregate-bring-rows-2 c = search needs
 
 bring-rows-requires-2 : tie.Need-bring-rows-requires-2
 bring-rows-requires-2 c κs =
-    let after-valuations = c .before .before .before in
-    let start = after-valuations .before .before .before .before .before in
+    let start = c .before .before .before .before .before .before .before .before in
     let a = start .args in
-    let h : 2 < (2 ^ (a .m + a .n) + 63) / 64 = omega (arith, after-valuations .valuations .ensures .0) in
-    (start .pre .0, (omega (arith, room-four _ h), start .pre .1 .0, start .pre .1 .1, start .pre .1 .2))
+    let h : 2 < a .size .words = omega (arith, start .pre .1 .0 .wide .count) in
+    (start .pre .0, (start .pre .1 .0, omega (arith, room-four _ h), start .pre .1 .1, start .pre .1 .2, start .pre .1 .3))
 
 same-length-2 : tie.Need-same-length-2
 same-length-2 c = search needs
@@ -47,7 +42,6 @@ pub bring-pairs-spec : {M : Type 1} → statement M
 bring-pairs-spec =
     tie.close
     (tie.spec
-    valuations-requires
     slice-aggregate-bring-rows
     bring-rows-requires
     same-length

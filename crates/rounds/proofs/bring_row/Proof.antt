@@ -13,20 +13,14 @@ use Rattle.rounds.proofs.bring_row.Statement.{statement}
 use Rattle.rounds.proofs.bring_row.Tie as tie
 
 abbrev Inv-loop : tie.InvT-loop
-Inv-loop s₀ st₀ code len m n before g v w at b₀ s st b =
+Inv-loop s₀ st₀ code len size before g v w at b₀ s st b =
     (b ≤ 64 * w)
     × (length s ≡ length s₀)
     × (length st ≡ length st₀)
-    × ((p : Option ℕ) → Before before p → (ks : List ℕ) → Bringing (sheetOf m n code len ks) s₀ s (2 ^ (m + n)) g p b)
+    × ((p : Option ℕ) → Before before p → (ks : List ℕ) → Bringing (sheetOf (size .inputs) (size .outputs) code len ks) s₀ s (size .valuations) g p b)
 
 abbrev μ-loop : tie.MeasureT-loop
-μ-loop s₀ st₀ code len m n before g v w at b₀ s st b = v - b
-
-valuations-requires : tie.Need-valuations-requires Inv-loop μ-loop
-valuations-requires c κs = c .before .before .before .before .pre .0 .ranges .streams
-
-row-words-requires : tie.Need-row-words-requires Inv-loop μ-loop
-row-words-requires c κs = c .before .before .before .before .before .pre .0 .ranges .streams
+μ-loop s₀ st₀ code len size before g v w at b₀ s st b = v - b
 
 mul-at : tie.Need-mul-at Inv-loop μ-loop
 mul-at c = search needs
@@ -42,19 +36,20 @@ loop-holds c = (
   c .next-bit .ensures .inside,
   refl,
   refl,
-  λ p r ks. bring-first _ _ _ _ p (omega (arith, c .before .before .before .valuations .ensures)) (c .before .before .before .before .before .before .before .before .pre .1 .2) _ _ (c .before .before .row-words .ensures .under) (c .next-bit .ensures),
+  λ p r ks. bring-first _ _ _ _ p (c .before .before .before .before .before .before .pre .1 .0 .most-valuations) (c .before .before .before .before .before .before .pre .1 .3) _ _ (c .before .before .before .before .before .before .pre .1 .0 .wide .under) (c .next-bit .ensures),
 )
 
 seen-requires : tie.Need-seen-requires Inv-loop μ-loop
 seen-requires c κs =
-    let z = c .before .before .before .before .before .before .before .before .before .before .pre .1 .3 .reads in
-    (omega (arith, c .before .before .before .before .before .valuations .ensures), omega (arith, z .place, z .beside .small))
+    let q = c .before .before .before .before .before .before .before .before .pre .1 in
+    let z = q .4 .reads in
+    (omega (arith, q .0 .most-valuations), omega (arith, z .place, z .beside .small))
 
 gain-row-requires : tie.Need-gain-row-requires Inv-loop μ-loop
 gain-row-requires c κs =
-    let q = c .before .before .before .before .before .before .before .before .before .before .before .before .before .pre in
+    let q = c .before .before .before .before .before .before .before .before .before .before .before .pre in
     let l = c .before .before .before .before .loop .inv in
-    (q .0, (omega (arith, l .2, q .1 .0), omega (arith, l .1, q .1 .1), omega (arith, c .before .before .before .before .before .before .before .before .valuations .ensures)))
+    (q .0, (q .1 .0, omega (arith, l .2, q .1 .1), omega (arith, l .1, q .1 .2), omega (arith, q .1 .0 .most-valuations)))
 
 add-next-bit : tie.Need-add-next-bit Inv-loop μ-loop
 add-next-bit c = search needs
@@ -70,22 +65,21 @@ loop-again c =
     let after-gain-row = c .before .before .before .before .before .before in
     let after-seen = after-gain-row .before .before .before in
     let turn = after-seen .before .before in
-    let after-row-words = turn .before .before .before in
-    let start = after-row-words .before .before .before .before .before .before in
-    let v = after-row-words .before .valuations .ensures in (
+    let start = turn .before .before .before .before .before .before .before in
+    let z = start .pre .1 .0 in (
       c .next-bit2 .ensures .inside,
       omega arith,
       omega arith,
       λ p r ks.
-          bring-more _ _ _ _ p (omega (arith, v)) (start .pre .1 .2) _ _ _ _ _ (after-row-words .row-words .ensures .under) (omega (arith, v)) (turn .loop .inv .3 p r ks)
+          bring-more _ _ _ _ p (z .most-valuations) (start .pre .1 .3) _ _ _ _ _ (z .wide .under) (after-seen .before .loop-test .taken) (turn .loop .inv .3 p r ks)
           (after-gain-row .gain-row .ensures p (after-seen .seen .ensures p r) ks) (c .next-bit2 .ensures),
     )
 
 gain-ends-requires : tie.Need-gain-ends-requires Inv-loop μ-loop
 gain-ends-requires c κs =
-    let q = c .before .before .before .before .before .before .before .before .before .before .before .before .pre in
+    let q = c .before .before .before .before .before .before .before .before .before .before .pre in
     let l = c .before .before .before .loop .inv in
-    (q .0, (omega (arith, l .2, q .1 .0), omega (arith, l .1, q .1 .1), q .1 .2, q .1 .3))
+    (q .0, (q .1 .0, omega (arith, l .2, q .1 .1), omega (arith, l .1, q .1 .2), q .1 .3, q .1 .4))
 
 same-length : tie.Need-same-length Inv-loop μ-loop
 same-length c = search needs
@@ -97,10 +91,10 @@ returns : tie.Need-returns Inv-loop μ-loop
 returns c =
     let after-gain-ends = c .before .before .before .before in
     let turn = after-gain-ends .before .before .before .before in
-    let start = turn .before .before .before .before .before .before .before .before .before in
+    let start = turn .before .before .before .before .before .before .before in
     λ p r ks.
-    let v = turn .before .before .before .before .valuations .ensures in
-    rows-end _ _ _ _ p (omega (arith, v)) (start .pre .1 .2) _ _ (bring-all _ _ _ _ p (omega (arith, v)) (start .pre .1 .2) _ _ (omega (arith, v)) (turn .loop .inv .3 p r ks))
+    let z = start .pre .1 .0 in
+    rows-end _ _ _ _ p (z .most-valuations) (start .pre .1 .3) _ _ (bring-all _ _ _ _ p (z .most-valuations) (start .pre .1 .3) _ _ (after-gain-ends .before .before .before .loop-test .left) (turn .loop .inv .3 p r ks))
     (after-gain-ends .gain-ends .ensures p r ks)
 
 pub bring-row-spec : {M : Type 1} → statement M
@@ -109,8 +103,6 @@ bring-row-spec =
     (tie.spec
     Inv-loop
     μ-loop
-    valuations-requires
-    row-words-requires
     mul-at
     add-at
     next-bit-requires

@@ -16,10 +16,10 @@ use Rattle.pairs.proofs.insert_word.Reads as insert-word-reads
 use Rattle.words.proofs.lanes_below.Reads as lanes-below-reads
 
 abbrev Inv-loop : tie.InvT-loop
-Inv-loop s₀ v w letters j₀ s j = (j ≤ w) × (length s ≡ length s₀) × Adds scratchAt s₀ s (heardFirst v (among letters) (64 * j))
+Inv-loop s₀ letters v w j₀ s j = (j ≤ w) × (length s ≡ length s₀) × Adds scratchAt s₀ s (heardFirst v (among letters) (64 * j))
 
 abbrev μ-loop : tie.MeasureT-loop
-μ-loop s₀ v w letters j₀ s j = w - j
+μ-loop s₀ letters v w j₀ s j = w - j
 
 loop-holds : tie.Need-loop-holds Inv-loop μ-loop
 loop-holds c = (omega arith, refl, heard-none _ _ _)

@@ -30,7 +30,7 @@ stream-word-requires : tie.Need-stream-word-requires
 stream-word-requires c κs = omega (arith, below-output _ _ _ (c .before .before .before .assumed .given .1) (c .before .before .before .before .before .before .pre .1), c .before .stream-of .ensures)
 
 returns : tie.Need-returns
-returns c = λ code len i h. c .before .before .lanes-below .ensures i h ∙ allowed-nothing _ _ code len _ _ _ (c .enum-told .given .1) (c .before .before .before .pre .0 .1)
+returns c = λ code len i h. c .before .before .lanes-below .ensures i h ∙ allowed-nothing _ _ code len _ _ _ (c .enum-told .given .1) (c .before .before .before .pre .0 .0 .power)
 
 returns-2 : tie.Need-returns-2
 returns-2 c =
@@ -39,7 +39,7 @@ returns-2 c =
     let start = after-lanes-below .before in
     λ code len i h.
     bit-and i _ _ ∙ ap₂ _&&_ (after-lanes-below .lanes-below .ensures i h) (c .stream-word .ensures i h)
-    ∙ allowed-by _ _ code len _ _ _ _ _ (after-assumed .assumed .given .1) (start .pre .0 .1) (c .before .before .stream-of .ensures)
+    ∙ allowed-by _ _ code len _ _ _ _ _ (after-assumed .assumed .given .1) (start .pre .0 .0 .power) (c .before .before .stream-of .ensures)
 
 pub allowed-word-spec : {M : Type 1} → statement M
 allowed-word-spec =

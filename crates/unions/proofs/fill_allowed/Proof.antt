@@ -13,17 +13,17 @@ use Rattle.unions.proofs.fill_allowed.Statement.{statement}
 use Rattle.unions.proofs.fill_allowed.Tie as tie
 
 abbrev Inv-loop : tie.InvT-loop
-Inv-loop row₀ m n assumed v w j₀ row j =
-    (j ≤ w) × (length row ≡ length row₀) × ((code len : List ℕ) → LanesTo row₀ row (λ a u. allowed (sheetOf m n code len (requiredOf assumed)) a) j)
+Inv-loop row₀ size assumed w j₀ row j =
+    (j ≤ w) × (length row ≡ length row₀) × ((code len : List ℕ) → LanesTo row₀ row (λ a u. allowed (sheetOf (size .inputs) (size .outputs) code len (requiredOf assumed)) a) j)
 
 abbrev μ-loop : tie.MeasureT-loop
-μ-loop row₀ m n assumed v w j₀ row j = w - j
+μ-loop row₀ size assumed w j₀ row j = w - j
 
 loop-holds : tie.Need-loop-holds Inv-loop μ-loop
 loop-holds c = (omega arith, refl, λ code len. lanes-none _ _)
 
 allowed-word-requires : tie.Need-allowed-word-requires Inv-loop μ-loop
-allowed-word-requires c κs = ((c .before .before .before .pre .0 .0, c .before .before .before .pre .0 .1, omega arith, c .before .before .before .pre .0 .2), c .before .before .before .pre .1)
+allowed-word-requires c κs = let start = c .before .before .before in ((start .pre .0 .0, omega arith), start .pre .1)
 
 mul-row : tie.Need-mul-row Inv-loop μ-loop
 mul-row c = search needs

@@ -12,12 +12,12 @@ use Rattle.unions.proofs.unite_valuations.Statement.{statement}
 use Rattle.unions.proofs.unite_valuations.Tie as tie
 
 abbrev Inv-loop : tie.InvT-loop
-Inv-loop row₀ st₀ ok s code len m n w layer b first c₀ row st c =
+Inv-loop row₀ st₀ ok s code len size layer b w first c₀ row st c =
     (first ≡ layer + 4 * b) × (c ≤ 64 * w) × (length row ≡ length row₀) × (length st ≡ length st₀)
-    × ((ks : List ℕ) → Uniting (sheetOf m n code len ks) w ok s layer b row₀ row c)
+    × ((ks : List ℕ) → Uniting (sheetOf (size .inputs) (size .outputs) code len ks) w ok s layer b row₀ row c)
 
 abbrev μ-loop : tie.MeasureT-loop
-μ-loop row₀ st₀ ok s code len m n w layer b first c₀ row st c = 64 * w - c
+μ-loop row₀ st₀ ok s code len size layer b w first c₀ row st c = 64 * w - c
 
 mul-first : tie.Need-mul-first Inv-loop μ-loop
 mul-first c = search needs

@@ -1,18 +1,18 @@
 -- `rounds::gain::gain_row` meets its contract: the words below j are done.
-use mathlib.Core.Path.{_≡_, refl, ap, _∙_}
+use mathlib.Core.Path.{_≡_, refl}
 use mathlib.Core.Bool.{_&&_}
-use mathlib.Core.List.{List}
-use mathlib.Core.Option.{Option}
-use Prim.Native.Nat.{ℕ, _+_, _-_, _*_, _^_, _≤_}
+use mathlib.Core.Option.{Option, some}
+use Prim.Native.Nat.{ℕ, _+_, _-_, _*_, _≤_, _<_}
 use native.Mathlib.Omega.{arith}
 use lib.Dec.{eqb, ltb}
-use lib.ListN.{length}
+use lib.ListN.{length, getD}
 use borrow.Author.Needs.{needs}
 use borrow.Author.Tests.{not-true}
+use Rattle.words.specs.Bits.{bit}
+use Rattle.sheet.specs.RuleSheet.{RuleSheet}
+use Rattle.lola.specs.Equations.{holds}
 use Rattle.pairs.specs.Storage.{live, reachedAt}
 use Rattle.pairs.specs.Changes.{Adds}
-use Rattle.lanes.specs.Around.{room, Seen}
-use Rattle.lanes.specs.Coded.{sheetOf}
 use Rattle.rounds.specs.Rows.{cut, gains}
 use Rattle.rounds.proofs.WordLaws.{live-masked, row-full, word-gained}
 use Rattle.rounds.proofs.RowLaws.{row-none, row-more, row-all}
@@ -23,22 +23,17 @@ use Rattle.rounds.proofs.gain.gain_row.Lts as lts
 use Rattle.lanes.proofs.successors.Reads as successors-reads
 use Rattle.pairs.proofs.insert_word.Reads as insert-word-reads
 use Rattle.rounds.proofs.gain.is_new.Reads as is-new-reads
-use Rattle.rounds.proofs.row_words.Reads as row-words-reads
-use Rattle.rounds.proofs.valuations.Reads as valuations-reads
 use Rattle.words.proofs.lanes_below.Reads as lanes-below-reads
 
 abbrev Inv-loop : tie.InvT-loop
-Inv-loop s₀ st code len m n env b w low x j₀ s j =
+Inv-loop s₀ st code len env b v w low x j₀ s j =
     (j ≤ w)
     × (length s ≡ length s₀)
-    × ((p : Option ℕ) → Seen env p b → (ks : List ℕ)
-    → Adds reachedAt s₀ s (gains (sheetOf m n code len ks) (λ a. eqb a b) (cut (λ c. ltb c (64 * j) && ltb c (2 ^ (m + n)))) (live s₀) p))
+    × ((y : RuleSheet) (p : Option ℕ) → ((k i : ℕ) → k < w → i < 64 → bit i (getD x k 0) ≡ holds y p b (some (64 * k + i)))
+    → Adds reachedAt s₀ s (gains y (λ a. eqb a b) (cut (λ c. ltb c (64 * j) && ltb c v)) (live s₀) p))
 
 abbrev μ-loop : tie.MeasureT-loop
-μ-loop s₀ st code len m n env b w low x j₀ s j = w - j
-
-row-words-requires : tie.Need-row-words-requires Inv-loop μ-loop
-row-words-requires c κs = search needs
+μ-loop s₀ st code len env b v w low x j₀ s j = w - j
 
 is-new-requires : tie.Need-is-new-requires Inv-loop μ-loop
 is-new-requires c κs = search needs
@@ -48,25 +43,21 @@ same-length c = search needs
 
 returns : tie.Need-returns Inv-loop μ-loop
 returns c = λ p seen ks.
-    row-full _ _ _ _ p (λ k h. c .before .is-new .ensures (not-true _ (c .if1 .taken)) k (omega (arith, c .before .before .before .row-words .ensures .under)))
-
-valuations-requires : tie.Need-valuations-requires Inv-loop μ-loop
-valuations-requires c κs = search needs
+    row-full _ _ _ _ p (λ k h. c .before .is-new .ensures (not-true _ (c .if1 .taken)) k (omega (arith, c .before .before .before .before .before .before .before .pre .1 .0 .wide .under)))
 
 lanes-below-requires : tie.Need-lanes-below-requires Inv-loop μ-loop
-lanes-below-requires c κs = (c .valuations .ensures .1, omega arith)
+lanes-below-requires c κs = (c .before .before .before .before .before .before .before .pre .1 .0 .most-valuations, omega arith)
 
 slice-aggregate-successors : tie.Need-slice-aggregate-successors Inv-loop μ-loop
 slice-aggregate-successors c = search needs
 
 successors-requires : tie.Need-successors-requires Inv-loop μ-loop
 successors-requires c κs =
-    let after-row-words = c .before .before .before .before .before .before .before in
-    let q = after-row-words .before .before .before .before .before .pre in
-    (q .0, (after-row-words .row-words .ensures .most, refl, omega (arith, ap room (after-row-words .row-words .ensures .count))))
+    let q = c .before .before .before .before .before .before .before .before .before .before .pre in
+    (q .0, (q .1 .0 .wide .most, refl, q .1 .1))
 
 loop-holds : tie.Need-loop-holds Inv-loop μ-loop
-loop-holds c = (omega arith, refl, λ p seen ks. row-none _ _ _ _ p)
+loop-holds c = (omega arith, refl, λ y p f. row-none _ _ _ _ p)
 
 mul-live : tie.Need-mul-live Inv-loop μ-loop
 mul-live c = search needs
@@ -101,14 +92,13 @@ loop-again c =
     let turn = tested .before in
     let after-successors = turn .before .before .before .before in
     let after-lanes-below = after-successors .before .before .before in
-    let after-valuations = after-lanes-below .before in
-    let after-row-words = after-valuations .before .before .before .before in (
+    let start = after-lanes-below .before .before .before .before .before .before .before .before in (
       omega arith,
       omega arith,
-      λ p seen ks.
-          row-more _ _ _ _ _ _ _ p (turn .loop .inv .2 p seen ks)
-          (word-gained _ _ _ _ _ (live-masked _ _ _ _ _ _ (after-row-words .row-words .ensures) (tested .loop-test .taken) (λ i h. after-lanes-below .lanes-below .ensures i h ∙ ap (ltb (64 * 0 + i)) (after-valuations .valuations .ensures .0)))
-          _ p _ _ (λ i h. after-successors .successors .ensures p seen ks (turn .loop .j) i (tested .loop-test .taken) h) (c .before .before .insert-word .ensures)),
+      λ y p f.
+          row-more _ _ _ _ _ _ _ p (turn .loop .inv .2 y p f)
+          (word-gained _ _ _ _ _ (live-masked _ _ _ _ _ _ (start .pre .1 .0 .wide) (tested .loop-test .taken) (after-lanes-below .lanes-below .ensures))
+          _ p _ _ (λ i h. f (turn .loop .j) i (tested .loop-test .taken) h) (c .before .before .insert-word .ensures)),
     )
 
 same-length-2 : tie.Need-same-length-2 Inv-loop μ-loop
@@ -118,7 +108,7 @@ same-length-3 : tie.Need-same-length-3 Inv-loop μ-loop
 same-length-3 c = search needs
 
 returns-2 : tie.Need-returns-2 Inv-loop μ-loop
-returns-2 c = λ p seen ks. row-all _ _ _ _ _ _ _ p refl (omega (arith, c .before .before .before .before .before .before .before .before .before .before .before .before .before .row-words .ensures .under)) (c .before .loop .inv .2 p seen ks)
+returns-2 c = λ p seen ks. row-all _ _ _ _ _ _ _ p refl (omega (arith, c .before .before .before .before .before .before .before .before .before .before .before .before .before .before .before .before .pre .1 .0 .wide .under)) (c .before .loop .inv .2 _ p (λ k i h g. c .before .before .before .before .before .successors .ensures p seen ks k i h g))
 
 pub gain-row-spec : {M : Type 1} → statement M
 gain-row-spec =
@@ -126,11 +116,9 @@ gain-row-spec =
     (tie.spec
     Inv-loop
     μ-loop
-    row-words-requires
     is-new-requires
     same-length
     returns
-    valuations-requires
     lanes-below-requires
     slice-aggregate-successors
     successors-requires

@@ -44,7 +44,7 @@ same-length : tie.Need-same-length Inv-loop μ-loop
 same-length c = search needs
 
 returns : tie.Need-returns Inv-loop μ-loop
-returns c = let p = c .before .before .before .before .before .pre in emptying-all _ _ _ _ _ (c .loop-test .left) (p .2) (p .5) (p .6) (c .before .loop .inv .3)
+returns c = let p = c .before .before .before .before .before .pre in emptying-all _ _ _ _ _ (c .loop-test .left) (p .0 .most-valuations) (p .3) (p .4) (c .before .loop .inv .3)
 
 pub clear-groups-spec : {M : Type 1} → statement M
 clear-groups-spec =

@@ -1,6 +1,6 @@
 // Expressions and equations on rows of two words and of four. The number of words is a constant, so each function stands twice.
 ghost use mathlib.Core.Path.{_≡_};
-ghost use Prim.Native.Nat.{_+_, _*_, _<_, _≤_};
+ghost use Prim.Native.Nat.{_+_, _*_, _≤_};
 ghost use lib.ListN.{length};
 ghost use Rattle.lanes.specs.Around.{Stepped};
 ghost use Rattle.lanes.specs.Coded.{Coded, Values, Agree};

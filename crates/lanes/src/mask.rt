@@ -1,7 +1,7 @@
 // The streams that expressions read one round earlier, as masks.
 ghost use mathlib.Core.Path.{_≡_};
 ghost use mathlib.Core.List.{[]};
-ghost use Prim.Native.Nat.{ℕ, _%_, _<_};
+ghost use Prim.Native.Nat.{ℕ};
 ghost use Rattle.words.specs.Bits.{bit};
 ghost use Rattle.sheet.specs.Expression.{Expr, parse, tree};
 ghost use Rattle.lola.specs.Reads.{hasRead};

@@ -5,6 +5,7 @@ use Prim.Native.Nat.{ℕ, _+_, _-_, _*_, _^_, _≤_, _<_}
 use native.Mathlib.Numerals.{add-one}
 use native.Mathlib.Omega.{arith}
 use lib.ListN.{getD}
+use lib.Pow.{pow-mono}
 use Rattle.sheet.specs.RuleSheet.{streams, requiredOf}
 use Rattle.sheet.specs.Reading.{Below}
 use Rattle.sheet.specs.declared.Assumed.{Assumed}
@@ -14,14 +15,14 @@ use Rattle.pairs.specs.Storage.{live, reachedAt, scratchAt, maxPairs}
 use Rattle.pairs.specs.Changes.{NextBit}
 use Rattle.lanes.specs.Coded.{sheetOf}
 use Rattle.unions.specs.Rows.{Row}
-use Rattle.unions.proofs.Rows.{two-to, streams-low, some-allowed}
+use Rattle.unions.proofs.Rows.{streams-low, some-allowed}
 use Rattle.preparation.specs.Prepared.{Prepared, Reach}
 use Rattle.preparation.specs.Search.{Occupied, Apart, Started, Swept}
 use Rattle.preparation.proofs.Searching.{Searching, search-start, search-more, some-layer, search-end}
 
 module _ (m n : ℕ) (code len : List ℕ) (few : m + n ≤ 8) where
   small : (ks : List ℕ) → 2 ^ streams (sheetOf m n code len ks) ≤ 256
-  small ks = streams-low m n code len ks 256 (two-to (m + n) few .2)
+  small ks = streams-low m n code len ks 256 (pow-mono few)
 
   -- no more layers than pairs
   pub search-bound : (ks s₀ s : List ℕ) (layer next d : ℕ) → Searching (sheetOf m n code len ks) layer next s₀ s d → d ≤ maxPairs

@@ -5,7 +5,7 @@ ghost use mathlib.Core.List.{List};
 ghost use mathlib.Core.Option.{none, some};
 ghost use lib.Dec.{eqb};
 ghost use lib.ListN.{length};
-ghost use Prim.Native.Nat.{ℕ, _+_, _*_, _^_, _<_, _≤_};
+ghost use Prim.Native.Nat.{ℕ, _*_, _<_, _≤_};
 ghost use Rattle.words.specs.Sizes.{Sized};
 ghost use Rattle.sheet.specs.RuleSheet.{requiredOf};
 ghost use Rattle.sheet.specs.Reading.{Below};

@@ -3,16 +3,15 @@ use mathlib.Core.Path.{_≡_, refl, sym, ap, ap₂, _∙_, subst}
 use mathlib.Core.Bool.{Bool, true, false, cond, _&&_, _||_, and-true, and-false, or-false}
 use mathlib.Core.List.{List}
 use mathlib.Core.Option.{Option, none, some}
-use Prim.Native.Nat.{ℕ, _+_, _*_, _/_, _%_, _^_, _≤_, _<_}
+use Prim.Native.Nat.{ℕ, _+_, _*_, _/_, _%_, _≤_, _<_}
 use native.Mathlib.Omega.{arith}
 use native.Mathlib.Decide.{ℕ-discrete, decLt}
 use lib.Bits.{bitAnd, and-le-l}
 use lib.Dec.{eqb, ltb}
-use lib.Pow.{pow-pos, pow-mono}
 use borrow.Author.Tests.{eq-eqb, ne-eqb, eqb-true, lt-ltb, le-ltb, ltb-false}
 use Rattle.words.specs.Bits.{bit}
 use Rattle.words.specs.Below.{anyBelow}
-use Rattle.words.proofs.BitLaws.{bit-and, one-shl}
+use Rattle.words.proofs.BitLaws.{bit-and}
 use Rattle.words.proofs.AnyLaws.{any-cong, none-any, some-any, any-some}
 use Rattle.words.proofs.Bools.{iff, and-split}
 use Rattle.words.proofs.BelowLaws.{words-one, below-none}
@@ -24,7 +23,7 @@ use Rattle.pairs.specs.Storage.{used, live, reached, scratch, liveAt, reachedAt
 use Rattle.pairs.specs.Changes.{inWord, Adds, RowsCleared}
 use Rattle.pairs.proofs.Frames.{framed-then, framed-wider}
 use Rattle.pairs.proofs.Sets.{framed-before, framed-beyond, used-below, unused, adds-none, adds-then}
-use Rattle.rounds.specs.Rows.{among, Wide, cut, gains, inRow, heardFirst, brought, heardIn, grouped, Sparse}
+use Rattle.rounds.specs.Rows.{among, cut, gains, inRow, heardFirst, brought, heardIn, grouped, Sparse}
 use Rattle.rounds.specs.Round.{Rounded}
 use Rattle.rounds.proofs.Bools.{merge-under}
 use Rattle.rounds.proofs.WordLaws.{heard-lane}
@@ -42,8 +41,8 @@ both-cleared : (u p l : Bool) → (u ≡ false → p ≡ false) → cond u false
 both-cleared true p l f = refl
 both-cleared false p l f = ap (λ (z : Bool). l || z) (f refl) ∙ or-false l
 
-module _ (w v : ℕ) (is : v ≡ w) (s s₁ s₂ s₃ s₄ s₅ : List ℕ) (G P R : Pairs) (a : RowsCleared scratchAt v s s₁) (b : Adds scratchAt s₁ s₂ G) (c : RowsCleared reachedAt v s₂ s₃)
-    (d : Adds reachedAt s₃ s₄ P) (e : RowsCleared scratchAt v s₄ s₅) where
+module _ (w : ℕ) (s s₁ s₂ s₃ s₄ s₅ : List ℕ) (G P R : Pairs) (a : RowsCleared scratchAt w s s₁) (b : Adds scratchAt s₁ s₂ G) (c : RowsCleared reachedAt w s₂ s₃)
+    (d : Adds reachedAt s₃ s₄ P) (e : RowsCleared scratchAt w s₄ s₅) where
   live-same : (k : ℕ) (y : Option ℕ) → k < 256 → Within 256 y → live s₃ k y ≡ live s k y
   live-same k y hk hy =
       framed-before (c .frame) liveAt k y hk hy (omega arith) ∙ framed-before (b .frame) liveAt k y hk hy (omega arith) ∙ framed-before (a .frame) liveAt k y hk hy (omega arith)
@@ -54,9 +53,9 @@ module _ (w v : ℕ) (is : v ≡ w) (s s₁ s₂ s₃ s₄ s₅ : List ℕ) (G P
       framed-beyond (c .frame) scratchAt g (some k) hg hk (omega arith)
       ∙ b .adds g (some k) hg hk
       ∙ ap (λ (u : Bool). u || G g (some k))
-      (a .emptied g (some k) hg hk ∙ ap (λ (u : Bool). cond u false (scratch s g (some k))) (used-below v g (some k) (omega arith)))
+      (a .emptied g (some k) hg hk ∙ ap (λ (u : Bool). cond u false (scratch s g (some k))) (used-below w g (some k) l))
 
-  steps-rounded : ((k : ℕ) (y : Option ℕ) → v ≤ k → G k y ≡ false) → ((k : ℕ) (y : Option ℕ) → k < 256 → Within 256 y → P k y ≡ (ltb k w && (partBelow w y && R k y)))
+  steps-rounded : ((k : ℕ) (y : Option ℕ) → w ≤ k → G k y ≡ false) → ((k : ℕ) (y : Option ℕ) → k < 256 → Within 256 y → P k y ≡ (ltb k w && (partBelow w y && R k y)))
       → Rounded w s s₅ R
   steps-rounded low brings = record {
     frame = framed-then
@@ -67,18 +66,17 @@ module _ (w v : ℕ) (is : v ≡ w) (s s₁ s₂ s₃ s₄ s₅ : List ℕ) (G P
         ∙ d .adds k y hk hy
         ∙ ap₂ _||_
         (c .emptied k y hk hy
-        ∙ ap₂ (λ (z : ℕ) (l : Bool). cond (used z k y) false l) is (framed-before (b .frame) reachedAt k y hk hy (omega arith) ∙ framed-before (a .frame) reachedAt k y hk hy (omega arith)))
+        ∙ ap (λ (l : Bool). cond (used w k y) false l) (framed-before (b .frame) reachedAt k y hk hy (omega arith) ∙ framed-before (a .frame) reachedAt k y hk hy (omega arith)))
         (brings k y hk hy)
         ∙ gained (used w k y) (ltb k w && (partBelow w y && R k y)) (reached s k y) (λ q. ap (λ (u : Bool). u && (partBelow w y && R k y)) (unused w k y q));
     scratch = λ k y hk hy.
         e .emptied k y hk hy
-        ∙ ap (cond (used v k y) false)
+        ∙ ap (cond (used w k y) false)
         (framed-beyond (d .frame) scratchAt k y hk hy (omega arith)
         ∙ framed-beyond (c .frame) scratchAt k y hk hy (omega arith)
         ∙ b .adds k y hk hy
         ∙ ap (λ (l : Bool). l || G k y) (a .emptied k y hk hy))
-        ∙ both-cleared (used v k y) (G k y) (scratch s k y) (λ q. low k y (ltb-false k v (unused v k y q)))
-        ∙ ap (λ (z : ℕ). cond (used z k y) false (scratch s k y)) is;
+        ∙ both-cleared (used w k y) (G k y) (scratch s k y) (λ q. low k y (ltb-false k w (unused w k y q)));
   }
 
 -- ---- the first round
@@ -116,14 +114,14 @@ heard-more s t u v letters mask j f lanes q =
 pub heard-all : (s t : List ℕ) (v letters j w : ℕ) → j ≤ w → w ≤ j → Adds scratchAt s t (heardFirst v (among letters) (64 * j)) → Adds scratchAt s t (heardFirst v (among letters) (64 * w))
 heard-all s t v letters j w h l f = let e : j ≡ w = omega arith in subst (λ (k : ℕ). Adds scratchAt s t (heardFirst v (among letters) (64 * k))) e f
 
-module _ (x : RuleSheet) (w n : ℕ) (r : ℕ → Bool) (some-valuation : 1 ≤ w) (hn : w ≤ 64 * n) (v : ℕ) (is : v ≡ w) (s s₁ s₂ s₃ s₄ s₅ : List ℕ)
-    (a : RowsCleared scratchAt v s s₁) (b : Adds scratchAt s₁ s₂ (heardFirst v r (64 * n))) (c : RowsCleared reachedAt v s₂ s₃)
-    (d : Adds reachedAt s₃ s₄ (gains x (inRow (scratch s₃) w 0) (partBelow w) (live s₃) none)) (e : RowsCleared scratchAt v s₄ s₅) where
+module _ (x : RuleSheet) (w n : ℕ) (r : ℕ → Bool) (some-valuation : 1 ≤ w) (hn : w ≤ 64 * n) (s s₁ s₂ s₃ s₄ s₅ : List ℕ)
+    (a : RowsCleared scratchAt w s s₁) (b : Adds scratchAt s₁ s₂ (heardFirst w r (64 * n))) (c : RowsCleared reachedAt w s₂ s₃)
+    (d : Adds reachedAt s₃ s₄ (gains x (inRow (scratch s₃) w 0) (partBelow w) (live s₃) none)) (e : RowsCleared scratchAt w s₄ s₅) where
   abbrev First : Pairs
   First = gains x (inRow (scratch s₃) w 0) (partBelow w) (live s₃) none
 
-  first-low : (k : ℕ) (y : Option ℕ) → v ≤ k → heardFirst v r (64 * n) k y ≡ false
-  first-low k y h = ap (λ (u : Bool). u && cut (λ b. ltb b (64 * n) && (ltb b v && r b)) y) (ne-eqb k 0 (λ q. omega arith))
+  first-low : (k : ℕ) (y : Option ℕ) → w ≤ k → heardFirst w r (64 * n) k y ≡ false
+  first-low k y h = ap (λ (u : Bool). u && cut (λ b. ltb b (64 * n) && (ltb b w && r b)) y) (ne-eqb k 0 (λ q. omega arith))
 
   first-brings : (k : ℕ) (y : Option ℕ) → k < 256 → Within 256 y → First k y ≡ (ltb k w && (partBelow w y && startSet x (live s) r k y))
   unfolding gains startSet
@@ -137,8 +135,8 @@ module _ (x : RuleSheet) (w n : ℕ) (r : ℕ → Bool) (some-valuation : 1 ≤ 
 
       row : k < w → scratch s₃ 0 (some k) ≡ r k
       row h =
-          put-is w v is s s₁ s₂ s₃ s₄ s₅ (heardFirst v r (64 * n)) First (startSet x (live s) r) a b c d e 0 k (omega arith) (omega arith) hk
-          ∙ ap₂ (λ (u t : Bool). u && (t && r k)) (lt-ltb k (64 * n) (omega arith)) (lt-ltb k v (omega arith))
+          put-is w s s₁ s₂ s₃ s₄ s₅ (heardFirst w r (64 * n)) First (startSet x (live s) r) a b c d e 0 k (omega arith) (omega arith) hk
+          ∙ ap₂ (λ (u t : Bool). u && (t && r k)) (lt-ltb k (64 * n) (omega arith)) (lt-ltb k w (omega arith))
 
       at : Dec (k < w)
           → ((ltb k w && scratch s₃ 0 (some k)) && (partBelow w y && (live s₃ k y && holds x none k y)))
@@ -146,12 +144,12 @@ module _ (x : RuleSheet) (w n : ℕ) (r : ℕ → Bool) (some-valuation : 1 ≤ 
       at (yes h) =
           rw (lt-ltb k w h)
           (ap₂ (λ (q l : Bool). q && (partBelow w y && (l && holds x none k y))) (row h)
-          (live-same w v is s s₁ s₂ s₃ s₄ s₅ (heardFirst v r (64 * n)) First (startSet x (live s) r) a b c d e k y hk hy)
+          (live-same w s s₁ s₂ s₃ s₄ s₅ (heardFirst w r (64 * n)) First (startSet x (live s) r) a b c d e k y hk hy)
           ∙ order (r k) (partBelow w y) (live s k y) (holds x none k y))
       at (no h) = let z : w ≤ k = omega arith in rw (le-ltb k w z)
 
   pub rounded-first : Rounded w s s₅ (startSet x (live s) r)
-  rounded-first = steps-rounded w v is s s₁ s₂ s₃ s₄ s₅ (heardFirst v r (64 * n)) First (startSet x (live s) r) a b c d e first-low first-brings
+  rounded-first = steps-rounded w s s₁ s₂ s₃ s₄ s₅ (heardFirst w r (64 * n)) First (startSet x (live s) r) a b c d e first-low first-brings
 
 -- ---- groups: those that the mask leaves alike have the same successors
 
@@ -212,15 +210,15 @@ pub cleared-sparse : (v : ℕ) (groups s s₁ : List ℕ) → v ≤ 256 → Rows
 cleared-sparse v groups s s₁ hv a g hg e k hk =
     a .emptied g (some k) (omega arith) hk ∙ ap (λ (u : Bool). cond u false (scratch s g (some k))) (used-below v g (some k) hg)
 
-pub sparse-kept : (v w : ℕ) (groups s t : List ℕ) → v ≡ w → v ≤ 256 → RowsCleared reachedAt v s t → Sparse v groups (scratch s) → Sparse w groups (scratch t)
-sparse-kept v w groups s t is hv c f g hg e k hk = framed-beyond (c .frame) scratchAt g (some k) (omega arith) hk (omega arith) ∙ f g (omega arith) e k hk
+pub sparse-kept : (w : ℕ) (groups s t : List ℕ) → w ≤ 256 → RowsCleared reachedAt w s t → Sparse w groups (scratch s) → Sparse w groups (scratch t)
+sparse-kept w groups s t hw c f g hg e k hk = framed-beyond (c .frame) scratchAt g (some k) (omega arith) hk (omega arith) ∙ f g hg e k hk
 
 module _ (x : RuleSheet) (mask : ℕ) (blind : Blind x mask) (w n : ℕ) (r : ℕ → Bool) (hw : w ≤ 256) (hn : w ≤ 64 * n) where
   -- the storage: at first, cleared scratch, grouped, cleared reached, brought, cleared scratch
-  module _ (s s₁ s₂ s₃ s₄ s₅ : List ℕ) (v : ℕ) (is : v ≡ w) (a : RowsCleared scratchAt v s s₁) (b : Adds scratchAt s₁ s₂ (grouped (reached s₁) r mask (64 * n) v)) (c : RowsCleared reachedAt v s₂ s₃)
-      (d : Adds reachedAt s₃ s₄ (brought x (scratch s₃) w (live s₃) w)) (e : RowsCleared scratchAt v s₄ s₅) where
+  module _ (s s₁ s₂ s₃ s₄ s₅ : List ℕ) (a : RowsCleared scratchAt w s s₁) (b : Adds scratchAt s₁ s₂ (grouped (reached s₁) r mask (64 * n) w)) (c : RowsCleared reachedAt w s₂ s₃)
+      (d : Adds reachedAt s₃ s₄ (brought x (scratch s₃) w (live s₃) w)) (e : RowsCleared scratchAt w s₄ s₅) where
     abbrev G₁ : Pairs
-    G₁ = grouped (reached s₁) r mask (64 * n) v
+    G₁ = grouped (reached s₁) r mask (64 * n) w
 
     abbrev Brought : Pairs
     Brought = brought x (scratch s₃) w (live s₃) w
@@ -233,16 +231,15 @@ module _ (x : RuleSheet) (mask : ℕ) (blind : Blind x mask) (w n : ℕ) (r : �
     group-same g k hg hk =
         let hk′ : k < 256 = omega arith in
         let hm : k < 64 * n = omega arith in
-        put-is w v is s s₁ s₂ s₃ s₄ s₅ G₁ Brought Stepped a b c d e g k hg (omega arith) hk′
-        ∙ any-cong v _ (λ i. eqb g (bitAnd i mask) && (reached s i (some k) && r k))
+        put-is w s s₁ s₂ s₃ s₄ s₅ G₁ Brought Stepped a b c d e g k hg (omega arith) hk′
+        ∙ any-cong w _ (λ i. eqb g (bitAnd i mask) && (reached s i (some k) && r k))
         (λ i hi. ap₂ (λ (p q : Bool). eqb g (bitAnd i mask) && (p && (q && r k))) (lt-ltb k (64 * n) hm) (framed-before (a .frame) reachedAt i (some k) (omega arith) hk′ (omega arith)))
-        ∙ ap (λ (z : ℕ). anyBelow z (λ i. eqb g (bitAnd i mask) && (reached s i (some k) && r k))) is
 
     brought-is : (k : ℕ) (y : Option ℕ) → k < 256 → Within 256 y → Brought k y ≡ (ltb k w && (partBelow w y && Stepped k y))
     unfolding brought gains stepSet
     brought-is k y hk hy =
         out w (ltb k w) (partBelow w y) (live s₃ k y) (λ g. scratch s₃ g (some k)) (λ g. holds x (some g) k y)
-        ∙ ap (λ (l : Bool). ltb k w && (partBelow w y && (l && anyBelow w (λ g. scratch s₃ g (some k) && holds x (some g) k y)))) (live-same w v is s s₁ s₂ s₃ s₄ s₅ G₁ Brought Stepped a b c d e k y hk hy)
+        ∙ ap (λ (l : Bool). ltb k w && (partBelow w y && (l && anyBelow w (λ g. scratch s₃ g (some k) && holds x (some g) k y)))) (live-same w s s₁ s₂ s₃ s₄ s₅ G₁ Brought Stepped a b c d e k y hk hy)
         ∙ at (decLt k w)
       where
         at : Dec (k < w)
@@ -257,4 +254,4 @@ module _ (x : RuleSheet) (mask : ℕ) (blind : Blind x mask) (w n : ℕ) (r : �
 
     pub rounded-later : Rounded w s s₅ Stepped
     rounded-later =
-        steps-rounded w v is s s₁ s₂ s₃ s₄ s₅ G₁ Brought Stepped a b c d e (λ k y h. group-low (reached s₁) r mask (64 * n) v k y h) brought-is
+        steps-rounded w s s₁ s₂ s₃ s₄ s₅ G₁ Brought Stepped a b c d e (λ k y h. group-low (reached s₁) r mask (64 * n) w k y h) brought-is

@@ -25,10 +25,6 @@ use Rattle.pairs.specs.Changes.{rowBit}
 use Rattle.lanes.specs.Coded.{sheetOf}
 use Rattle.unions.specs.Rows.{Row, United}
 
--- the number of valuations, as the code has it
-pub two-to : (k : ℕ) → k ≤ 8 → (1 * 2 ^ k % 2 ^ 64 ≡ 2 ^ k) × (1 ≤ 2 ^ k) × (2 ^ k ≤ 256)
-two-to k h = (one-shl k (omega arith), pow-pos k, pow-mono h)
-
 -- ---- allowed valuations, by the bits that the code looks at
 
 module _ (m n : ℕ) (code len : List ℕ) where
@@ -58,13 +54,12 @@ module _ (m n : ℕ) (code len : List ℕ) where
   -- some valuation is allowed
   pub some-allowed : (x : Assumed) → Below x n → m + n ≤ 8 → (a : ℕ) × (a < 256) × (allowed (sheetOf m n code len (requiredOf x)) a ≡ true)
   some-allowed Nothing h l =
-      let p = two-to (m + n) l in
-      (0, omega arith, sym (allowed-free 0) ∙ lt-ltb 0 (2 ^ (m + n)) (p .1))
+      (0, omega arith, sym (allowed-free 0) ∙ lt-ltb 0 (2 ^ (m + n)) (pow-pos (m + n)))
   some-allowed (Output k) h l =
-      let p = two-to (m + n) l in
+      let most : 2 ^ (m + n) ≤ 256 = pow-mono l in
       let g : 2 ^ (m + k .0) < 2 ^ (m + n) = pow-lt (omega arith) in (
         2 ^ (m + k .0),
-        omega (arith, p .2),
+        omega (arith, most),
         sym (allowed-output k (2 ^ (m + k .0)))
             ∙ ap₂ _&&_ (lt-ltb (2 ^ (m + k .0)) (2 ^ (m + n)) g)
             (ap (bit (m + k .0)) (sym (one-shl (m + k .0) (omega arith))) ∙ bit-shl (m + k .0) (m + k .0) (omega arith) ∙ eq-eqb (m + k .0) (m + k .0) refl),

@@ -1,5 +1,5 @@
 -- `rounds::bring_pairs` meets its contract.
-use Prim.Native.Nat.{_+_, _/_, _^_, _<_, _≤_}
+use Prim.Native.Nat.{_<_, _≤_}
 use native.Mathlib.Omega.{arith}
 use borrow.Author.Needs.{needs}
 use Rattle.lanes.proofs.RowLaws.{room-two, room-four}

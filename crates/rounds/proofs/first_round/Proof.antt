@@ -1,5 +1,5 @@
 -- `rounds::first_round` meets its contract.
-use mathlib.Core.Path.{refl, sym, subst}
+use mathlib.Core.Path.{sym, subst}
 use native.Mathlib.Omega.{arith}
 use borrow.Author.Needs.{needs}
 use Rattle.words.specs.declared.Size.{Size}
@@ -58,7 +58,7 @@ returns c =
     let r = after-size-of .size-of .ensures in
     λ ks.
     subst (λ (z : Size). Rounded (z .valuations) (a .s .now) (c .before .before .clear-rows3 .last .0) (startSet (sheetOf (z .inputs) (z .outputs) (a .code .now) (a .len .now) ks) (live (a .s .now)) (among (a .letters)))) (r .0)
-    (rounded-first _ _ _ _ (r .1 .some-valuation) (r .1 .wide .under) _ refl _ _ _ _ _ _ (after-clear-rows .clear-rows .ensures) (after-hear .hear .ensures) (after-clear-rows2 .clear-rows2 .ensures)
+    (rounded-first _ _ _ _ (r .1 .some-valuation) (r .1 .wide .under) _ _ _ _ _ _ (after-clear-rows .clear-rows .ensures) (after-hear .hear .ensures) (after-clear-rows2 .clear-rows2 .ensures)
     (after-bring-first .bring-first .ensures ks) (c .before .before .clear-rows3 .ensures))
 
 pub first-round-spec : {M : Type 1} → statement M

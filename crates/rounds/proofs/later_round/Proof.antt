@@ -1,5 +1,5 @@
 -- `rounds::later_round` meets its contract: the steps are those of a round on groups.
-use mathlib.Core.Path.{refl, sym, subst}
+use mathlib.Core.Path.{sym, subst}
 use mathlib.Core.List.{[]}
 use native.Mathlib.Omega.{arith}
 use borrow.Author.Needs.{needs}
@@ -45,7 +45,7 @@ bring-pairs-requires c κs =
     let r = sized .size-of .ensures in
     let most = r .1 .most-valuations in (
       subst (λ (z : Size). Coded (z .inputs) (z .outputs) (start .args .code .now) (start .args .len .now)) (sym (r .0)) (start .pre .0),
-      (r .1, search needs, omega (arith, cleared .clear-rows2 .ensures .frame .same-length, grouped .group-rows .ensures .0 .frame .same-length, begun .clear-rows .ensures .frame .same-length, start .pre .1), sparse-kept _ _ _ _ _ refl most (cleared .clear-rows2 .ensures) (grouped .group-rows .ensures .1 (cleared-sparse _ _ _ _ most (begun .clear-rows .ensures)))),
+      (r .1, search needs, omega (arith, cleared .clear-rows2 .ensures .frame .same-length, grouped .group-rows .ensures .0 .frame .same-length, begun .clear-rows .ensures .frame .same-length, start .pre .1), sparse-kept _ _ _ _ most (cleared .clear-rows2 .ensures) (grouped .group-rows .ensures .1 (cleared-sparse _ _ _ _ most (begun .clear-rows .ensures)))),
     )
 
 slice-aggregate-clear-groups : tie.Need-slice-aggregate-clear-groups
@@ -65,7 +65,7 @@ clear-groups-requires c κs =
       r,
       search needs,
       omega (arith, brought .bring-pairs .ensures [] .frame .same-length, cleared .clear-rows2 .ensures .frame .same-length, grouped .group-rows .ensures .0 .frame .same-length, begun .clear-rows .ensures .frame .same-length, start .pre .1),
-      sparse-brought _ _ _ _ _ most (brought .bring-pairs .ensures []) (sparse-kept _ _ _ _ _ refl most (cleared .clear-rows2 .ensures) sparse),
+      sparse-brought _ _ _ _ _ most (brought .bring-pairs .ensures []) (sparse-kept _ _ _ _ most (cleared .clear-rows2 .ensures) sparse),
       no-ends _ _ _ _ _ _ _ _ _ _ _ (begun .clear-rows .ensures) (grouped .group-rows .ensures .0) (cleared .clear-rows2 .ensures) (brought .bring-pairs .ensures []),
     )
 
@@ -84,7 +84,7 @@ returns c = λ ks.
     let r = sized .size-of .ensures in
     let blind = subst (λ (z : Size). Blind (sheetOf (z .inputs) (z .outputs) (a .code .now) (a .len .now) ks) (begun .before .before .earlier-mask .result)) (sym (r .0)) (begun .before .before .earlier-mask .ensures ks) in
     subst (λ (z : Size). Rounded (z .valuations) (a .s .now) (emptied .clear-groups .last .0) (stepSet (sheetOf (z .inputs) (z .outputs) (a .code .now) (a .len .now) ks) (z .valuations) (live (a .s .now)) (reached (a .s .now)) (among (a .letters)))) (r .0)
-    (rounded-later _ _ blind _ _ _ (r .1 .most-valuations) (r .1 .wide .under) _ _ _ _ _ _ _ refl
+    (rounded-later _ _ blind _ _ _ (r .1 .most-valuations) (r .1 .wide .under) _ _ _ _ _ _
     (begun .clear-rows .ensures) (grouped .group-rows .ensures .0) (cleared .clear-rows2 .ensures) (brought .bring-pairs .ensures ks) (emptied .clear-groups .ensures))
 
 pub later-round-spec : {M : Type 1} → statement M

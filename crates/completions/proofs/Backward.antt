@@ -201,8 +201,8 @@ module _ (s : RuleSheet) (d : ℕ) (settled : Settled s (2 ^ streams s) d) where
       (λ a b ha hb t. live a b ha hb .1 (within-found s p d a b t .0))
       ∙ pairs-wider p q (liveWithin s p d) (λ a b t. live-within s p fits a b (within-found s p d a b t .0))
 
--- for sheets of at most 8 streams: at most 65,792 live pairs
-pub bound-256 : (S : Pairs) → countPairs 256 S ≤ 65792
+-- for sheets of at most 8 streams
+pub bound-256 : (S : Pairs) → countPairs 256 S ≤ 256 * 257
 bound-256 S = pairs-bound 256 S
 
 pub small-256 : (s : RuleSheet) → streams s ≤ 8 → 2 ^ streams s ≤ 256

@@ -1,6 +1,6 @@
 // Expressions and equations on rows of two words and of four. The number of words is a constant, so each function stands twice.
 ghost use mathlib.Core.Path.{_≡_};
-ghost use Prim.Native.Nat.{_+_, _*_, _≤_};
+ghost use Prim.Native.Nat.{_+_, _*_, _<_, _≤_};
 ghost use lib.ListN.{length};
 ghost use Rattle.lanes.specs.Around.{Stepped};
 ghost use Rattle.lanes.specs.Coded.{Coded, Values, Agree};
@@ -13,7 +13,6 @@ use super::row::not_row;
 use super::row::or_row;
 use super::row::read_row;
 use super::row::store_row;
-use words::Size;
 
 // One expression byte on a stack of rows of two words: the top is in `top`, what lies below it, `used` rows, in st. Returns how many then do.
 fn two_step(st: &mut [u64], top: &mut [u64], used: usize, env: u64, f: u8, e: u8) -> usize
@@ -101,23 +100,22 @@ fn four_value(st: &mut [u64], top: &mut [u64], env: u64, f: u8, expr: &[u8])
     }
 }
 
-// The lanes of two words in which the outputs, as streams of b, have the values of their expressions, left in acc.
+// The lanes of two words in which the n outputs, streams m on of b, have the values of their expressions, left in acc.
 pub fn two_equations(
     acc: &mut [u64],
     st: &mut [u64],
-    code: &[u8],
-    len: &[usize],
-    size: Size,
     env: u64,
     f: u8,
+    code: &[u8],
+    len: &[usize],
+    m: usize,
+    n: usize,
     b: usize,
 )
-    requires { ⌜ Coded (size .inputs) (size .outputs) (now code) (now len) ⌝ }
+    requires { ⌜ Coded m n (now code) (now len) ⌝ }
     requires { ⌜ (length (now acc) ≡ 4) × (128 ≤ length (now st)) ⌝ }
-    ensures { λ r. ⌜ Agree 2 env f (size .inputs) (size .outputs) (now (code .entry)) (now (len .entry)) b (now (acc .exit)) (size .outputs) ⌝ }
+    ensures { λ r. ⌜ Agree 2 env f m n (now (code .entry)) (now (len .entry)) b (now (acc .exit)) n ⌝ }
 {
-    let m = size.inputs;
-    let n = size.outputs;
     let mut x = [0u64; 4];
     fill_row(acc, 2, 0xffff_ffff_ffff_ffff);
     let mut k: usize = 0;
@@ -137,19 +135,18 @@ pub fn two_equations(
 pub fn four_equations(
     acc: &mut [u64],
     st: &mut [u64],
-    code: &[u8],
-    len: &[usize],
-    size: Size,
     env: u64,
     f: u8,
+    code: &[u8],
+    len: &[usize],
+    m: usize,
+    n: usize,
     b: usize,
 )
-    requires { ⌜ Coded (size .inputs) (size .outputs) (now code) (now len) ⌝ }
+    requires { ⌜ Coded m n (now code) (now len) ⌝ }
     requires { ⌜ (length (now acc) ≡ 4) × (256 ≤ length (now st)) ⌝ }
-    ensures { λ r. ⌜ Agree 4 env f (size .inputs) (size .outputs) (now (code .entry)) (now (len .entry)) b (now (acc .exit)) (size .outputs) ⌝ }
+    ensures { λ r. ⌜ Agree 4 env f m n (now (code .entry)) (now (len .entry)) b (now (acc .exit)) n ⌝ }
 {
-    let m = size.inputs;
-    let n = size.outputs;
     let mut x = [0u64; 4];
     fill_row(acc, 4, 0xffff_ffff_ffff_ffff);
     let mut k: usize = 0;

@@ -39,26 +39,29 @@ pub fn output_stream(m: usize, k: usize) -> usize
     q.0 as usize
 }
 
-// The lanes of a row in which the outputs, as streams of b, have the values of their expressions, left in acc.
+// The lanes of w words in which the n outputs, streams m on of b, have the values of their expressions, left in acc. It takes numbers and no
+// Size: a struct goes by reference, and with one this function, where most of the time goes, was a tenth slower on rows of four words.
 fn equations_row(
     acc: &mut [u64],
     st: &mut [u64],
-    code: &[u8],
-    len: &[usize],
-    size: Size,
+    w: usize,
     env: u64,
     f: u8,
+    code: &[u8],
+    len: &[usize],
+    m: usize,
+    n: usize,
     b: usize,
 )
-    requires { ⌜ Coded (size .inputs) (size .outputs) (now code) (now len) ⌝ }
-    requires { ⌜ (size .words ≤ 4) × (length (now acc) ≡ 4) × (room (size .words) ≤ length (now st)) ⌝ }
-    ensures { λ r. ⌜ Agree (size .words) env f (size .inputs) (size .outputs) (now (code .entry)) (now (len .entry)) b (now (acc .exit)) (size .outputs) ⌝ }
+    requires { ⌜ Coded m n (now code) (now len) ⌝ }
+    requires { ⌜ (w ≤ 4) × (length (now acc) ≡ 4) × (room w ≤ length (now st)) ⌝ }
+    ensures { λ r. ⌜ Agree w env f m n (now (code .entry)) (now (len .entry)) b (now (acc .exit)) n ⌝ }
 {
-    if size.words <= 2 {
-        two_equations(acc, st, code, len, size, env, f, b);
+    if w <= 2 {
+        two_equations(acc, st, env, f, code, len, m, n, b);
         return;
     }
-    four_equations(acc, st, code, len, size, env, f, b);
+    four_equations(acc, st, env, f, code, len, m, n, b);
 }
 
 // ---- The reads of a round
@@ -115,7 +118,18 @@ pub fn successors(
     requires { ⌜ (size .words ≤ 4) × (length (now row) ≡ 4) × (room (size .words) ≤ length (now st)) ⌝ }
     ensures { λ r. ⌜ ((p : Option ℕ) → Seen env p b → (ks : List ℕ) (j i : ℕ) → j < size .words → i < 64 → bit i (getD (now (row .exit)) j 0) ≡ holds (sheetOf (size .inputs) (size .outputs) (now (code .entry)) (now (len .entry)) ks) p b (some (64 * j + i))) ⌝ }
 {
-    equations_row(row, st, code, len, size, env, LATER, b);
+    equations_row(
+        row,
+        st,
+        size.words,
+        env,
+        LATER,
+        code,
+        len,
+        size.inputs,
+        size.outputs,
+        b,
+    );
 }
 
 // The lanes i of the words j of a row in which the equations hold at 64 * j + i with nothing after it, after the round whose reads are `before`.
@@ -124,7 +138,18 @@ pub fn enders(row: &mut [u64], st: &mut [u64], code: &[u8], len: &[usize], size:
     requires { ⌜ (size .words ≤ 4) × (length (now row) ≡ 4) × (room (size .words) ≤ length (now st)) × (before < 4294967296) ⌝ }
     ensures { λ r. ⌜ ((p : Option ℕ) → Before before p → (ks : List ℕ) (j i : ℕ) → j < size .words → i < 64 → bit i (getD (now (row .exit)) j 0) ≡ holds (sheetOf (size .inputs) (size .outputs) (now (code .entry)) (now (len .entry)) ks) p (64 * j + i) none) ⌝ }
 {
-    equations_row(row, st, code, len, size, before + 0xff00_0000_0000, NOW, 0);
+    equations_row(
+        row,
+        st,
+        size.words,
+        before + 0xff00_0000_0000,
+        NOW,
+        code,
+        len,
+        size.inputs,
+        size.outputs,
+        0,
+    );
 }
 
 // The lanes i of the words j of a row in which the equations hold at b after 64 * j + i.
@@ -141,7 +166,18 @@ pub fn predecessors(
     requires { ⌜ (size .words ≤ 4) × (length (now row) ≡ 4) × (room (size .words) ≤ length (now st)) ⌝ }
     ensures { λ r. ⌜ ((c : Option ℕ) → Ahead env b c → (ks : List ℕ) (j i : ℕ) → j < size .words → i < 64 → bit i (getD (now (row .exit)) j 0) ≡ holds (sheetOf (size .inputs) (size .outputs) (now (code .entry)) (now (len .entry)) ks) (some (64 * j + i)) b c) ⌝ }
 {
-    equations_row(row, st, code, len, size, env, EARLIER, b);
+    equations_row(
+        row,
+        st,
+        size.words,
+        env,
+        EARLIER,
+        code,
+        len,
+        size.inputs,
+        size.outputs,
+        b,
+    );
 }
 
 // ---- What the equations see of the round before

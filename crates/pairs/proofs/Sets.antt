@@ -16,7 +16,7 @@ use Rattle.words.proofs.BitLaws.{bit-and, bit-or, bit-not, bit-shl, bit-none, b
 use Rattle.completions.specs.Live.{Pairs}
 use Rattle.completions.specs.Steps.{Within}
 use Rattle.pairs.specs.Storage.{stored, used, place, slot, setWords}
-use Rattle.pairs.specs.Changes.{eqNext, inWord, Framed, Adds, rowBit, Zeroed, RowTaken, Noted}
+use Rattle.pairs.specs.Changes.{eqNext, inWord, Framed, Adds, rowBit, NextBit, NextMember, Zeroed, RowTaken, Noted}
 use Rattle.pairs.proofs.Frames.{framed-none, framed-then, framed-wider, framed-set}
 
 pub place-lt : (x : ℕ) (y : Option ℕ) → x < 256 → Within 256 y → place x y < setWords
@@ -111,6 +111,14 @@ adds-then base s t u P Q R p q f = record {
 pub row-bit : (s : List ℕ) (base a x : ℕ) → rowBit s (base + 4 * a) x ≡ stored s base a (some x)
 unfolding rowBit stored place slot
 row-bit s base a x = let e : base + 4 * a + x / 64 ≡ base + (4 * a + x / 64) = omega arith in ap (λ (k : ℕ). bit (x % 64) (getD s k 0)) e
+
+pub row-member : (s : List ℕ) (base a w from r : ℕ) → NextBit s (base + 4 * a) w from r → NextMember (stored s base) a w from r
+row-member s base a w from r n = record {
+  onward = n .onward;
+  inside = n .inside;
+  skipped = λ x h l. sym (row-bit s base a x) ∙ n .skipped x h l;
+  found = λ h. sym (row-bit s base a r) ∙ n .found h;
+}
 
 -- ---- sets beside the one that is changed
 

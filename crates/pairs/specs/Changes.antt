@@ -23,6 +23,14 @@ unfoldable pub inWord : ℕ → ℕ → Option ℕ → Bool
 inWord j x none = false
 inWord j x (some c) = eqb (c / 64) j && bit (c % 64) x
 
+-- x is word j of row a of the set
+abbrev pub RowWord : Pairs → ℕ → ℕ → ℕ → Type 0
+RowWord S a j x = (i : ℕ) → i < 64 → bit i x ≡ S a (some (64 * j + i))
+
+-- x is word j of the set's ends
+abbrev pub EndsWord : Pairs → ℕ → ℕ → Type 0
+EndsWord S j x = (i : ℕ) → i < 64 → bit i x ≡ S (64 * j + i) none
+
 -- no word outside the n words from `at` on is changed
 pub record Framed (at n : ℕ) (s t : List ℕ) : Type 0 where
   pub same-length : length t ≡ length s
@@ -56,6 +64,13 @@ pub record NextBit (s : List ℕ) (at w from r : ℕ) : Type 0 where
   pub inside : r ≤ 64 * w
   pub skipped : (x : ℕ) → from ≤ x → x < r → rowBit s at x ≡ false
   pub found : r < 64 * w → rowBit s at r ≡ true
+
+-- r is the first valuation from `from` on in the first w words of row a of the set, or 64 w if there is none
+pub record NextMember (S : Pairs) (a w from r : ℕ) : Type 0 where
+  pub onward : from ≤ r
+  pub inside : r ≤ 64 * w
+  pub skipped : (x : ℕ) → from ≤ x → x < r → S a (some x) ≡ false
+  pub found : r < 64 * w → S a (some r) ≡ true
 
 -- n words from `at` on are 0, and no others are changed
 pub record Zeroed (at n : ℕ) (s t : List ℕ) : Type 0 where

@@ -7,7 +7,7 @@ ghost use lib.ListN.{length};
 ghost use Prim.Native.Nat.{_+_, _*_, _<_, _≤_};
 ghost use Rattle.completions.specs.Live.{countPairs};
 ghost use Rattle.pairs.specs.Storage.{stored, live, setWords, scratchAt, storageWords, maxPairs};
-ghost use Rattle.pairs.specs.Changes.{eqNext, inWord, Adds, NextWord, NextBit, Zeroed, RowsCleared, RowTaken, Noted};
+ghost use Rattle.pairs.specs.Changes.{eqNext, inWord, RowWord, EndsWord, Adds, NextWord, NextBit, NextMember, Zeroed, RowsCleared, RowTaken, Noted};
 
 // The words of one set.
 pub const SET_WORDS: usize = 1028;
@@ -35,6 +35,22 @@ pub fn has_end(s: &[u64], base: usize, a: usize) -> bool
     ensures { λ r. ⌜ r ≡ stored (now (s .entry)) base a none ⌝ }
 {
     (s[base + (1024 + a / 64)] >> (a % 64)) % 2 == 1
+}
+
+// Word j of row a of the set at base: its lane i is the pair (a, 64 j + i).
+pub fn row_word(s: &[u64], base: usize, a: usize, j: usize) -> u64
+    requires { ⌜ (a < 256) × (j < 4) × (base ≤ scratchAt) × (storageWords ≤ length (now s)) ⌝ }
+    ensures { λ r. ⌜ RowWord (stored (now (s .entry)) base) a j r ⌝ }
+{
+    s[base + (4 * a + j)]
+}
+
+// Word j of the ends of the set at base: its lane i is the pair (64 j + i, end).
+pub fn ends_word(s: &[u64], base: usize, j: usize) -> u64
+    requires { ⌜ (j < 4) × (base ≤ scratchAt) × (storageWords ≤ length (now s)) ⌝ }
+    ensures { λ r. ⌜ EndsWord (stored (now (s .entry)) base) j r ⌝ }
+{
+    s[base + (1024 + j)]
 }
 
 // Puts (a, b) into the set at base.
@@ -114,6 +130,14 @@ pub fn next_bit(s: &[u64], at: usize, w: usize, from: usize) -> usize
         return 64 * w;
     }
     64 * j + u64::trailing_zeros(s[at + j]) as usize
+}
+
+// The first valuation from `from` on in the first w words of row a of the set at base, or 64 w if there is none.
+pub fn next_member(s: &[u64], base: usize, a: usize, w: usize, from: usize) -> usize
+    requires { ⌜ (a < 256) × (from ≤ 64 * w) × (w ≤ 4) × (base ≤ scratchAt) × (storageWords ≤ length (now s)) ⌝ }
+    ensures { λ r. ⌜ NextMember (stored (now (s .entry)) base) a w from r ⌝ }
+{
+    next_bit(s, base + 4 * a, w, from)
 }
 
 // Writes 0 into n words from `at` on.

@@ -210,7 +210,7 @@ module _ (x : RuleSheet) (small : 2 ^ streams x ≤ 256) (w layer next : ℕ) (s
 
   module _ (s₁ row : List ℕ) (r : ℕ) (places : Apart layer next) (low : (reachedAt ≤ layer) × (layer ≤ scratchAt) × (reachedAt ≤ next) × (next ≤ scratchAt)) (fit : (k : ℕ) → getD s k 0 < 2 ^ 64)
       (st : Started w row s₁ s₀) (c : r ≡ countPairs 256 (live s)) (bd : r ≤ maxPairs) where
-    -- the two sets fill the words from 1,028 on
+    -- the two sets fill the words behind the live set
     zero-now : (i base : ℕ) → base ≤ i → i < base + setWords → ((a : ℕ) (y : Option ℕ) → a < 256 → Within 256 y → stored s base a y ≡ false) → getD s i 0 ≡ 0
     zero-now i base h l f = let e : i ≡ base + (i - base) = omega arith in ap (λ (j : ℕ). getD s j 0) e ∙ words-none s base fit f (i - base) (omega arith)
 

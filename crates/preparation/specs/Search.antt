@@ -60,7 +60,7 @@ pub record Occupied (w : ℕ) (rows s : List ℕ) (base : ℕ) : Type 0 where
 abbrev pub Apart : ℕ → ℕ → Type 0
 Apart base base′ = (base + setWords ≤ base′) ⊎ (base′ + setWords ≤ base)
 
--- the storage where the search begins: the ends of the row's valuations are live, and they are the layer at 1,028
+-- the storage where the search begins: the ends of the row's valuations are live, and they are the layer in the place of the reached set
 pub record Started (w : ℕ) (row s t : List ℕ) : Type 0 where
   pub frame : Framed liveAt storageWords s t
   pub live : (x : ℕ) (y : Option ℕ) → x < 256 → Within 256 y → live t x y ≡ enders (64 * w) row x y

@@ -8,7 +8,6 @@ use native.Mathlib.Omega.{arith}
 use native.Mathlib.Decide.{ℕ-discrete, decLt}
 use lib.Bits.{bitAnd}
 use lib.Dec.{eqb, ltb}
-use lib.ListN.{getD}
 use borrow.Author.Tests.{eq-eqb, ne-eqb, lt-ltb, le-ltb}
 use Rattle.words.specs.Bits.{bit}
 use Rattle.words.proofs.BitLaws.{bit-and, bit-not, bit-none}
@@ -16,37 +15,28 @@ use Rattle.words.proofs.BelowLaws.{words-one, below-none, below-within}
 use Rattle.sheet.specs.RuleSheet.{RuleSheet}
 use Rattle.lola.specs.Equations.{holds}
 use Rattle.completions.specs.Live.{Pairs}
-use Rattle.pairs.specs.Storage.{stored, live, reached, scratch, liveAt, reachedAt, scratchAt}
-use Rattle.pairs.specs.Changes.{eqNext, inWord, Adds}
-use Rattle.pairs.proofs.Sets.{adds-none, adds-as, framed-beyond, lane, lane-end}
+use Rattle.pairs.specs.Storage.{live, reached, scratch, reachedAt, scratchAt}
+use Rattle.pairs.specs.Changes.{eqNext, inWord, RowWord, EndsWord, Adds}
+use Rattle.pairs.proofs.Sets.{adds-none, adds-as, framed-beyond}
 use Rattle.rounds.specs.Rows.{Wide, gains, NoEndNew, inRow}
 use Rattle.rounds.proofs.Bools.{merge-both}
 use Rattle.rounds.proofs.WordLaws.{low-lane}
 use Rattle.rounds.proofs.RowLaws.{gains-none, gains-as, gains-join}
 
--- lane i of the ends' word j
-end-at : (s : List ℕ) (base j i k : ℕ) → i < 64 → k ≡ base + (1024 + j) → bit i (getD s k 0) ≡ stored s base (64 * j + i) none
-end-at s base j i k h e = ap (λ (n : ℕ). bit i (getD s n 0)) e ∙ lane-end s base j i h
-
 -- one word more of which no end is new
-pub no-end-more : (s : List ℕ) (g j : ℕ) → NoEndNew (live s) (reached s) (scratch s) (64 * j) g → getD s (reachedAt + (1024 + j)) 0 < 2 ^ 64
-    → bitAnd (bitAnd (getD s (scratchAt + (4 * g + j)) 0) (getD s (1024 + j) 0)) (18446744073709551615 - getD s (reachedAt + (1024 + j)) 0) ≡ 0
-    → NoEndNew (live s) (reached s) (scratch s) (64 * (j + 1)) g
-no-end-more s g j f fit e b h = go (decLt b (64 * j))
+pub no-end-more : (s : List ℕ) (g j x l y : ℕ) → NoEndNew (live s) (reached s) (scratch s) (64 * j) g → RowWord (scratch s) g j x → EndsWord (live s) j l → EndsWord (reached s) j y → y < 2 ^ 64
+    → bitAnd (bitAnd x l) (18446744073709551615 - y) ≡ 0 → NoEndNew (live s) (reached s) (scratch s) (64 * (j + 1)) g
+no-end-more s g j x l y f heard ends old fit e b h = go (decLt b (64 * j))
   where
-    old : ℕ
-    old = getD s (reachedAt + (1024 + j)) 0
-
     go : Dec (b < 64 * j) → ((scratch s g (some b) && live s b none) && not (reached s b none)) ≡ false
-    go (yes l) = f b l
+    go (yes d) = f b d
     go (no n) =
         let q : 64 * j + b % 64 ≡ b = omega arith in
-        let l : b % 64 < 64 = omega arith in
-        sym (bit-and (b % 64) (bitAnd (getD s (scratchAt + (4 * g + j)) 0) (getD s (1024 + j) 0)) (18446744073709551615 - old)
+        let k : b % 64 < 64 = omega arith in
+        sym (bit-and (b % 64) (bitAnd x l) (18446744073709551615 - y)
         ∙ ap₂ _&&_
-        (bit-and (b % 64) (getD s (scratchAt + (4 * g + j)) 0) (getD s (1024 + j) 0)
-        ∙ ap₂ _&&_ (lane s scratchAt g j (b % 64) l ∙ ap (λ (i : ℕ). scratch s g (some i)) q) (end-at s liveAt j (b % 64) (1024 + j) l (omega arith) ∙ ap (λ (i : ℕ). live s i none) q))
-        (bit-not 64 (b % 64) old l fit ∙ ap not (end-at s reachedAt j (b % 64) (reachedAt + (1024 + j)) l refl ∙ ap (λ (i : ℕ). reached s i none) q)))
+        (bit-and (b % 64) x l ∙ ap₂ _&&_ (heard (b % 64) k ∙ ap (λ (i : ℕ). scratch s g (some i)) q) (ends (b % 64) k ∙ ap (λ (i : ℕ). live s i none) q))
+        (bit-not 64 (b % 64) y k fit ∙ ap not (old (b % 64) k ∙ ap (λ (i : ℕ). reached s i none) q)))
         ∙ ap (bit (b % 64)) e ∙ bit-none (b % 64)
 
 -- what is there already is not new
@@ -98,33 +88,33 @@ module _ (x : RuleSheet) where
     pub ends-none : Adds reachedAt s s (Upto 0)
     ends-none = gains-none x s (λ b. ltb b (64 * 0) && In b) (λ y. eqNext y none) (live s) p (λ b c. ap (λ (u : Bool). u && eqNext c none) (below-none b (In b)))
 
-    pub ends-more : (t u : List ℕ) (j low y : ℕ) → j < w → Adds reachedAt s t (Upto j) → ((i : ℕ) → i < 64 → bit i low ≡ ltb (64 * 0 + i) v)
+    pub ends-more : (t u : List ℕ) (j l h low y : ℕ) → j < w → Adds reachedAt s t (Upto j) → EndsWord (live t) j l → RowWord (scratch t) g j h → ((i : ℕ) → i < 64 → bit i low ≡ ltb (64 * 0 + i) v)
         → ((i : ℕ) → i < 64 → bit i y ≡ holds x p (64 * j + i) none)
-        → Adds reachedAt t u (λ a c. inWord j (bitAnd (bitAnd (getD t (1024 + j) 0) (bitAnd (getD t (scratchAt + (4 * g + j)) 0) low)) y) (some a) && eqNext c none)
+        → Adds reachedAt t u (λ a c. inWord j (bitAnd (bitAnd l (bitAnd h low)) y) (some a) && eqNext c none)
         → Adds reachedAt s u (Upto (j + 1))
     unfolding gains inWord eqNext
-    ends-more t u j low y l f lows holding a =
+    ends-more t u j l h low y i f ends row lows holding a =
         gains-join x s t u (λ b. ltb b (64 * j) && In b) (λ b. eqb (b / 64) j && In b) (λ b. ltb b (64 * (j + 1)) && In b) (λ y. eqNext y none) (λ y. eqNext y none) (λ y. eqNext y none) p f word
         (λ b c hb hc. merge-both (ltb b (64 * j)) (eqb (b / 64) j) (ltb b (64 * (j + 1))) (In b) (eqNext c none) (words-one b j))
       where
         heard : ℕ
-        heard = bitAnd (getD t (scratchAt + (4 * g + j)) 0) low
+        heard = bitAnd h low
 
         z : ℕ
-        z = bitAnd (bitAnd (getD t (1024 + j) 0) heard) y
+        z = bitAnd (bitAnd l heard) y
 
         core : (b : ℕ) → b < 256 → b / 64 ≡ j → bit (b % 64) z ≡ ((live t b none && (scratch s g (some b) && ltb b v)) && holds x p b none)
         core b hb e =
             let q : 64 * j + b % 64 ≡ b = omega arith in
-            let h : b % 64 < 64 = omega arith in
-            bit-and (b % 64) (bitAnd (getD t (1024 + j) 0) heard) y
+            let k : b % 64 < 64 = omega arith in
+            bit-and (b % 64) (bitAnd l heard) y
             ∙ ap₂ _&&_
-            (bit-and (b % 64) (getD t (1024 + j) 0) heard
-            ∙ ap₂ _&&_ (end-at t liveAt j (b % 64) (1024 + j) h (omega arith) ∙ ap (λ (i : ℕ). live t i none) q)
-            (bit-and (b % 64) (getD t (scratchAt + (4 * g + j)) 0) low
-            ∙ ap₂ _&&_ (lane t scratchAt g j (b % 64) h ∙ ap (λ (i : ℕ). scratch t g (some i)) q ∙ framed-beyond (f .frame) scratchAt g (some b) hg hb (omega arith))
-            (lows (b % 64) h ∙ low-lane v w j (b % 64) wide l h ∙ ap (λ (i : ℕ). ltb i v) q)))
-            (holding (b % 64) h ∙ ap (λ (i : ℕ). holds x p i none) q)
+            (bit-and (b % 64) l heard
+            ∙ ap₂ _&&_ (ends (b % 64) k ∙ ap (λ (i : ℕ). live t i none) q)
+            (bit-and (b % 64) h low
+            ∙ ap₂ _&&_ (row (b % 64) k ∙ ap (λ (i : ℕ). scratch t g (some i)) q ∙ framed-beyond (f .frame) scratchAt g (some b) hg hb (omega arith))
+            (lows (b % 64) k ∙ low-lane v w j (b % 64) wide i k ∙ ap (λ (i : ℕ). ltb i v) q)))
+            (holding (b % 64) k ∙ ap (λ (i : ℕ). holds x p i none) q)
 
         at : (b : ℕ) → b < 256 → Dec (b / 64 ≡ j)
             → ((eqb (b / 64) j && bit (b % 64) z) && true) ≡ ((eqb (b / 64) j && In b) && (true && (live t b none && holds x p b none)))

@@ -17,9 +17,9 @@ use Rattle.lola.specs.Equations.{holds}
 use Rattle.completions.specs.Live.{Pairs}
 use Rattle.completions.specs.Steps.{Within, partBelow}
 use Rattle.pairs.specs.Storage.{live, reached, scratch, liveAt, reachedAt, scratchAt}
-use Rattle.pairs.specs.Changes.{eqNext, Adds, rowBit, NextBit, Noted}
+use Rattle.pairs.specs.Changes.{eqNext, Adds, rowBit, NextBit, NextMember, Noted}
 use Rattle.pairs.proofs.BitSearch.{any-skip}
-use Rattle.pairs.proofs.Sets.{adds-none, adds-as, adds-then, framed-before, framed-beyond, row-bit}
+use Rattle.pairs.proofs.Sets.{adds-none, adds-as, adds-then, framed-before, framed-beyond}
 use Rattle.rounds.specs.Rows.{cut, gains, inRow, brought, Sparse}
 use Rattle.rounds.proofs.Bools.{merge, merge-under, merge-both}
 
@@ -128,8 +128,8 @@ module _ (x : RuleSheet) where
     abbrev In : ℕ → Bool
     In = inRow (scratch s) w g
 
-    row-same : (t : List ℕ) (P : Pairs) → Adds reachedAt s t P → (a : ℕ) → a < 256 → rowBit t (scratchAt + 4 * g) a ≡ scratch s g (some a)
-    row-same t P f a h = row-bit t scratchAt g a ∙ framed-beyond (f .frame) scratchAt g (some a) hg h (omega arith)
+    row-same : (t : List ℕ) (P : Pairs) → Adds reachedAt s t P → (a : ℕ) → a < 256 → scratch t g (some a) ≡ scratch s g (some a)
+    row-same t P f a h = framed-beyond (f .frame) scratchAt g (some a) hg h (omega arith)
 
     wider : (t : List ℕ) (b b′ : ℕ) → b ≤ b′ → ((a : ℕ) → a < 256 → b ≤ a → a < b′ → scratch s g (some a) ≡ false) → Adds reachedAt s t (Rows b In Cells s p) → Adds reachedAt s t (Rows b′ In Cells s p)
     wider t b b′ l f a =
@@ -137,16 +137,12 @@ module _ (x : RuleSheet) where
         (λ k c hk hc. ap (λ (u : Bool). u && Cells c)
         (below-wider k b b′ (In k) l (λ h i. ap (λ (u : Bool). ltb k w && u) (f k hk h i) ∙ and-false (ltb k w))))
 
-    pub bring-first : (n b : ℕ) → w ≤ 64 * n → NextBit s (scratchAt + 4 * g) n 0 b → Bringing s s w g p b
+    pub bring-first : (n b : ℕ) → w ≤ 64 * n → NextMember (scratch s) g n 0 b → Bringing s s w g p b
     bring-first n b hn z =
-        let same : (a : ℕ) → a < 256 → rowBit s (scratchAt + 4 * g) a ≡ scratch s g (some a) = λ a h. row-bit s scratchAt g a in
-        record {
-          sofar = wider s 0 b (omega arith) (λ a h l i. sym (same a h) ∙ z .skipped a l i) (rows-none s Cells In p);
-          next = λ h. sym (same b (omega arith)) ∙ z .found (omega arith);
-        }
+        record { sofar = wider s 0 b (omega arith) (λ a h l i. z .skipped a l i) (rows-none s Cells In p); next = λ h. z .found (omega arith) }
 
     pub bring-more : (t u : List ℕ) (n b b′ : ℕ) → w ≤ 64 * n → b < w → Bringing s t w g p b → Adds reachedAt t u (gains x (λ a. eqb a b) (cut (λ c. ltb c w)) (live t) p)
-        → NextBit u (scratchAt + 4 * g) n (b + 1) b′ → Bringing s u w g p b′
+        → NextMember (scratch u) g n (b + 1) b′ → Bringing s u w g p b′
     bring-more t u n b b′ hn hb f q z =
         let one : Adds reachedAt t u (One b In Cells t p) = heard t u b Cells In p (ap₂ _&&_ (lt-ltb b w hb) (f .next hb)) q in
         let all : Adds reachedAt s u (Rows (b + 1) In Cells s p) = rows-more s t u b Cells In p (f .sofar) one in

@@ -19,8 +19,8 @@ use Rattle.sheet.specs.RuleSheet.{RuleSheet}
 use Rattle.lola.specs.Equations.{holds}
 use Rattle.completions.specs.Live.{Pairs}
 use Rattle.completions.specs.Steps.{Within}
-use Rattle.pairs.specs.Storage.{stored, live, reached, scratch, liveAt, reachedAt, scratchAt}
-use Rattle.pairs.specs.Changes.{inWord, Adds}
+use Rattle.pairs.specs.Storage.{live, reached, scratch, reachedAt, scratchAt}
+use Rattle.pairs.specs.Changes.{inWord, RowWord, Adds}
 use Rattle.pairs.proofs.Sets.{adds-none, adds-as, adds-then, framed-before, lane}
 use Rattle.rounds.specs.Rows.{among, Wide, cut, gains, NoneNew, heardIn, grouped, Quiet}
 use Rattle.rounds.proofs.Bools.{turn, merge-under, nothing-new}
@@ -33,36 +33,28 @@ or-two u v = or-comm u v ∙ ap (λ (z : Bool). v || z) (sym (or-false u))
 or-four : (u v y z : Bool) → (((u || v) || y) || z) ≡ (z || (y || (v || (u || false))))
 or-four u v y z = or-comm ((u || v) || y) z ∙ ap (λ (q : Bool). z || q) (or-comm (u || v) y ∙ ap (λ (q : Bool). y || q) (or-two u v))
 
-module _ (s : List ℕ) (base a i : ℕ) (h : i < 64) where
+module _ (S : Pairs) (a i : ℕ) (h : i < 64) where
   abbrev has : ℕ → Bool
-  has j = stored s base a (some (64 * j + i))
+  has j = S a (some (64 * j + i))
 
-  lane-at : (k j : ℕ) → k ≡ base + (4 * a + j) → bit i (getD s k 0) ≡ has j
-  lane-at k j e = ap (λ (z : ℕ). bit i (getD s z 0)) e ∙ lane s base a j i h
-
-  pub row-one : (w : ℕ) → w ≡ 1 → bit i (getD s (base + 4 * a) 0) ≡ anyBelow w has
+  pub row-one : (w x₀ : ℕ) → w ≡ 1 → RowWord S a 0 x₀ → bit i x₀ ≡ anyBelow w has
   unfolding anyBelow
-  row-one w e = rw e (lane-at (base + 4 * a) liveAt (omega arith) ∙ sym (or-false (has 0)))
+  row-one w x₀ e f₀ = rw e (f₀ i h ∙ sym (or-false (has 0)))
 
-  two-words : bit i (bitOr (getD s (base + 4 * a) 0) (getD s (base + 4 * a + 1) 0)) ≡ (has 0 || has 1)
-  two-words =
-      bit-or i (getD s (base + 4 * a) 0) (getD s (base + 4 * a + 1) 0)
-      ∙ ap₂ _||_ (lane-at (base + 4 * a) liveAt (omega arith)) (lane-at (base + 4 * a + 1) 1 (omega arith))
+  two-words : (x₀ x₁ : ℕ) → RowWord S a 0 x₀ → RowWord S a 1 x₁ → bit i (bitOr x₀ x₁) ≡ (has 0 || has 1)
+  two-words x₀ x₁ f₀ f₁ = bit-or i x₀ x₁ ∙ ap₂ _||_ (f₀ i h) (f₁ i h)
 
-  pub row-two : (w : ℕ) → w ≡ 2 → bit i (bitOr (getD s (base + 4 * a) 0) (getD s (base + 4 * a + 1) 0)) ≡ anyBelow w has
+  pub row-two : (w x₀ x₁ : ℕ) → w ≡ 2 → RowWord S a 0 x₀ → RowWord S a 1 x₁ → bit i (bitOr x₀ x₁) ≡ anyBelow w has
   unfolding anyBelow
-  row-two w e = rw e (two-words ∙ or-two (has 0) (has 1))
+  row-two w x₀ x₁ e f₀ f₁ = rw e (two-words x₀ x₁ f₀ f₁ ∙ or-two (has 0) (has 1))
 
-  pub row-four : (w : ℕ) → w ≡ 4
-      → bit i (bitOr (bitOr (bitOr (getD s (base + 4 * a) 0) (getD s (base + 4 * a + 1) 0)) (getD s (base + 4 * a + 2) 0)) (getD s (base + 4 * a + 3) 0)) ≡ anyBelow w has
+  pub row-four : (w x₀ x₁ x₂ x₃ : ℕ) → w ≡ 4 → RowWord S a 0 x₀ → RowWord S a 1 x₁ → RowWord S a 2 x₂ → RowWord S a 3 x₃
+      → bit i (bitOr (bitOr (bitOr x₀ x₁) x₂) x₃) ≡ anyBelow w has
   unfolding anyBelow
-  row-four w e =
+  row-four w x₀ x₁ x₂ x₃ e f₀ f₁ f₂ f₃ =
       rw e
-      (bit-or i (bitOr (bitOr (getD s (base + 4 * a) 0) (getD s (base + 4 * a + 1) 0)) (getD s (base + 4 * a + 2) 0)) (getD s (base + 4 * a + 3) 0)
-      ∙ ap₂ _||_
-      (bit-or i (bitOr (getD s (base + 4 * a) 0) (getD s (base + 4 * a + 1) 0)) (getD s (base + 4 * a + 2) 0)
-      ∙ ap₂ _||_ two-words (lane-at (base + 4 * a + 2) 2 (omega arith)))
-      (lane-at (base + 4 * a + 3) 3 (omega arith))
+      (bit-or i (bitOr (bitOr x₀ x₁) x₂) x₃
+      ∙ ap₂ _||_ (bit-or i (bitOr x₀ x₁) x₂ ∙ ap₂ _||_ (two-words x₀ x₁ f₀ f₁) (f₂ i h)) (f₃ i h)
       ∙ or-four (has 0) (has 1) (has 2) (has 3))
 
 -- a lane was heard just where its valuations were
@@ -87,14 +79,14 @@ low-lane v w j i h l g = go (ℕ-discrete w 1)
         lt-ltb (64 * 0 + i) v (omega arith) ∙ sym (lt-ltb (64 * j + i) v (omega arith))
 
 -- a word, cut
-pub live-masked : (s : List ℕ) (b v w j mask : ℕ) → Wide v w → j < w → ((i : ℕ) → i < 64 → bit i mask ≡ ltb (64 * 0 + i) v) → LiveLanes s b j v (bitAnd (getD s (4 * b + j) 0) mask)
-live-masked s b v w j mask wide l f i h =
-    bit-and i (getD s (4 * b + j) 0) mask ∙ ap₂ _&&_ (lane-at s liveAt b i h (4 * b + j) j (omega arith)) (f i h ∙ low-lane v w j i wide l h)
+pub live-masked : (s : List ℕ) (b v w j x mask : ℕ) → Wide v w → j < w → RowWord (live s) b j x → ((i : ℕ) → i < 64 → bit i mask ≡ ltb (64 * 0 + i) v) → LiveLanes s b j v (bitAnd x mask)
+live-masked s b v w j x mask wide l lanes f i h =
+    bit-and i x mask ∙ ap₂ _&&_ (lanes i h) (f i h ∙ low-lane v w j i wide l h)
 
 -- a word among those that are full
-live-whole : (s : List ℕ) (b j w : ℕ) → j < w → LiveLanes s b j (64 * w) (getD s (4 * b + j) 0)
-live-whole s b j w l i h =
-    lane-at s liveAt b i h (4 * b + j) j (omega arith)
+live-whole : (s : List ℕ) (b j w x : ℕ) → j < w → RowWord (live s) b j x → LiveLanes s b j (64 * w) x
+live-whole s b j w x l lanes i h =
+    lanes i h
     ∙ sym (ap (λ (u : Bool). live s b (some (64 * j + i)) && u) (lt-ltb (64 * j + i) (64 * w) (omega arith)) ∙ and-true (live s b (some (64 * j + i))))
 
 module _ (s : List ℕ) (b j v word : ℕ) (lanes : LiveLanes s b j v word) where
@@ -102,15 +94,15 @@ module _ (s : List ℕ) (b j v word : ℕ) (lanes : LiveLanes s b j v word) wher
   live-lane c e = let q : 64 * j + c % 64 ≡ c = omega arith in lanes (c % 64) (omega arith) ∙ ap (λ (k : ℕ). live s b (some k) && ltb k v) q
 
   -- a word with nothing live that the reached set lacks
-  nothing-lacks : (k : ℕ) → k ≡ reachedAt + (4 * b + j) → getD s k 0 < 2 ^ 64 → bitAnd word (18446744073709551615 - getD s k 0) ≡ 0
+  nothing-lacks : (y : ℕ) → RowWord (reached s) b j y → y < 2 ^ 64 → bitAnd word (18446744073709551615 - y) ≡ 0
       → (c : ℕ) → c / 64 ≡ j → c < v → (live s b (some c) && not (reached s b (some c))) ≡ false
-  nothing-lacks k at fit e c d l =
+  nothing-lacks y there fit e c d l =
       let q : 64 * j + c % 64 ≡ c = omega arith in
       let h : c % 64 < 64 = omega arith in
       sym (ap₂ _&&_
       (live-lane c d ∙ ap (λ (u : Bool). live s b (some c) && u) (lt-ltb c v l) ∙ and-true (live s b (some c)))
-      (bit-not 64 (c % 64) (getD s k 0) h fit ∙ ap not (lane-at s reachedAt b (c % 64) h k j at ∙ ap (λ (i : ℕ). reached s b (some i)) q)))
-      ∙ sym (bit-and (c % 64) word (18446744073709551615 - getD s k 0))
+      (bit-not 64 (c % 64) y h fit ∙ ap not (there (c % 64) h ∙ ap (λ (i : ℕ). reached s b (some i)) q)))
+      ∙ sym (bit-and (c % 64) word (18446744073709551615 - y))
       ∙ ap (bit (c % 64)) e ∙ bit-none (c % 64)
 
   module _ (x : RuleSheet) (p : Option ℕ) where
@@ -143,13 +135,13 @@ module _ (s : List ℕ) (b j v word : ℕ) (lanes : LiveLanes s b j v word) wher
         go k (some c) = at k c (ℕ-discrete k b) (ℕ-discrete (c / 64) j)
 
 -- one word more
-pub none-new-more : (s : List ℕ) (b j w : ℕ) → j < w → NoneNew (live s) (reached s) (64 * j) b → getD s (reachedAt + (4 * b + j)) 0 < 2 ^ 64
-    → bitAnd (getD s (4 * b + j) 0) (18446744073709551615 - getD s (reachedAt + (4 * b + j)) 0) ≡ 0 → NoneNew (live s) (reached s) (64 * (j + 1)) b
-none-new-more s b j w l f fit e c h = go (decLt c (64 * j))
+pub none-new-more : (s : List ℕ) (b j w x y : ℕ) → j < w → NoneNew (live s) (reached s) (64 * j) b → RowWord (live s) b j x → RowWord (reached s) b j y → y < 2 ^ 64
+    → bitAnd x (18446744073709551615 - y) ≡ 0 → NoneNew (live s) (reached s) (64 * (j + 1)) b
+none-new-more s b j w x y l f lanes there fit e c h = go (decLt c (64 * j))
   where
     go : Dec (c < 64 * j) → (live s b (some c) && not (reached s b (some c))) ≡ false
     go (yes d) = f c d
-    go (no d) = nothing-lacks s b j (64 * w) (getD s (4 * b + j) 0) (live-whole s b j w l) (reachedAt + (4 * b + j)) refl fit e c (omega arith) (omega arith)
+    go (no d) = nothing-lacks s b j (64 * w) x (live-whole s b j w x l lanes) y there fit e c (omega arith) (omega arith)
 
 -- a row with nothing live below v that the reached set lacks
 pub row-full : (x : RuleSheet) (s : List ℕ) (b v : ℕ) (p : Option ℕ) → NoneNew (live s) (reached s) v b
@@ -210,22 +202,22 @@ module _ (s : List ℕ) (letters a g : ℕ) (ha : a < 256) where
   pub joined-none : Adds scratchAt s s (Joined s letters a g (64 * 0))
   joined-none = joined-unheard (64 * 0) (λ c h. absurd (omega arith))
 
-  pub joined-more : (t u : List ℕ) (j : ℕ) → j < 4 → Adds scratchAt s t (Joined s letters a g (64 * j))
-      → Adds scratchAt t u (λ k c. eqb k g && inWord j (bitAnd (getD t (reachedAt + (4 * a + j)) 0) letters) c) → Adds scratchAt s u (Joined s letters a g (64 * (j + 1)))
+  pub joined-more : (t u : List ℕ) (j y : ℕ) → j < 4 → RowWord (reached t) a j y → Adds scratchAt s t (Joined s letters a g (64 * j))
+      → Adds scratchAt t u (λ k c. eqb k g && inWord j (bitAnd y letters) c) → Adds scratchAt s u (Joined s letters a g (64 * (j + 1)))
   unfolding inWord
-  joined-more t u j hj f q =
+  joined-more t u j y hj lanes f q =
       adds-then scratchAt s t u (Joined s letters a g (64 * j)) (λ k c. eqb k g && inWord j x c) (Joined s letters a g (64 * (j + 1))) f q (λ k c hk hc. go k c hc)
     where
       x : ℕ
-      x = bitAnd (getD t (reachedAt + (4 * a + j)) 0) letters
+      x = bitAnd y letters
 
       word : (c : ℕ) → c < 256 → Dec (c / 64 ≡ j) → (eqb (c / 64) j && bit (c % 64) x) ≡ (eqb (c / 64) j && (reached s a (some c) && among letters c))
       word c hc (yes e) =
           let w : 64 * j + c % 64 ≡ c = omega arith in
           let l : c % 64 < 64 = omega arith in
           ap (λ (b : Bool). eqb (c / 64) j && b)
-          (bit-and (c % 64) (getD t (reachedAt + (4 * a + j)) 0) letters
-          ∙ ap₂ _&&_ (lane t reachedAt a j (c % 64) l ∙ ap (λ (i : ℕ). reached t a (some i)) w ∙ framed-before (f .frame) reachedAt a (some c) ha hc (omega arith))
+          (bit-and (c % 64) y letters
+          ∙ ap₂ _&&_ (lanes (c % 64) l ∙ ap (λ (i : ℕ). reached t a (some i)) w ∙ framed-before (f .frame) reachedAt a (some c) ha hc (omega arith))
           (heard-lane letters j (c % 64) l ∙ ap (among letters) w))
       word c hc (no e) = rw (ne-eqb (c / 64) j e)
 

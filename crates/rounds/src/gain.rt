@@ -21,7 +21,7 @@ fn is_new(s: &[u64], w: usize, b: usize) -> bool
 {
     let mut j: usize = 0;
     while j < w {
-        if s[4 * b + j] & !s[pairs::REACHED + (4 * b + j)] != 0 {
+        if pairs::row_word(s, pairs::LIVE, b, j) & !pairs::row_word(s, pairs::REACHED, b, j) != 0 {
             return true;
         }
         j += 1;
@@ -53,7 +53,7 @@ pub fn gain_row(
     lanes::successors(&mut x, st, code, len, size, env, b);
     let mut j: usize = 0;
     while j < w {
-        let live = s[4 * b + j] & low;
+        let live = pairs::row_word(s, pairs::LIVE, b, j) & low;
         pairs::insert_word(s, pairs::REACHED, b, j, live & x[j]);
         j += 1;
     }
@@ -66,7 +66,9 @@ fn is_end_new(s: &[u64], w: usize, g: usize) -> bool
 {
     let mut j: usize = 0;
     while j < w {
-        if s[pairs::SCRATCH + (4 * g + j)] & s[1024 + j] & !s[pairs::REACHED + (1024 + j)] != 0 {
+        let heard = pairs::row_word(s, pairs::SCRATCH, g, j);
+        let live = pairs::ends_word(s, pairs::LIVE, j);
+        if heard & live & !pairs::ends_word(s, pairs::REACHED, j) != 0 {
             return true;
         }
         j += 1;
@@ -98,8 +100,8 @@ pub fn gain_ends(
     lanes::enders(&mut x, st, code, len, size, before);
     let mut j: usize = 0;
     while j < w {
-        let live = s[1024 + j];
-        let heard = s[pairs::SCRATCH + (4 * g + j)] & low;
+        let live = pairs::ends_word(s, pairs::LIVE, j);
+        let heard = pairs::row_word(s, pairs::SCRATCH, g, j) & low;
         pairs::insert_ends(s, pairs::REACHED, j, live & heard & x[j]);
         j += 1;
     }

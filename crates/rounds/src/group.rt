@@ -18,7 +18,7 @@ fn join_row(s: &mut [u64], w: usize, letters: u64, a: usize, g: usize)
 {
     let mut j: usize = 0;
     while j < w {
-        let x = s[pairs::REACHED + (4 * a + j)];
+        let x = pairs::row_word(s, pairs::REACHED, a, j);
         pairs::insert_word(s, pairs::SCRATCH, g, j, x & letters);
         j += 1;
     }

@@ -1,4 +1,4 @@
-// One round on the storage: the live set at word 0, the reached set at 1,028, the scratch set at 2,056.
+// One round on the storage: its live set, its reached set and its scratch set.
 ghost use mathlib.Core.Path.{_≡_};
 ghost use mathlib.Core.List.{List};
 ghost use mathlib.Core.Option.{Option, none, some};
@@ -48,15 +48,15 @@ pub fn row_lanes(s: &[u64], base: usize, w: usize, a: usize) -> u64
     requires { ⌜ (1 ≤ w) × (w ≤ 4) × (w ≡ 3 → ⊥) × (a < 256) × (base ≤ scratchAt) × (storageWords ≤ length (now s)) ⌝ }
     ensures { λ r. ⌜ ((i : ℕ) → i < 64 → bit i r ≡ anyBelow w (λ j. stored (now (s .entry)) base a (some (64 * j + i)))) ⌝ }
 {
-    let at = base + 4 * a;
+    let first = pairs::row_word(s, base, a, 0);
     if w == 1 {
-        return s[at];
+        return first;
     }
-    let two = s[at] | s[at + 1];
+    let two = first | pairs::row_word(s, base, a, 1);
     if w == 2 {
         return two;
     }
-    two | s[at + 2] | s[at + 3]
+    two | pairs::row_word(s, base, a, 2) | pairs::row_word(s, base, a, 3)
 }
 
 // ---- The pairs that one round brings
@@ -77,12 +77,11 @@ fn bring_row(
 {
     let v = size.valuations;
     let w = size.words;
-    let at = pairs::SCRATCH + 4 * g;
-    let mut b = pairs::next_bit(s, at, w, 0);
+    let mut b = pairs::next_member(s, pairs::SCRATCH, g, w, 0);
     while b < v {
         let env = lanes::seen(before, b);
         gain_row(s, st, code, len, size, env, b);
-        b = pairs::next_bit(s, at, w, b + 1);
+        b = pairs::next_member(s, pairs::SCRATCH, g, w, b + 1);
     }
     gain_ends(s, st, code, len, size, before, g);
 }

@@ -16,9 +16,8 @@ use Rattle.lola.specs.Equations.{holds}
 use Rattle.completions.specs.Live.{allowed}
 use Rattle.completions.specs.Steps.{anyNext}
 use Rattle.pairs.specs.Storage.{stored}
-use Rattle.pairs.specs.Changes.{rowBit, NextBit}
+use Rattle.pairs.specs.Changes.{rowBit, NextMember}
 use Rattle.pairs.proofs.BitSearch.{any-skip}
-use Rattle.pairs.proofs.Sets.{row-bit}
 use Rattle.unions.specs.Rows.{meets, Row, United}
 
 -- ---- unions
@@ -60,20 +59,20 @@ module _ (x : RuleSheet) (w : ℕ) (ok s : List ℕ) (layer b : ℕ) where
     pub sofar : United w old new (λ a. rowBit ok 0 a && anyBelow c (λ c. stored s layer b (some c) && holds x (some a) b (some c)))
     pub next : c < 64 * w → stored s layer b (some c) ≡ true
 
-  gone : (from c : ℕ) → NextBit s (layer + 4 * b) w from c → (a : ℕ) → (y : ℕ) → from ≤ y → y < c → F a y ≡ false
-  gone from c n a y l h = ap (λ (u : Bool). u && holds x (some a) b (some y)) (sym (row-bit s layer b y) ∙ n .skipped y l h)
+  gone : (from c : ℕ) → NextMember (stored s layer) b w from c → (a : ℕ) → (y : ℕ) → from ≤ y → y < c → F a y ≡ false
+  gone from c n a y l h = ap (λ (u : Bool). u && holds x (some a) b (some y)) (n .skipped y l h)
 
-  pub uniting-first : (old : List ℕ) (c : ℕ) → NextBit s (layer + 4 * b) w 0 c → Uniting old old c
+  pub uniting-first : (old : List ℕ) (c : ℕ) → NextMember (stored s layer) b w 0 c → Uniting old old c
   unfolding anyBelow
   uniting-first old c n = record {
     sofar =
         united-none w old (λ a. rowBit ok 0 a && anyBelow c (F a))
         (λ a l. ap (λ (u : Bool). rowBit ok 0 a && u) (sym (any-skip 0 c (F a) (omega arith) (gone 0 c n a))) ∙ and-false (rowBit ok 0 a));
-    next = λ h. sym (row-bit s layer b c) ∙ n .found h;
+    next = n .found;
   }
 
   pub uniting-more : (old new new′ : List ℕ) (c c′ : ℕ) → c < 64 * w → Uniting old new c → United w new new′ (λ a. rowBit ok 0 a && holds x (some a) b (some c))
-      → NextBit s (layer + 4 * b) w (c + 1) c′ → Uniting old new′ c′
+      → NextMember (stored s layer) b w (c + 1) c′ → Uniting old new′ c′
   uniting-more old new new′ c c′ hc p q n = record {
     sofar =
         united-then w old new new′ (λ a. rowBit ok 0 a && anyBelow c (F a)) (λ a. rowBit ok 0 a && holds x (some a) b (some c)) (λ a. rowBit ok 0 a && anyBelow c′ (F a)) (p .sofar) q
@@ -81,7 +80,7 @@ module _ (x : RuleSheet) (w : ℕ) (ok s : List ℕ) (layer b : ℕ) where
         ∙ ap (λ (u : Bool). rowBit ok 0 a && u)
         (ap (λ (u : Bool). (u && holds x (some a) b (some c)) || anyBelow c (F a)) (sym (p .next hc)) ∙ sym (any-one c (F a))
         ∙ any-skip (c + 1) c′ (F a) (n .onward) (gone (c + 1) c′ n a)));
-    next = λ h. sym (row-bit s layer b c′) ∙ n .found h;
+    next = n .found;
   }
 
   pub uniting-all : (old new : List ℕ) (c : ℕ) → c ≡ 64 * w → Uniting old new c

@@ -121,11 +121,10 @@ fn unite_valuations(
     ensures { λ r. ⌜ ((ks : List ℕ) → United (size .words) (now (row .entry)) (now (row .exit)) (λ a. rowBit (now (ok .entry)) 0 a && anyBelow (64 * size .words) (λ c. stored (now (s .entry)) layer b (some c) && holds (sheetOf (size .inputs) (size .outputs) (now (code .entry)) (now (len .entry)) ks) (some a) b (some c)))) ⌝ }
 {
     let w = size.words;
-    let first = layer + 4 * b;
-    let mut c = pairs::next_bit(s, first, w, 0);
+    let mut c = pairs::next_member(s, layer, b, w, 0);
     while c < 64 * w {
         unite(row, st, ok, code, len, size, b, false, c);
-        c = pairs::next_bit(s, first, w, c + 1);
+        c = pairs::next_member(s, layer, b, w, c + 1);
     }
 }
 

@@ -13,30 +13,24 @@ use Rattle.rounds.proofs.bring_row.Statement.{statement}
 use Rattle.rounds.proofs.bring_row.Tie as tie
 
 abbrev Inv-loop : tie.InvT-loop
-Inv-loop s₀ st₀ code len size before g v w at b₀ s st b =
+Inv-loop s₀ st₀ code len size before g v w b₀ s st b =
     (b ≤ 64 * w)
     × (length s ≡ length s₀)
     × (length st ≡ length st₀)
     × ((p : Option ℕ) → Before before p → (ks : List ℕ) → Bringing (sheetOf (size .inputs) (size .outputs) code len ks) s₀ s (size .valuations) g p b)
 
 abbrev μ-loop : tie.MeasureT-loop
-μ-loop s₀ st₀ code len size before g v w at b₀ s st b = v - b
+μ-loop s₀ st₀ code len size before g v w b₀ s st b = v - b
 
-mul-at : tie.Need-mul-at Inv-loop μ-loop
-mul-at c = search needs
-
-add-at : tie.Need-add-at Inv-loop μ-loop
-add-at c = search needs
-
-next-bit-requires : tie.Need-next-bit-requires Inv-loop μ-loop
-next-bit-requires c κs = search needs
+next-member-requires : tie.Need-next-member-requires Inv-loop μ-loop
+next-member-requires c κs = search needs
 
 loop-holds : tie.Need-loop-holds Inv-loop μ-loop
 loop-holds c = (
-  c .next-bit .ensures .inside,
+  c .next-member .ensures .inside,
   refl,
   refl,
-  λ p r ks. bring-first _ _ _ _ p (c .before .before .before .before .before .before .pre .1 .0 .most-valuations) (c .before .before .before .before .before .before .pre .1 .3) _ _ (c .before .before .before .before .before .before .pre .1 .0 .wide .under) (c .next-bit .ensures),
+  λ p r ks. bring-first _ _ _ _ p (c .before .before .before .before .before .before .pre .1 .0 .most-valuations) (c .before .before .before .before .before .before .pre .1 .3) _ _ (c .before .before .before .before .before .before .pre .1 .0 .wide .under) (c .next-member .ensures),
 )
 
 seen-requires : tie.Need-seen-requires Inv-loop μ-loop
@@ -51,14 +45,14 @@ gain-row-requires c κs =
     let l = c .before .before .before .before .loop .inv in
     (q .0, (q .1 .0, omega (arith, l .2, q .1 .1), omega (arith, l .1, q .1 .2), omega (arith, q .1 .0 .most-valuations)))
 
-add-next-bit : tie.Need-add-next-bit Inv-loop μ-loop
-add-next-bit c = search needs
+add-next-member : tie.Need-add-next-member Inv-loop μ-loop
+add-next-member c = search needs
 
-next-bit-requires-2 : tie.Need-next-bit-requires-2 Inv-loop μ-loop
-next-bit-requires-2 c κs = search needs
+next-member-requires-2 : tie.Need-next-member-requires-2 Inv-loop μ-loop
+next-member-requires-2 c κs = search needs
 
 loop-less : tie.Need-loop-less Inv-loop μ-loop
-loop-less c = omega (arith, c .next-bit2 .ensures .onward)
+loop-less c = omega (arith, c .next-member2 .ensures .onward)
 
 loop-again : tie.Need-loop-again Inv-loop μ-loop
 loop-again c =
@@ -67,12 +61,12 @@ loop-again c =
     let turn = after-seen .before .before in
     let start = turn .before .before .before .before .before .before .before in
     let z = start .pre .1 .0 in (
-      c .next-bit2 .ensures .inside,
+      c .next-member2 .ensures .inside,
       omega arith,
       omega arith,
       λ p r ks.
           bring-more _ _ _ _ p (z .most-valuations) (start .pre .1 .3) _ _ _ _ _ (z .wide .under) (after-seen .before .loop-test .taken) (turn .loop .inv .3 p r ks)
-          (after-gain-row .gain-row .ensures p (after-seen .seen .ensures p r) ks) (c .next-bit2 .ensures),
+          (after-gain-row .gain-row .ensures p (after-seen .seen .ensures p r) ks) (c .next-member2 .ensures),
     )
 
 gain-ends-requires : tie.Need-gain-ends-requires Inv-loop μ-loop
@@ -103,14 +97,12 @@ bring-row-spec =
     (tie.spec
     Inv-loop
     μ-loop
-    mul-at
-    add-at
-    next-bit-requires
+    next-member-requires
     loop-holds
     seen-requires
     gain-row-requires
-    add-next-bit
-    next-bit-requires-2
+    add-next-member
+    next-member-requires-2
     loop-less
     loop-again
     gain-ends-requires

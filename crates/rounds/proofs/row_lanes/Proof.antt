@@ -1,83 +1,43 @@
 -- `rounds::row_lanes` meets its contract.
 use native.Mathlib.Omega.{arith}
 use borrow.Author.Needs.{needs}
+use Rattle.pairs.specs.Storage.{stored}
 use Rattle.rounds.proofs.WordLaws.{row-one, row-two, row-four}
 use Rattle.rounds.proofs.row_lanes.Statement.{statement}
 use Rattle.rounds.proofs.row_lanes.Tie as tie
 
-mul-at : tie.Need-mul-at
-mul-at c = search needs
-
-add-at : tie.Need-add-at
-add-at c = search needs
-
-mul-result : tie.Need-mul-result
-mul-result c = search needs
-
-shared-slice-read-result : tie.Need-shared-slice-read-result
-shared-slice-read-result c = search needs
+row-word-requires : tie.Need-row-word-requires
+row-word-requires c κs = search needs
 
 returns : tie.Need-returns
-returns c = λ i h. row-one _ _ _ i h _ (c .before .if1 .taken)
+returns c = let a = c .before .before .before .args in λ i h. row-one (stored (a .s .now) (a .base)) (a .a) i h _ _ (c .if1 .taken) (c .before .row-word .ensures)
 
-mul-two : tie.Need-mul-two
-mul-two c = search needs
-
-shared-slice-read-two : tie.Need-shared-slice-read-two
-shared-slice-read-two c = search needs
-
-add-two : tie.Need-add-two
-add-two c = search needs
-
-mul-two-2 : tie.Need-mul-two-2
-mul-two-2 c = search needs
-
-shared-slice-read-two-2 : tie.Need-shared-slice-read-two-2
-shared-slice-read-two-2 c = search needs
+row-word-requires-2 : tie.Need-row-word-requires-2
+row-word-requires-2 c κs = search needs
 
 returns-2 : tie.Need-returns-2
-returns-2 c = λ i h. row-two _ _ _ i h _ (c .if2 .taken)
+returns-2 c = let a = c .before .before .before .before .before .args in λ i h. row-two (stored (a .s .now) (a .base)) (a .a) i h _ _ _ (c .if2 .taken) (c .before .before .before .row-word .ensures) (c .before .row-word2 .ensures)
 
-add-result : tie.Need-add-result
-add-result c = search needs
+row-word-requires-3 : tie.Need-row-word-requires-3
+row-word-requires-3 c κs = search needs
 
-mul-result-2 : tie.Need-mul-result-2
-mul-result-2 c = search needs
-
-shared-slice-read-result-2 : tie.Need-shared-slice-read-result-2
-shared-slice-read-result-2 c = search needs
-
-add-result-2 : tie.Need-add-result-2
-add-result-2 c = search needs
-
-mul-result-3 : tie.Need-mul-result-3
-mul-result-3 c = search needs
-
-shared-slice-read-result-3 : tie.Need-shared-slice-read-result-3
-shared-slice-read-result-3 c = search needs
+row-word-requires-4 : tie.Need-row-word-requires-4
+row-word-requires-4 c κs = search needs
 
 returns-3 : tie.Need-returns-3
-returns-3 c = λ i h. row-four _ _ _ i h _ (omega arith)
+returns-3 c =
+    let a = c .before .before .before .before .before .before .before .args in
+    λ i h.
+    row-four (stored (a .s .now) (a .base)) (a .a) i h _ _ _ _ _ (omega arith) (c .before .before .before .before .before .row-word .ensures) (c .before .before .before .row-word2 .ensures) (c .before .row-word3 .ensures) (c .row-word4 .ensures)
 
 pub row-lanes-spec : {M : Type 1} → statement M
 row-lanes-spec =
     tie.close
     (tie.spec
-    mul-at
-    add-at
-    mul-result
-    shared-slice-read-result
+    row-word-requires
     returns
-    mul-two
-    shared-slice-read-two
-    add-two
-    mul-two-2
-    shared-slice-read-two-2
+    row-word-requires-2
     returns-2
-    add-result
-    mul-result-2
-    shared-slice-read-result-2
-    add-result-2
-    mul-result-3
-    shared-slice-read-result-3
+    row-word-requires-3
+    row-word-requires-4
     returns-3)

@@ -18,11 +18,11 @@ use Rattle.lanes.proofs.output_stream.Reads as output-stream-reads
 use Rattle.lanes.proofs.expression.two_value.Reads as two-value-reads
 
 abbrev Inv-loop : tie.InvT-loop
-Inv-loop acc₀ st₀ code len env f b m n x₀ k₀ acc st x k =
+Inv-loop acc₀ st₀ env f code len m n b x₀ k₀ acc st x k =
     (k ≤ n) × (length acc ≡ 4) × (length st ≡ length st₀) × (length x ≡ 4) × Agree 2 env f m n code len b acc k
 
 abbrev μ-loop : tie.MeasureT-loop
-μ-loop acc₀ st₀ code len env f b m n x₀ k₀ acc st x k = n - k
+μ-loop acc₀ st₀ env f code len m n b x₀ k₀ acc st x k = n - k
 
 fill-row-requires : tie.Need-fill-row-requires Inv-loop μ-loop
 fill-row-requires c κs = search needs
@@ -104,14 +104,7 @@ returns c =
     (c .before .is-empty .ensures (c .if1 .taken))
 
 add-k : tie.Need-add-k Inv-loop μ-loop
-add-k c =
-    let after-keep-row = c .before .before .before .before .before in
-    let after-output-stream = after-keep-row .before in
-    let after-two-value = after-output-stream .before .before .before .before .before .before in
-    let tested = after-two-value .before .before .before .before .before in
-    let turn = tested .before in
-    let start = turn .before .before .before .before .before .before .before .before .before in
-    omega (arith, tested .loop-test .taken, start .pre .0 .ranges .streams)
+add-k c = search needs
 
 loop-less : tie.Need-loop-less Inv-loop μ-loop
 loop-less c = search needs

@@ -60,29 +60,11 @@ loop-holds c =
     let start = c .before .before .before .before .before .before .before .before .before .before .before .before .before .before in
     (omega arith, refl, λ y p f. ends-none _ _ _ _ _ p (start .pre .1 .0 .wide) (start .pre .1 .3))
 
-add-live : tie.Need-add-live Inv-loop μ-loop
-add-live c = search needs
+ends-word-requires : tie.Need-ends-word-requires Inv-loop μ-loop
+ends-word-requires c κs = search needs
 
-mul-live : tie.Need-mul-live Inv-loop μ-loop
-mul-live c = search needs
-
-slice-read-live : tie.Need-slice-read-live Inv-loop μ-loop
-slice-read-live c = search needs
-
-mul-heard : tie.Need-mul-heard Inv-loop μ-loop
-mul-heard c = search needs
-
-add-heard : tie.Need-add-heard Inv-loop μ-loop
-add-heard c = search needs
-
-add-heard-2 : tie.Need-add-heard-2 Inv-loop μ-loop
-add-heard-2 c = search needs
-
-mul-heard-2 : tie.Need-mul-heard-2 Inv-loop μ-loop
-mul-heard-2 c = search needs
-
-slice-read-heard : tie.Need-slice-read-heard Inv-loop μ-loop
-slice-read-heard c = search needs
+row-word-requires : tie.Need-row-word-requires Inv-loop μ-loop
+row-word-requires c κs = search needs
 
 mul-insert-ends : tie.Need-mul-insert-ends Inv-loop μ-loop
 mul-insert-ends c = search needs
@@ -94,14 +76,16 @@ insert-ends-requires : tie.Need-insert-ends-requires Inv-loop μ-loop
 insert-ends-requires c κs = search needs
 
 add-j : tie.Need-add-j Inv-loop μ-loop
-add-j c = search needs
+add-j c = let tested = c .before .before .before .before .before .before .before .before in omega (arith, tested .loop-test .taken, tested .before .before .before .before .before .before .before .before .before .before .before .before .before .before .before .before .pre .1 .0 .wide .most)
 
 loop-less : tie.Need-loop-less Inv-loop μ-loop
 loop-less c = search needs
 
 loop-again : tie.Need-loop-again Inv-loop μ-loop
 loop-again c =
-    let tested = c .before .before .before .before .before .before in
+    let after-row-word = c .before .before .before .before in
+    let after-ends-word = after-row-word .before .before in
+    let tested = after-ends-word .before .before in
     let turn = tested .before in
     let after-enders = turn .before .before .before .before in
     let after-lanes-below = after-enders .before .before .before in
@@ -109,7 +93,7 @@ loop-again c =
       omega arith,
       omega arith,
       λ y p f.
-          ends-more _ _ _ _ _ p (start .pre .1 .0 .wide) (start .pre .1 .3) _ _ _ _ _ (tested .loop-test .taken) (turn .loop .inv .2 y p f)
+          ends-more _ _ _ _ _ p (start .pre .1 .0 .wide) (start .pre .1 .3) _ _ _ _ _ _ _ (tested .loop-test .taken) (turn .loop .inv .2 y p f) (after-ends-word .ends-word .ensures) (after-row-word .row-word .ensures)
           (after-lanes-below .lanes-below .ensures) (λ i g. f (turn .loop .j) i (tested .loop-test .taken) g)
           (c .before .before .insert-ends .ensures),
     )
@@ -138,14 +122,8 @@ gain-ends-spec =
     slice-aggregate-enders
     enders-requires
     loop-holds
-    add-live
-    mul-live
-    slice-read-live
-    mul-heard
-    add-heard
-    add-heard-2
-    mul-heard-2
-    slice-read-heard
+    ends-word-requires
+    row-word-requires
     mul-insert-ends
     array-read-insert-ends
     insert-ends-requires

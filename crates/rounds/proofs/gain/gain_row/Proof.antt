@@ -59,17 +59,8 @@ successors-requires c κs =
 loop-holds : tie.Need-loop-holds Inv-loop μ-loop
 loop-holds c = (omega arith, refl, λ y p f. row-none _ _ _ _ p)
 
-mul-live : tie.Need-mul-live Inv-loop μ-loop
-mul-live c = search needs
-
-add-live : tie.Need-add-live Inv-loop μ-loop
-add-live c = search needs
-
-mul-live-2 : tie.Need-mul-live-2 Inv-loop μ-loop
-mul-live-2 c = search needs
-
-slice-read-live : tie.Need-slice-read-live Inv-loop μ-loop
-slice-read-live c = search needs
+row-word-requires : tie.Need-row-word-requires Inv-loop μ-loop
+row-word-requires c κs = search needs
 
 mul-insert-word : tie.Need-mul-insert-word Inv-loop μ-loop
 mul-insert-word c = search needs
@@ -88,7 +79,8 @@ loop-less c = search needs
 
 loop-again : tie.Need-loop-again Inv-loop μ-loop
 loop-again c =
-    let tested = c .before .before .before .before .before in
+    let after-row-word = c .before .before .before .before in
+    let tested = after-row-word .before .before in
     let turn = tested .before in
     let after-successors = turn .before .before .before .before in
     let after-lanes-below = after-successors .before .before .before in
@@ -97,7 +89,7 @@ loop-again c =
       omega arith,
       λ y p f.
           row-more _ _ _ _ _ _ _ p (turn .loop .inv .2 y p f)
-          (word-gained _ _ _ _ _ (live-masked _ _ _ _ _ _ (start .pre .1 .0 .wide) (tested .loop-test .taken) (after-lanes-below .lanes-below .ensures))
+          (word-gained _ _ _ _ _ (live-masked _ _ _ _ _ _ _ (start .pre .1 .0 .wide) (tested .loop-test .taken) (after-row-word .row-word .ensures) (after-lanes-below .lanes-below .ensures))
           _ p _ _ (λ i h. f (turn .loop .j) i (tested .loop-test .taken) h) (c .before .before .insert-word .ensures)),
     )
 
@@ -123,10 +115,7 @@ gain-row-spec =
     slice-aggregate-successors
     successors-requires
     loop-holds
-    mul-live
-    add-live
-    mul-live-2
-    slice-read-live
+    row-word-requires
     mul-insert-word
     array-read-insert-word
     insert-word-requires

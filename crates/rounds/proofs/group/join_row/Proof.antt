@@ -19,20 +19,8 @@ abbrev μ-loop : tie.MeasureT-loop
 loop-holds : tie.Need-loop-holds Inv-loop μ-loop
 loop-holds c = (omega arith, refl, joined-none _ _ _ _ (c .before .pre .1))
 
-mul-x : tie.Need-mul-x Inv-loop μ-loop
-mul-x c = search needs
-
-add-x : tie.Need-add-x Inv-loop μ-loop
-add-x c = search needs
-
-add-x-2 : tie.Need-add-x-2 Inv-loop μ-loop
-add-x-2 c = search needs
-
-mul-x-2 : tie.Need-mul-x-2 Inv-loop μ-loop
-mul-x-2 c = search needs
-
-slice-read-x : tie.Need-slice-read-x Inv-loop μ-loop
-slice-read-x c = search needs
+row-word-requires : tie.Need-row-word-requires Inv-loop μ-loop
+row-word-requires c κs = search needs
 
 insert-word-requires : tie.Need-insert-word-requires Inv-loop μ-loop
 insert-word-requires c κs = search needs
@@ -45,9 +33,10 @@ loop-less c = search needs
 
 loop-again : tie.Need-loop-again Inv-loop μ-loop
 loop-again c =
-    let turn = c .before .before .before .before .before .before in
+    let after-row-word = c .before .before .before .before in
+    let turn = after-row-word .before .before .before in
     let start = turn .before .before in
-    (omega arith, omega arith, joined-more _ _ _ _ (start .pre .1) _ _ _ (omega arith) (turn .loop .inv .2) (c .before .before .insert-word .ensures))
+    (omega arith, omega arith, joined-more _ _ _ _ (start .pre .1) _ _ _ _ (omega arith) (after-row-word .row-word .ensures) (turn .loop .inv .2) (c .before .before .insert-word .ensures))
 
 same-length : tie.Need-same-length Inv-loop μ-loop
 same-length c = search needs
@@ -62,11 +51,7 @@ join-row-spec =
     Inv-loop
     μ-loop
     loop-holds
-    mul-x
-    add-x
-    add-x-2
-    mul-x-2
-    slice-read-x
+    row-word-requires
     insert-word-requires
     add-j
     loop-less

@@ -5,9 +5,8 @@ use mathlib.Core.Path.{_≡_}
 use mathlib.Core.List.{List, [], _∷_, _++_}
 use Prim.Native.Nat.{ℕ, zero, suc}
 use lib.ListN.{length, replicate}
-use Rattle.sheet.specs.RuleSheet.{RuleSheet, accepted, readSheet}
-use Rattle.circular.specs.Circular.{CircularSheet}
-use Rattle.examples.specs.Table.{one-input}
+use Rattle.sheet.specs.RuleSheet.{RuleSheet}
+use Rattle.examples.specs.Table.{AcceptedAs, one-input}
 
 unfoldable pub longOutputs : ℕ → List ℕ
 longOutputs zero = []
@@ -16,6 +15,6 @@ longOutputs (suc k) = 64 ∷ 0x40 ∷ (replicate 63 0x02 ++ longOutputs k)
 unfoldable pub longest : List ℕ
 longest = one-input 7 255 (longOutputs 7)
 
--- it has 463 bytes, is read, and is not circular
+-- it has 463 bytes and is accepted
 abbrev pub LongestMet : Type 0
-LongestMet = (length longest ≡ 463) × ((x : RuleSheet) × (readSheet longest ≡ accepted x) × (CircularSheet x → ⊥))
+LongestMet = (length longest ≡ 463) × ((x : RuleSheet) × AcceptedAs longest x)

@@ -8,3 +8,4 @@ pub mod Tidy
 pub mod Forgotten
 pub mod Longest
 pub mod ReadSheet
+pub mod Share

@@ -5,10 +5,13 @@ use mathlib.Core.List.{List, [], _∷_}
 use Prim.Native.Nat.{ℕ}
 use lib.Dec.{T}
 use Rattle.refusal.specs.declared.Refusal.the-variants.{Circular}
+use Rattle.refusal.specs.declared.Outcome.{Outcome}
 use Rattle.refusal.specs.declared.Outcome.the-variants.{Refused}
+use Rattle.refusal.proofs.Decisions.{decided-once}
 use Rattle.words.proofs.Tests.{and-left, and-right, not-both, true-of, of-true}
 use Rattle.sheet.specs.RuleSheet.{RuleSheet, outputs, Reading, refused, accepted, readSheet}
 use Rattle.circular.specs.Circular.{edges, CircularSheet}
+use Rattle.circular.specs.Checks as sheets
 use Rattle.circular.proofs.Decide.{circular?, circular?-true, circular?-of}
 use Rattle.circular.proofs.Decided.{level, round}
 use Rattle.examples.specs.Table.{SheetOutcome, AcceptedAs}
@@ -23,7 +26,7 @@ abbrev pub Passed : List Bool → Type 0
 Passed [] = Unit {0}
 Passed (b ∷ bs) = T b × Passed bs
 
-pub passed : (bs : List Bool) → T (allOf bs) → Passed bs
+passed : (bs : List Bool) → T (allOf bs) → Passed bs
 unfolding allOf
 passed [] t = tt
 passed (b ∷ bs) t = (and-left b (allOf bs) t, passed bs (and-right b (allOf bs) t))
@@ -44,17 +47,22 @@ read-passed bs f t = go (readSheet bs) refl t
 
 -- ---- rule 10
 
-abbrev pub roundTest : RuleSheet → Bool
-roundTest x = circular? (outputs x) (edges x)
+abbrev pub circularTest : RuleSheet → Bool
+circularTest x = circular? (outputs x) (edges x)
 
 abbrev pub levelTest : RuleSheet → Bool
-levelTest x = not (roundTest x)
+levelTest x = not (circularTest x)
 
 module _ (bs : List ℕ) (x : RuleSheet) (e : readSheet bs ≡ accepted x) where
   pub accepted-as : T (levelTest x) → AcceptedAs bs x
   accepted-as t =
-      let n : CircularSheet x → ⊥ = λ c. not-both (roundTest x) (of-true (roundTest x) (circular?-of (outputs x) (edges x) c)) t in
+      let n : CircularSheet x → ⊥ = λ c. not-both (circularTest x) (of-true (circularTest x) (circular?-of (outputs x) (edges x) c)) t in
       record { decided = level bs x e n; read = e }
 
-  pub refused-circular : T (roundTest x) → SheetOutcome bs (Refused Circular)
-  refused-circular t = round bs x e (circular?-true (outputs x) (edges x) (true-of (roundTest x) t))
+  pub refused-circular : T (circularTest x) → SheetOutcome bs (Refused Circular)
+  refused-circular t = round bs x e (circular?-true (outputs x) (edges x) (true-of (circularTest x) t))
+
+-- ---- one outcome
+
+pub one-outcome : (bs : List ℕ) (o p : Outcome) → SheetOutcome bs o → SheetOutcome bs p → o ≡ p
+one-outcome bs = decided-once (sheets.Broken bs) sheets.rule (sheets.checksOf bs)

@@ -42,7 +42,7 @@ use Rattle.accepted.specs.Results.{width}
 use Rattle.claims.proofs.Further.{live-set}
 use Rattle.claims.proofs.BookLaws.{round-right, reaches-closing}
 use Rattle.examples.specs.Table.{Case, judged, closing, turned-down, lives, values, unheard, AcceptedAs, EvaluatesTo, Holds, one-input, session, table, Examples}
-use Rattle.examples.proofs.Accepted.{allOf, ofReading, read-passed, roundTest, levelTest, accepted-as, refused-circular}
+use Rattle.examples.proofs.Accepted.{allOf, ofReading, read-passed, circularTest, levelTest, accepted-as, refused-circular}
 
 -- ---- the tests
 
@@ -92,7 +92,7 @@ module _ (x : RuleSheet) where
 unfoldable works : Case → Bool
 works (judged bs vs) = ofReading (readSheet bs) (λ x. judgedTests x (byRounds x) vs)
 works (closing bs vs) = ofReading (readSheet bs) (λ x. judgedTests x (byClosing x) vs)
-works (turned-down bs n) = ofReading (readSheet bs) (λ x. roundTest x ∷ eqb (refusalNo Circular) n ∷ [])
+works (turned-down bs n) = ofReading (readSheet bs) (λ x. circularTest x ∷ eqb (refusalNo Circular) n ∷ [])
 works (lives bs n) = ofReading (readSheet bs) (λ x. livesTests x n)
 works (values bs ls os) = ofReading (readSheet bs) (λ x. valuesTests x ls os)
 
@@ -182,7 +182,7 @@ holds-case (closing bs vs) t =
     let (x, e, p) = read-passed bs (λ x. judgedTests x (byClosing x) vs) t in
     (x, accepted-as bs x e (p .0), record { size = eqb→eq (length vs) (outputs x) (p .1 .1 .0); right = judged-closing x (p .1 .0) vs (p .1 .1 .1 .0) })
 holds-case (turned-down bs n) t =
-    let (x, e, p) = read-passed bs (λ x. roundTest x ∷ eqb (refusalNo Circular) n ∷ []) t in
+    let (x, e, p) = read-passed bs (λ x. circularTest x ∷ eqb (refusalNo Circular) n ∷ []) t in
     (Circular, refused-circular bs x e (p .0), eqb→eq (refusalNo Circular) n (p .1 .0))
 holds-case (lives bs n) t =
     let (x, e, p) = read-passed bs (λ x. livesTests x n) t in

@@ -1,3 +1,4 @@
 pub mod Accepted
 pub mod Computed
 pub mod Longest
+pub mod OneAnswer

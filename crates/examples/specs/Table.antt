@@ -104,3 +104,15 @@ table =
 -- every case of the table holds
 abbrev pub Examples : Type 0
 Examples = (i : ℕ) (c : Case) → getElem? table i ≡ some c → Holds c
+
+-- and no other answers do: two cases of one kind that hold of the same bytes, and of the same letters, have the same answer, and no bytes are
+-- both refused and accepted
+abbrev pub OneAnswer : Type 0
+OneAnswer =
+    (bs : List ℕ)
+    → ((vs ws : List Verdict) → Holds (judged bs vs) → Holds (judged bs ws) → vs ≡ ws)
+    × ((vs ws : List Verdict) → Holds (closing bs vs) → Holds (closing bs ws) → vs ≡ ws)
+    × ((n k : ℕ) → Holds (turned-down bs n) → Holds (turned-down bs k) → n ≡ k)
+    × ((n k : ℕ) → Holds (lives bs n) → Holds (lives bs k) → n ≡ k)
+    × ((ls os ps : List ℕ) → Holds (values bs ls os) → Holds (values bs ls ps) → os ≡ ps)
+    × ((n : ℕ) (x : RuleSheet) → Holds (turned-down bs n) → AcceptedAs bs x → ⊥)

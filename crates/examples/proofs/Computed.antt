@@ -9,10 +9,10 @@ use native.Mathlib.Omega.{arith}
 use lib.Dec.{T, eqb, leb, ltb, eqb→eq, ltb→lt}
 use lib.ListN.{length, getD, getElem?}
 use borrow.Author.Tests.{leb-true}
-use Rattle.refusal.specs.Numbers.{refusalNo, verdictNo, verdictAt}
+use Rattle.refusal.specs.Numbers.{refusalNo, verdictNo}
 use Rattle.refusal.specs.declared.Refusal.the-variants.{Circular}
 use Rattle.refusal.specs.declared.Verdict.{Verdict}
-use Rattle.refusal.proofs.NumberLaws.{verdict-back}
+use Rattle.refusal.specs.declared.Verdict.the-variants.{False, True, Open, Broken}
 use Rattle.words.specs.Bits.{bit, digit}
 use Rattle.words.specs.Below.{anyBelow, sumBelow, countBelow}
 use Rattle.words.proofs.Tests.{and-left, and-right, true-of, of-true}
@@ -103,8 +103,21 @@ failing k (c ∷ cs) = cond (works c) (failing (suc k) cs) (k ∷ failing (suc k
 
 -- ---- what the tests show
 
+-- two verdicts with one number are the same
+abbrev withNo : ℕ → Verdict
+withNo zero = False
+withNo (suc zero) = True
+withNo (suc (suc zero)) = Open
+withNo (suc (suc (suc n))) = Broken
+
+back : (v : Verdict) → withNo (verdictNo v) ≡ v
+back False = refl
+back True = refl
+back Open = refl
+back Broken = refl
+
 verdict-same : (v w : Verdict) → T (eqb (verdictNo v) (verdictNo w)) → v ≡ w
-verdict-same v w t = sym (verdict-back v) ∙ ap verdictAt (eqb→eq (verdictNo v) (verdictNo w) t) ∙ verdict-back w
+verdict-same v w t = sym (back v) ∙ ap withNo (eqb→eq (verdictNo v) (verdictNo w) t) ∙ back w
 
 gives-at : (f : ℕ → Verdict) (k : ℕ) (vs : List Verdict) (i : ℕ) (v : Verdict) → T (gives f k vs) → getElem? vs i ≡ some v → f (k + i) ≡ v
 unfolding gives

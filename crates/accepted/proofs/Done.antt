@@ -1,43 +1,36 @@
 -- What a step, the verdicts and the tallies come to: a round and a closing as they are defined.
-use mathlib.Core.Path.{_≡_, sym, ap, ap₂, _∙_, subst}
+use mathlib.Core.Path.{_≡_, sym, ap, ap₂, _∙_, subst, fun-ext}
 use mathlib.Core.Bool.{Bool, true, false, cond}
 use mathlib.Core.List.{List}
 use mathlib.Core.Option.{Option}
-use Prim.Native.Nat.{ℕ, _+_, _^_, _<_, _≤_}
+use Prim.Native.Nat.{ℕ, _+_, _%_, _^_, _<_, _≤_}
+use native.Mathlib.Nat.{mod-lt}
 use native.Mathlib.Omega.{arith}
-use lib.ListN.{length}
-use lib.Pow.{pow-mono}
-use Rattle.refusal.specs.Numbers.{verdictNo, Verdicts}
+use lib.Pow.{pow-pos, pow-mono}
+use Rattle.refusal.specs.Numbers.{Verdicts}
 use Rattle.refusal.specs.declared.Verdict.{Verdict}
-use Rattle.refusal.proofs.NumberLaws.{verdict-small}
+use Rattle.refusal.specs.declared.Told.{Told}
 use Rattle.words.specs.Bits.{bit}
 use Rattle.sheet.specs.RuleSheet.{RuleSheet, outputs, streams}
 use Rattle.sheet.specs.Reading.{ruleSheet, Usable}
 use Rattle.sheet.specs.declared.Sheet.{Sheet}
 use Rattle.sheet.proofs.Sheets.{length-trees}
-use Rattle.lola.specs.Equations.{output}
+use Rattle.lola.specs.Equations.{output, letter}
 use Rattle.record.specs.Record.{Counted}
-use Rattle.record.specs.Columns.{AreVerdicts}
 use Rattle.record.specs.declared.JournalRecord.{JournalRecord}
 use Rattle.completions.specs.Live.{Pairs}
-use Rattle.completions.specs.Completion.{masked}
+use Rattle.completions.specs.Completion.{LetterSet}
 use Rattle.completions.specs.Steps.{Within, stepSet, pairsVerdict, endsVerdict, pairsWithin}
 use Rattle.completions.proofs.Range.{wider}
-use Rattle.letters.specs.Matching.{matches}
-use Rattle.pairs.specs.Storage.{stored, used}
+use Rattle.pairs.specs.Storage.{used, live, reached, scratch}
 use Rattle.lanes.specs.Coded.{sheetOf}
 use Rattle.rounds.specs.Rows.{among}
 use Rattle.rounds.specs.Round.{Rounded}
 use Rattle.verdicts.specs.Firsts.{Passing}
-use Rattle.checks.specs.Checks.{given}
-use Rattle.checks.specs.Ready.{RoundReady}
 use Rattle.accepted.specs.Results.{width, heard, nextSet, RoundDone, ClosingDone, Shares}
 use Rattle.accepted.specs.declared.RoundAnswer.{RoundAnswer}
 use Rattle.accepted.specs.declared.ClosingAnswer.{ClosingAnswer}
 use Rattle.accepted.proofs.Rounding.{sheet-outputs, sheet-width, heard-as, next-later, pairs-verdict-as, reached-below, only-heard}
-
-pub verdicts-small : (n : ℕ) (f : ℕ → Verdict) (vs : List ℕ) → Verdicts n f vs → AreVerdicts n vs
-verdicts-small n f vs x k h = subst (λ (z : ℕ). z ≤ 3) (sym (x .each k h)) (verdict-small (f k))
 
 pub later-step : (m n : ℕ) (code len ks : List ℕ) (L S : Pairs) (r : ℕ → Bool) (t : ℕ) → (t ≡ 0 → ⊥)
     → nextSet (sheetOf m n code len ks) L t S r ≡ stepSet (sheetOf m n code len ks) (2 ^ (m + n)) L S r
@@ -53,42 +46,41 @@ module _ (x : Sheet) (u : Usable x) where
   small = let g : 2 ^ (x .inputs + x .outputs) ≤ 2 ^ 8 = pow-mono (u .ranges .streams) in omega (arith, sheet-width x)
 
   -- after a round, only what was heard is a first part
-  pub heard-firsts : (s t : List ℕ) (n letters : ℕ) → Rounded (2 ^ (x .inputs + x .outputs)) s t (nextSet X (stored s 0) n (stored s 1028) (among letters))
-      → Passing (2 ^ (x .inputs + x .outputs)) (among letters) (stored t 1028)
-  heard-firsts s t n letters d = only-heard (2 ^ (x .inputs + x .outputs)) s t X (stored s 0) n (stored s 1028) (among letters) (pow-mono (u .ranges .streams)) d
+  pub heard-firsts : (s t : List ℕ) (n letters : ℕ) → Rounded (2 ^ (x .inputs + x .outputs)) s t (nextSet X (live s) n (reached s) (among letters))
+      → Passing (2 ^ (x .inputs + x .outputs)) (among letters) (reached t)
+  heard-firsts s t n letters d = only-heard (2 ^ (x .inputs + x .outputs)) s t X (live s) n (reached s) (among letters) (pow-mono (u .ranges .streams)) d
 
   -- verdicts over the valuations of the sheet
-  verdicts-of : (f g : ℕ → Verdict) (vs : List ℕ) → ((k : ℕ) → f k ≡ g k) → Verdicts (x .outputs) f vs → Verdicts (outputs X) g vs
+  verdicts-of : (f g : ℕ → Verdict) (vs : List Told) → ((k : ℕ) → f k ≡ g k) → Verdicts (x .outputs) f vs → Verdicts (outputs X) g vs
   verdicts-of f g vs e v = record {
     size = v .size;
-    each = λ k h. v .each k (omega (arith, sheet-outputs x)) ∙ ap verdictNo (e k);
+    each = λ k h. v .each k (omega (arith, sheet-outputs x)) ∙ e k;
     beyond = λ k h. v .beyond k (omega (arith, sheet-outputs x));
   }
 
-  pub round-done : (s t : List ℕ) (r : JournalRecord) (known val letters : ℕ) (a : RoundAnswer)
-      → RoundReady (x .inputs) (x .outputs) (given (length s) r known val)
-      → ((l : ℕ) → l < 64 → bit l letters ≡ matches known val 6 l)
-      → Rounded (2 ^ (x .inputs + x .outputs)) s t (nextSet X (stored s 0) (r .rounds) (stored s 1028) (among letters))
-      → Verdicts (x .outputs) (λ k. pairsVerdict (2 ^ (x .inputs + x .outputs)) (stored t 1028) (bit (x .inputs + k))) (a .verdicts)
+  pub round-done : (s t : List ℕ) (r : JournalRecord) (letters lanes : ℕ) (a : RoundAnswer)
+      → ((l : ℕ) → l < 64 → bit l lanes ≡ bit (l % 2 ^ x .inputs) letters)
+      → Rounded (2 ^ (x .inputs + x .outputs)) s t (nextSet X (live s) (r .rounds) (reached s) (among lanes))
+      → Verdicts (x .outputs) (λ k. pairsVerdict (2 ^ (x .inputs + x .outputs)) (reached t) (bit (x .inputs + k))) (a .verdicts)
       → a .record .rounds ≡ r .rounds + 1 → a .record .closed ≡ r .closed → Counted (x .outputs) (a .verdicts) (r .counts) (a .record .counts)
-      → RoundDone X s t r known val a
-  round-done s t r known val letters a ready f d v e₁ e₂ e₃ =
-      let H : among letters ≡ heard X (masked known val) = heard-as X letters known val (u .ranges .inputs) (ready .masks) f in
-      let R : Pairs = nextSet X (stored s 0) (r .rounds) (stored s 1028) (heard X (masked known val)) in
-      let same : (b : ℕ) (c : Option ℕ) → b < 256 → Within 256 c → stored t 1028 b c ≡ cond (used (width X) b c) (pairsWithin (width X) R b c) (stored s 1028 b c) =
+      → RoundDone X s t r (λ l. bit l letters) a
+  round-done s t r letters lanes a f d v e₁ e₂ e₃ =
+      let H : among lanes ≡ heard X (λ l. bit l letters) = heard-as X letters lanes (u .ranges .inputs) f in
+      let R : Pairs = nextSet X (live s) (r .rounds) (reached s) (heard X (λ l. bit l letters)) in
+      let same : (b : ℕ) (c : Option ℕ) → b < 256 → Within 256 c → reached t b c ≡ cond (used (width X) b c) (pairsWithin (width X) R b c) (reached s b c) =
       λ b c hb hc.
       d .reached b c hb hc
-      ∙ ap₂ (λ (w : ℕ) (S : Pairs). cond (used w b c) (pairsWithin w S b c) (stored s 1028 b c)) (sym (sheet-width x)) (ap (nextSet X (stored s 0) (r .rounds) (stored s 1028)) H) in
+      ∙ ap₂ (λ (w : ℕ) (S : Pairs). cond (used w b c) (pairsWithin w S b c) (reached s b c)) (sym (sheet-width x)) (ap (nextSet X (live s) (r .rounds) (reached s)) H) in
       record {
         kept = record { same-length = d .frame .same-length; beyond = d .frame .beyond };
-        live = d .frame .before;
-        reached = same;
-        scratch = λ b c hb hc. d .scratch b c hb hc ∙ ap (λ (w : ℕ). cond (used w b c) false (stored s 2056 b c)) (sym (sheet-width x));
+        same-live = d .frame .before;
+        steps = same;
+        cleared = λ b c hb hc. d .scratch b c hb hc ∙ ap (λ (w : ℕ). cond (used w b c) false (scratch s b c)) (sym (sheet-width x));
         verdicts = verdicts-of _ (λ k. pairsVerdict (width X) R (output X k)) (a .verdicts)
             (λ k.
-            ap (λ (w : ℕ). pairsVerdict w (stored t 1028) (bit (x .inputs + k))) (sym (sheet-width x))
-            ∙ pairs-verdict-as (width X) (stored t 1028) R (output X k)
-            (λ b c hb hc. same b c (omega (arith, small)) (wider (width X) 256 small c hc) ∙ reached-below (width X) R (stored s 1028 b c) b c hb hc))
+            ap (λ (w : ℕ). pairsVerdict w (reached t) (bit (x .inputs + k))) (sym (sheet-width x))
+            ∙ pairs-verdict-as (width X) (reached t) R (output X k)
+            (λ b c hb hc. same b c (omega (arith, small)) (wider (width X) 256 small c hc) ∙ reached-below (width X) R (reached s b c) b c hb hc))
             v;
         rounds = e₁;
         closed = e₂;
@@ -96,13 +88,13 @@ module _ (x : Sheet) (u : Usable x) where
       }
 
   pub closing-done : (s : List ℕ) (r : JournalRecord) (a : ClosingAnswer)
-      → Verdicts (x .outputs) (λ k. endsVerdict (2 ^ (x .inputs + x .outputs)) (stored s 1028) (bit (x .inputs + k))) (a .verdicts)
+      → Verdicts (x .outputs) (λ k. endsVerdict (2 ^ (x .inputs + x .outputs)) (reached s) (bit (x .inputs + k))) (a .verdicts)
       → Shares (x .outputs) r (a .shares)
       → a .record .rounds ≡ r .rounds → a .record .closed ≡ true → a .record .counts ≡ r .counts → ClosingDone X s r a
   closing-done s r a v h e₁ e₂ e₃ =
       record {
-        verdicts = verdicts-of _ (λ k. endsVerdict (width X) (stored s 1028) (output X k)) (a .verdicts)
-            (λ k. ap (λ (w : ℕ). endsVerdict w (stored s 1028) (bit (x .inputs + k))) (sym (sheet-width x))) v;
+        verdicts = verdicts-of _ (λ k. endsVerdict (width X) (reached s) (output X k)) (a .verdicts)
+            (λ k. ap (λ (w : ℕ). endsVerdict w (reached s) (bit (x .inputs + k))) (sym (sheet-width x))) v;
         shares = record {
           size = h .size;
           each = λ k l. h .each k (omega (arith, sheet-outputs x));
@@ -112,3 +104,24 @@ module _ (x : Sheet) (u : Usable x) where
         closed = e₂;
         counts = e₃;
       }
+
+-- ---- sets that have the same letters of the sheet
+
+heard-same : (x : RuleSheet) (h g : LetterSet) → ((l : ℕ) → l < 2 ^ x .inputs → h l ≡ g l) → heard x h ≡ heard x g
+heard-same x h g e = fun-ext (λ v. e (letter x v) (mod-lt v (pow-pos (x .inputs))))
+
+pub round-as : (x : RuleSheet) (s t : List ℕ) (r : JournalRecord) (h g : LetterSet) (a : RoundAnswer) → ((l : ℕ) → l < 2 ^ x .inputs → h l ≡ g l)
+    → RoundDone x s t r h a → RoundDone x s t r g a
+round-as x s t r h g a e d =
+    let R : (ℕ → Bool) → Pairs = nextSet x (live s) (r .rounds) (reached s) in
+    let q : R (heard x h) ≡ R (heard x g) = ap R (heard-same x h g e) in
+    record {
+      kept = d .kept;
+      same-live = d .same-live;
+      steps = λ b c hb hc. d .steps b c hb hc ∙ ap (λ (S : Pairs). cond (used (width x) b c) (pairsWithin (width x) S b c) (reached s b c)) q;
+      cleared = d .cleared;
+      verdicts = subst (λ (S : Pairs). Verdicts (outputs x) (λ k. pairsVerdict (width x) S (output x k)) (a .verdicts)) q (d .verdicts);
+      rounds = d .rounds;
+      closed = d .closed;
+      counts = d .counts;
+    }

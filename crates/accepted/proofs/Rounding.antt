@@ -15,13 +15,10 @@ use Rattle.sheet.specs.declared.Sheet.{Sheet}
 use Rattle.sheet.proofs.Sheets.{length-trees}
 use Rattle.lola.specs.Equations.{holds}
 use Rattle.completions.specs.Live.{Pairs}
-use Rattle.completions.specs.Completion.{masked}
 use Rattle.completions.specs.Steps.{Within, startSet, stepSet, anyNext, anyPair, verdictOf, pairsVerdict, pairsWithin}
 use Rattle.completions.proofs.Range.{wider}
-use Rattle.letters.specs.Masks.{badMasks}
-use Rattle.letters.specs.Matching.{matches}
-use Rattle.letters.proofs.Matching.{valid, matches-masked, masked-low}
-use Rattle.pairs.specs.Storage.{stored, used}
+use Rattle.letters.proofs.Lanes.{mod-less}
+use Rattle.pairs.specs.Storage.{used, reached}
 use Rattle.pairs.proofs.Sets.{used-below}
 use Rattle.rounds.specs.Rows.{among}
 use Rattle.rounds.specs.Round.{Rounded}
@@ -48,12 +45,11 @@ next-later x L S r (suc t) e = refl
 
 -- ---- the letters of a round
 
--- a set of letters that has just those that match the masks asks what the masks ask
-pub heard-as : (x : RuleSheet) (letters known val : ℕ) → x .inputs ≤ 6 → badMasks (x .inputs) known val ≡ false
-    → ((l : ℕ) → l < 64 → bit l letters ≡ matches known val 6 l) → among letters ≡ heard x (masked known val)
+-- lanes that repeat the letters of a set hear what the set does
+pub heard-as : (x : RuleSheet) (letters lanes : ℕ) → x .inputs ≤ 6 → ((l : ℕ) → l < 64 → bit l lanes ≡ bit (l % 2 ^ x .inputs) letters)
+    → among lanes ≡ heard x (λ l. bit l letters)
 unfolding among
-heard-as x letters known val h e f =
-    fun-ext (λ v. f (v % 64) (omega arith) ∙ matches-masked known val (v % 64) (valid (x .inputs) known val h e) ∙ masked-low (x .inputs) known val v h e)
+heard-as x letters lanes h f = fun-ext (λ v. f (v % 64) (omega arith) ∙ ap (λ (l : ℕ). bit l letters) (mod-less (x .inputs) 6 v h))
 
 -- ---- verdicts read off sets that are the same below w
 
@@ -88,6 +84,6 @@ unfolding startSet stepSet
 next-unheard x L zero S r b c e = ap (λ (u : Bool). L b c && (u && holds x none b c)) e ∙ and-false (L b c)
 next-unheard x L (suc t) S r b c e = ap (λ (u : Bool). L b c && (u && anyBelow (width x) (λ a. S a (some b) && holds x (some a) b c))) e ∙ and-false (L b c)
 
-pub only-heard : (w : ℕ) (s t : List ℕ) (x : RuleSheet) (L : Pairs) (n : ℕ) (S : Pairs) (r : ℕ → Bool) → w ≤ 256 → Rounded w s t (nextSet x L n S r) → Passing w r (stored t 1028)
+pub only-heard : (w : ℕ) (s t : List ℕ) (x : RuleSheet) (L : Pairs) (n : ℕ) (S : Pairs) (r : ℕ → Bool) → w ≤ 256 → Rounded w s t (nextSet x L n S r) → Passing w r (reached t)
 only-heard w s t x L n S r h d b c hb hc e =
-    d .reached b c (omega arith) (wider w 256 h c hc) ∙ reached-below w (nextSet x L n S r) (stored s 1028 b c) b c hb hc ∙ next-unheard x L n S r b c e
+    d .reached b c (omega arith) (wider w 256 h c hc) ∙ reached-below w (nextSet x L n S r) (reached s b c) b c hb hc ∙ next-unheard x L n S r b c e

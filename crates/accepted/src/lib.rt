@@ -2,19 +2,19 @@
 ghost use mathlib.Core.Path.{_≡_};
 ghost use mathlib.Core.Bool.{true};
 ghost use mathlib.Core.List.{List};
-ghost use Prim.Native.Nat.{ℕ, _+_, _^_, _≤_};
+ghost use Prim.Native.Nat.{ℕ, _+_, _^_, _<_, _≤_};
 ghost use lib.ListN.{length};
-ghost use Rattle.record.specs.Record.{recordOk};
+ghost use Rattle.words.specs.Bits.{bit};
+ghost use Rattle.record.specs.Record.{maxRounds, recordOk};
 ghost use Rattle.sheet.specs.Reading.{ruleSheet, Usable};
-ghost use Rattle.pairs.specs.Storage.{stored};
+ghost use Rattle.pairs.specs.Storage.{storageWords, live, reached};
 ghost use Rattle.lanes.specs.Coded.{Coded, sheetOf};
 ghost use Rattle.rounds.specs.Rows.{among};
 ghost use Rattle.rounds.specs.Round.{Rounded};
-ghost use Rattle.checks.specs.Checks.{given};
-ghost use Rattle.checks.specs.Ready.{RoundReady, ClosingReady};
 ghost use Rattle.accepted.specs.Results.{nextSet, Prepared, RoundDone, ClosingDone, Shares};
 use record::JournalRecord;
 use refusal::Outcome;
+use refusal::Told;
 use sheet::Sheet;
 
 // What preparation answers: a fresh record and the number of live pairs; where it is refused, 0 of them.
@@ -24,25 +24,25 @@ pub struct PrepareAnswer {
     pub live: u32,
 }
 
-// What a round answers: the record after it and each output's verdict, by its number. Where it is refused, the record is the one handed
-// in and the verdicts are 0; so are those of outputs that the sheet doesn't have.
+// What a round answers: the record after it and each output's verdict. Where it is refused, the record is the one handed in and the
+// verdicts are false; so are those of outputs that the sheet doesn't have.
 pub struct RoundAnswer {
     pub outcome: Outcome,
     pub record: JournalRecord,
-    pub verdicts: [u8; 7],
+    pub verdicts: [Told; 7],
 }
 
 // What a closing answers: the same for a journal that ends here, its record closed, with each output's share.
 pub struct ClosingAnswer {
     pub outcome: Outcome,
     pub record: JournalRecord,
-    pub verdicts: [u8; 7],
+    pub verdicts: [Told; 7],
     pub shares: [u32; 7],
 }
 
 // The live pairs and their number.
 pub fn preparation(x: Sheet, storage: &mut [u64]) -> PrepareAnswer
-    requires { ⌜ Usable x × (3084 ≤ length (now storage)) ⌝ }
+    requires { ⌜ Usable x × (storageWords ≤ length (now storage)) ⌝ }
     ensures { λ a. ⌜ (a .outcome ≡ Outcome.Accepted) × Prepared (ruleSheet x) (now (storage .entry)) (now (storage .exit)) a ⌝ }
 {
     let code = x.code;
@@ -63,7 +63,7 @@ pub fn preparation(x: Sheet, storage: &mut [u64]) -> PrepareAnswer
     }
 }
 
-// One step of the reached set; the first round is known by the record's rounds.
+// One step of the reached set: in the first round, known by the record's rounds, from the live set, and later from the set before.
 fn step<'a>(
     storage: &mut [u64],
     code: &'a [u8],
@@ -74,27 +74,29 @@ fn step<'a>(
     letters: u64,
 )
     requires { ⌜ Coded m n (now code) (now len) ⌝ }
-    requires { ⌜ 3084 ≤ length (now storage) ⌝ }
-    ensures { λ r. ⌜ ((ks : List ℕ) → Rounded (2 ^ (m + n)) (now (storage .entry)) (now (storage .exit)) (nextSet (sheetOf m n (now (code .entry)) (now (len .entry)) ks) (stored (now (storage .entry)) 0) rounds (stored (now (storage .entry)) 1028) (among letters))) ⌝ }
+    requires { ⌜ storageWords ≤ length (now storage) ⌝ }
+    ensures { λ r. ⌜ ((ks : List ℕ) → Rounded (2 ^ (m + n)) (now (storage .entry)) (now (storage .exit)) (nextSet (sheetOf m n (now (code .entry)) (now (len .entry)) ks) (live (now (storage .entry))) rounds (reached (now (storage .entry))) (among letters))) ⌝ }
 {
     if rounds == 0 {
         rounds::first_round(storage, code, len, m, n, letters);
         return;
     }
-    rounds::later_round(storage, code, len, m, n, letters);
+    if 0 < rounds {
+        rounds::later_round(storage, code, len, m, n, letters);
+    }
 }
 
-// The step, each output's verdict and its count.
-pub fn round(x: Sheet, storage: &mut [u64], r: JournalRecord, known: u8, value: u8) -> RoundAnswer
-    requires { ⌜ Usable x × RoundReady (x .inputs) (x .outputs) (given (length (now storage)) r known value) ⌝ }
-    ensures { λ a. ⌜ (a .outcome ≡ Outcome.Accepted) × RoundDone (ruleSheet x) (now (storage .entry)) (now (storage .exit)) r known value a ⌝ }
+// The step, each output's verdict and its count. The round's letter is one of the set: bit l of the word is letter l.
+pub fn round(x: Sheet, storage: &mut [u64], r: JournalRecord, letters: u64) -> RoundAnswer
+    requires { ⌜ Usable x × (storageWords ≤ length (now storage)) × (recordOk (x .outputs) r ≡ true) × (r .rounds < maxRounds) ⌝ }
+    ensures { λ a. ⌜ (a .outcome ≡ Outcome.Accepted) × RoundDone (ruleSheet x) (now (storage .entry)) (now (storage .exit)) r (λ l. bit l letters) a ⌝ }
 {
     let m = x.inputs as usize;
     let n = x.outputs as usize;
-    let letters = letters::letters_of(known, value);
-    step(storage, &x.code, &x.len, m, n, r.rounds, letters);
-    let verdicts = verdicts::round_verdicts(storage, m, n, letters);
-    let next = record::with_round(r, n, &verdicts);
+    let heard = letters::repeated(letters, m);
+    step(storage, &x.code, &x.len, m, n, r.rounds, heard);
+    let verdicts = verdicts::round_verdicts(storage, m, n, heard);
+    let next = record::with_round(r, n, verdicts);
     RoundAnswer {
         outcome: Outcome::Accepted,
         record: next,
@@ -120,7 +122,7 @@ fn shares(r: JournalRecord, n: usize) -> [u32; 7]
 
 // The verdicts over the pairs that end here, and the shares.
 pub fn closing(x: Sheet, storage: &[u64], r: JournalRecord) -> ClosingAnswer
-    requires { ⌜ Usable x × ClosingReady (x .outputs) (given (length (now storage)) r 0 0) ⌝ }
+    requires { ⌜ Usable x × (storageWords ≤ length (now storage)) × (recordOk (x .outputs) r ≡ true) × (1 ≤ r .rounds) ⌝ }
     ensures { λ a. ⌜ (a .outcome ≡ Outcome.Accepted) × ClosingDone (ruleSheet x) (now (storage .entry)) r a ⌝ }
 {
     let m = x.inputs as usize;

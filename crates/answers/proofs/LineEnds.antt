@@ -1,11 +1,10 @@
 -- What the end of a line writes.
-use mathlib.Core.Path.{_≡_, sym, ap, _∙_, subst}
+use mathlib.Core.Path.{_≡_, refl, sym, ap, _∙_, subst}
 use mathlib.Core.Bool.{Bool, true, false, cond}
 use mathlib.Core.List.{List, [], _∷_, _++_}
 use Prim.Native.Nat.{ℕ, zero, suc, _+_, _≤_, _<_}
 use native.Mathlib.Omega.{arith}
-use native.Mathlib.Nat.{zero-add}
-use lib.ListN.{getD}
+use lib.ListN.{getD, take}
 use Rattle.refusal.specs.declared.Refusal.{Refusal}
 use Rattle.refusal.specs.declared.Refusal.the-variants.{Closed, Line}
 use Rattle.refusal.specs.declared.Verdict.{Verdict}
@@ -16,19 +15,20 @@ use Rattle.text.specs.Text.{verdictLine, tallyLines, closingText, lineRefusal}
 use Rattle.text.specs.Wrote.{Wrote}
 use Rattle.text.proofs.TallyLaws.{tally-lines-same}
 use Rattle.claims.specs.Book.{Call, closing, refused, verdicts, closed, Book, counted}
-use Rattle.claims.specs.Session.{Held, numberList}
+use Rattle.claims.specs.Session.{Held, held}
 use Rattle.pending.specs.Lines.{calls, malformed, readLine}
 use Rattle.answers.specs.Printed.{nextLine, malformedRule, passed, rounded, shut, turnedDown, unread}
-use Rattle.answers.specs.LineEnd.{held, Serves, Answered, LineEnded, room, due}
+use Rattle.answers.specs.LineEnd.{Serves, Answered, LineEnded, room, due}
 use Rattle.answers.specs.declared.Ended.{Ended}
 use Rattle.answers.proofs.Serving.{serves-matches}
 
 -- ---- the text of a closing
 
-numbers-at : (xs : List ℕ) (k n i : ℕ) → i < n → getD (numberList xs k n) i 0 ≡ getD xs (k + i) 0
-numbers-at xs k zero i h = absurd (omega arith)
-numbers-at xs k (suc n) zero h = ap (λ (z : ℕ). getD xs z 0) (omega arith)
-numbers-at xs k (suc n) (suc i) h = numbers-at xs (suc k) n i (omega arith) ∙ ap (λ (z : ℕ). getD xs z 0) (omega arith)
+take-at : (xs : List ℕ) (n i : ℕ) → i < n → getD (take n xs) i 0 ≡ getD xs i 0
+take-at xs zero i h = absurd (omega arith)
+take-at [] (suc n) i h = refl
+take-at (x ∷ xs) (suc n) zero h = refl
+take-at (x ∷ xs) (suc n) (suc i) h = take-at xs n i (omega arith)
 
 -- ---- the end of a line
 
@@ -54,17 +54,17 @@ module _ (sheet : List ℕ) (x : RuleSheet) (b : Book) (line : ℕ) (part d : Li
     round-ends c vs l a w = record { text = verdictLine vs; wrote = w; ends = rw (o, n) (record { book = a .book; serves = a .serves; onward = λ ls u f. rounded l (a .step) f }) }
 
     pub closing-ends : (m : ℕ) (vs : List Verdict) (counts shares : List ℕ) → outputs x ≡ m → counts ≡ r .record .counts → readLine (x .inputs) part ≡ calls closing
-        → Answered sheet x b closing (closed vs (numberList shares 0 m)) (held t (r .record))
+        → Answered sheet x b closing (closed vs (take m shares)) (held t (r .record))
         → Wrote d at (closingText m vs (countAt counts) shares) e (r .at) → LineEnded sheet x b line part d at e t r
     closing-ends m vs counts shares f g l a w =
-        let xs : List ℕ = numberList shares 0 m in
+        let xs : List ℕ = take m shares in
         let tally : ℕ → Verdict → ℕ = counted (a .book .told) in
         let ma = serves-matches sheet x (a .book) (held t (r .record)) (a .serves) in
         let same : tallyLines (countAt counts) shares 0 m ≡ tallyLines tally xs 0 (outputs x) =
         tally-lines-same (countAt counts) tally shares xs 0 m
         (λ j z i. (
           λ v. ap (λ (c : List ℕ). countAt c j v) g ∙ ma .counts j v (omega (arith, f)),
-          sym (numbers-at shares 0 m j (omega arith) ∙ ap (λ (y : ℕ). getD shares y 0) (zero-add j)),
+          sym (take-at shares m j (omega arith)),
         ))
         ∙ ap (tallyLines tally xs 0) (sym f) in
         record {

@@ -1,43 +1,37 @@
 -- What is held after a call is answered as the book answers it, too.
 use mathlib.Core.Path.{_≡_, refl, sym, _∙_, subst}
-use mathlib.Core.Bool.{Bool, true, false, true≢false}
-use mathlib.Core.List.{List, [], _∷_, List·Memᴰ·head, List·Memᴰ·tail}
+use mathlib.Core.Bool.{true, false}
+use mathlib.Core.Logic.{inr}
+use mathlib.Core.List.{List, [], _∷_}
 use Prim.Native.Nat.{ℕ, _≤_}
+use native.Mathlib.Omega.{arith}
 use lib.ListN.{length}
 use Rattle.refusal.specs.Decided.{Decided}
 use Rattle.refusal.specs.declared.Outcome.{Outcome}
 use Rattle.refusal.specs.declared.Outcome.the-variants.{Accepted, Refused}
-use Rattle.refusal.proofs.Decisions.{decided-once}
-use Rattle.sheet.specs.RuleSheet.{RuleSheet, outputs, accepted, readSheet}
+use Rattle.refusal.proofs.Decisions.{decided-once, decided-accepted, passed-both}
+use Rattle.sheet.specs.RuleSheet.{RuleSheet, accepted, readSheet}
 use Rattle.sheet.specs.Checks.{outputsOf}
-use Rattle.sheet.specs.Reading.{ruleSheet, Usable, whenAccepted}
+use Rattle.sheet.specs.Reading.{ruleSheet, whenAccepted}
 use Rattle.sheet.specs.declared.Sheet.{Sheet}
 use Rattle.sheet.proofs.Formed.{counts-of}
-use Rattle.form.specs.Form.{formOf}
-use Rattle.form.proofs.FormLaws.{usable-form}
+use Rattle.circular.specs.Checks.{sheetChecks, AcceptedSheet}
 use Rattle.record.specs.declared.JournalRecord.{JournalRecord}
-use Rattle.checks.specs.Checks.{given, Given, callRule, CallBroken, closed, closingChecks, prepareChecks, Broken, rule, entryChecks}
-use Rattle.checks.proofs.Checking.{past-storage, none-left}
-use Rattle.accepted.specs.Results.{Prepared, RoundDone, ClosingDone}
+use Rattle.pairs.specs.Storage.{storageWords}
+use Rattle.checks.specs.Checks.{tooShort, closingRules, prepareChecks, closingChecks}
+use Rattle.checks.proofs.Checking.{closing-ready}
 use Rattle.accepted.specs.declared.PrepareAnswer.{PrepareAnswer}
 use Rattle.accepted.specs.declared.RoundAnswer.{RoundAnswer}
 use Rattle.accepted.specs.declared.ClosingAnswer.{ClosingAnswer}
 use Rattle.accepted.proofs.Rounding.{sheet-outputs}
-use Rattle.monitor.specs.Entries.{OfSheet, AfterForm, PrepareResult, RoundResult, ClosingResult}
-use Rattle.monitor.proofs.Entries.{sheet-accepted}
+use Rattle.monitor.specs.Entries.{PrepareCall, Rounds, RoundCall, Closes, CloseCall}
 use Rattle.claims.specs.Book.{Call, round, closing, Answer, Book, emptyBook, BookStep, BookRun}
 use Rattle.claims.specs.Book as book
-use Rattle.claims.specs.Session.{Held, roundSays, closingSays, SessionStep, a-round, a-closing, Matches}
+use Rattle.claims.specs.Session.{Held, held, roundSays, closingSays, SessionStep, a-round, a-closing, Matches}
 use Rattle.claims.specs.Session as session
-use Rattle.claims.specs.ReadSheet.{Accepts, PreparedRead, RoundRead, ClosingRead}
-use Rattle.claims.proofs.ReadSheet.{prepared-bytes, round-bytes, closing-bytes}
 use Rattle.claims.proofs.BookLaws.{step-unique}
 use Rattle.claims.proofs.ThirdDemand.{third-demand}
-use Rattle.answers.specs.LineEnd.{held, Serves, Answered}
-
--- of a sheet that can be used, the form is right
-pub after-form : (x : Sheet) → Usable x → (Call : Outcome → Type 0) (o : Outcome) → Call o → AfterForm (formOf x) Call o
-after-form x u Call o d = subst (λ (f : Outcome). AfterForm f Call o) (sym (usable-form x u)) d
+use Rattle.answers.specs.LineEnd.{Serves, Answered}
 
 -- ---- runs of the book
 
@@ -50,8 +44,8 @@ module _ (x : RuleSheet) where
 
 module _ (sheet : List ℕ) (x : RuleSheet) (b : Book) (h : Held) (sv : Serves sheet x b h) where
   -- the record is the book's
-  pub serves-matches : Matches x b (h .journal)
-  serves-matches = let w = sv [] [] h session.finish in subst (λ (z : Book). Matches x z (h .journal)) (none-left-over x (w .1)) (w .2)
+  pub serves-matches : Matches x b (h .record)
+  serves-matches = let w = sv [] [] h session.finish in subst (λ (z : Book). Matches x z (h .record)) (none-left-over x (w .1)) (w .2)
 
   -- one call
   pub serves-step : (k : Held) (c : Call) (a : Answer) → SessionStep sheet h c a k → Answered sheet x b c a k
@@ -66,62 +60,49 @@ module _ (sheet : List ℕ) (x : RuleSheet) (b : Book) (h : Held) (sv : Serves s
             (w .0, subst (λ (z : Book). BookRun x z cs as′ (w .0)) (step-unique x b (f .1) (o .1) .1) (f .2), w .2);
       }
 
--- ---- the monitor's contracts as calls of a session
+-- ---- the monitor's calls as calls of a session
 
-module _ (sheet : List ℕ) (x : Sheet) (o : Accepts sheet x) where
+module _ (sheet : List ℕ) (x : Sheet) (o : AcceptedSheet sheet x) where
   same-outputs : outputsOf sheet ≡ x .outputs
-  same-outputs = sym (counts-of sheet (ruleSheet x) (o .read .reads) .1) ∙ sheet-outputs x
+  same-outputs = sym (counts-of sheet (ruleSheet x) (o .reads) .1) ∙ sheet-outputs x
 
-  pub round-step : (s t : List ℕ) (r : JournalRecord) (known val : ℕ) (a : RoundAnswer) → RoundRead x s t r known val a
+  pub round-step : (s t : List ℕ) (r : JournalRecord) (known val : ℕ) (a : RoundAnswer) → RoundCall sheet s t r known val a
       → SessionStep sheet (held s r) (round known val) (roundSays (x .outputs) a (a .outcome)) (held t (a .record))
-  round-step s t r known val a d =
-      let z = round-bytes sheet x o s t r known val a d in
-      subst (λ (n : ℕ). SessionStep sheet (held s r) (round known val) (roundSays n a (a .outcome)) (held t (a .record))) same-outputs (a-round a (z .0) (z .1))
+  round-step s t r known val a d = subst (λ (n : ℕ). SessionStep sheet (held s r) (round known val) (roundSays n a (a .outcome)) (held t (a .record))) same-outputs (a-round a d)
 
-  pub closing-step : (s : List ℕ) (r : JournalRecord) (a : ClosingAnswer) → ClosingRead x s r a
+  pub closing-step : (s : List ℕ) (r : JournalRecord) (a : ClosingAnswer) → CloseCall sheet s r a
       → SessionStep sheet (held s r) closing (closingSays (x .outputs) a (a .outcome)) (held s (a .record))
-  closing-step s r a d =
-      let z = closing-bytes sheet x o s r a d in
-      subst (λ (n : ℕ). SessionStep sheet (held s r) closing (closingSays n a (a .outcome)) (held s (a .record))) same-outputs (a-closing a (z .0) (z .1))
+  closing-step s r a d = subst (λ (n : ℕ). SessionStep sheet (held s r) closing (closingSays n a (a .outcome)) (held s (a .record))) same-outputs (a-closing a d)
 
   same-sheet : (y : RuleSheet) → readSheet sheet ≡ accepted y → y ≡ ruleSheet x
-  same-sheet y e = let z : accepted y ≡ accepted (ruleSheet x) = sym e ∙ o .read .reads in cc
+  same-sheet y e = let z : accepted y ≡ accepted (ruleSheet x) = sym e ∙ o .reads in cc
 
   -- storage that was prepared
-  pub serves-prepared : (s t : List ℕ) (p : PrepareAnswer) → 3084 ≤ length s → PreparedRead x s t p → Serves sheet (ruleSheet x) emptyBook (held t (p .record))
+  pub serves-prepared : (s t : List ℕ) (p : PrepareAnswer) → storageWords ≤ length s → PrepareCall sheet s t p → Serves sheet (ruleSheet x) emptyBook (held t (p .record))
   serves-prepared s t p l d cs as′ k ss =
-      let g = given (length s) (p .record) 0 0 in
-      let w = prepared-bytes sheet x o s t p d in
-      let fits : Decided (Broken sheet g) rule (entryChecks sheet prepareChecks) Accepted =
-      sheet-accepted sheet g x (o .read) (o .decided) prepareChecks Accepted (past-storage (x .inputs) (x .outputs) g [] Accepted l (none-left (x .inputs) (x .outputs) g)) in
-      let e : p .outcome ≡ Accepted = decided-once (Broken sheet g) rule (entryChecks sheet prepareChecks) (p .outcome) Accepted (w .0 (p .record)) fits in
-      let z = third-demand sheet s t (p .record) p fits (subst (PrepareResult (OfSheet sheet (λ (y : RuleSheet). Prepared y s t p)) s t p) e (w .1)) cs as′ k ss in
-      subst (λ (y : RuleSheet). (b : Book) × BookRun y emptyBook cs as′ b × Matches y b (k .journal)) (same-sheet (z .0) (z .1)) (z .2, z .3, z .4)
+      let fits : Decided (prepareChecks sheet (length s)) Accepted = decided-accepted (sheetChecks sheet) (tooShort (length s) ∷ []) Accepted (o .decided) (inr ((λ h. omega arith), refl)) in
+      let e : p .outcome ≡ Accepted = decided-once (prepareChecks sheet (length s)) (p .outcome) Accepted (d .decided) fits in
+      let z = third-demand sheet s t p d e cs as′ k ss in
+      subst (λ (y : RuleSheet). (b : Book) × BookRun y emptyBook cs as′ b × Matches y b (k .record)) (same-sheet (z .0) (z .1)) (z .2)
 
 -- ---- what an accepted answer says
 
-pub round-kept : (x : Sheet) (s t : List ℕ) (r : JournalRecord) (known val : ℕ) (a : RoundAnswer) → RoundRead x s t r known val a
-    → whenAccepted (a .outcome) ((a .record .closed ≡ r .closed) × (length (a .verdicts) ≡ 7))
-round-kept x s t r known val a (d, z) = go (a .outcome) z
+pub round-kept : (sheet s t : List ℕ) (r : JournalRecord) (known val : ℕ) (a : RoundAnswer) → RoundCall sheet s t r known val a
+    → whenAccepted (a .outcome) (a .record .closed ≡ r .closed)
+round-kept sheet s t r known val a d = go (a .outcome) (d .result)
   where
-    go : (o : Outcome) → RoundResult (RoundDone (ruleSheet x) s t r known val a) s t r a o → whenAccepted o ((a .record .closed ≡ r .closed) × (length (a .verdicts) ≡ 7))
-    go Accepted w = (w .closed, w .verdicts .size)
+    go : (o : Outcome) → Rounds sheet s t r known val a o → whenAccepted o (a .record .closed ≡ r .closed)
+    go Accepted w = w .2 .closed
     go (Refused e) w = tt
 
 -- a closing that is accepted found the journal open
-open-before : (x : Sheet) (g : Given) (f : Outcome) → AfterForm f (Decided (CallBroken (x .inputs) (x .outputs) g) callRule closingChecks) Accepted → g .before .closed ≡ false
-open-before x g Accepted h = go (g .before .closed) refl
+pub closing-kept : (sheet s : List ℕ) (r : JournalRecord) (a : ClosingAnswer) → CloseCall sheet s r a
+    → whenAccepted (a .outcome) ((r .closed ≡ false) × (a .record .closed ≡ true) × (a .record .counts ≡ r .counts) × (length (a .shares) ≡ 7))
+closing-kept sheet s r a d = go (a .outcome) (d .decided) (d .result)
   where
-    go : (t : Bool) → g .before .closed ≡ t → g .before .closed ≡ false
-    go true e = absurd (h closed (List·Memᴰ·tail (List·Memᴰ·tail (List·Memᴰ·head refl))) e)
-    go false e = e
-open-before x g (Refused e) h = absurd (true≢false cc)
-
-pub closing-kept : (x : Sheet) (s : List ℕ) (r : JournalRecord) (a : ClosingAnswer) → ClosingRead x s r a
-    → whenAccepted (a .outcome) ((r .closed ≡ false) × (a .record .closed ≡ true) × (a .record .counts ≡ r .counts) × (length (a .verdicts) ≡ 7) × (length (a .shares) ≡ 7))
-closing-kept x s r a (d, z) = go (a .outcome) d z
-  where
-    go : (o : Outcome) → AfterForm (formOf x) (Decided (CallBroken (x .inputs) (x .outputs) (given (length s) r 0 0)) callRule closingChecks) o → ClosingResult (ClosingDone (ruleSheet x) s r a) r a o
-        → whenAccepted o ((r .closed ≡ false) × (a .record .closed ≡ true) × (a .record .counts ≡ r .counts) × (length (a .verdicts) ≡ 7) × (length (a .shares) ≡ 7))
-    go Accepted h w = (open-before x (given (length s) r 0 0) (formOf x) h, w .closed, w .counts, w .verdicts .size, w .shares .size)
+    go : (o : Outcome) → Decided (closingChecks sheet (length s) r) o → Closes sheet s r a o
+        → whenAccepted o ((r .closed ≡ false) × (a .record .closed ≡ true) × (a .record .counts ≡ r .counts) × (length (a .shares) ≡ 7))
+    go Accepted h w =
+        let y = closing-ready (outputsOf sheet) (length s) r (passed-both (sheetChecks sheet) (closingRules (outputsOf sheet) (length s) r) h .1) in
+        (y .shut, w .2 .closed, w .2 .counts, w .2 .shares .size)
     go (Refused e) h w = tt

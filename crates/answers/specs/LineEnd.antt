@@ -3,19 +3,15 @@ use mathlib.Core.Bool.{Bool, true, false, cond}
 use mathlib.Core.List.{List, _∷_, _++_}
 use Prim.Native.Nat.{ℕ}
 use Rattle.sheet.specs.RuleSheet.{RuleSheet}
-use Rattle.record.specs.declared.JournalRecord.{JournalRecord}
 use Rattle.text.specs.Wrote.{Wrote}
 use Rattle.claims.specs.Book.{Call, Answer, Book, BookStep, BookRun}
-use Rattle.claims.specs.Session.{Held, Session, Matches}
+use Rattle.claims.specs.Session.{Held, held, Session, Matches}
 use Rattle.answers.specs.Printed.{Written}
 use Rattle.answers.specs.declared.Ended.{Ended}
 
-abbrev pub held : List ℕ → JournalRecord → Held
-held t r = record { storage = t; journal = r }
-
 -- from what is held on, every list of calls is answered as the book b answers it
 abbrev pub Serves : List ℕ → RuleSheet → Book → Held → Type 0
-Serves sheet x b h = (cs : List Call) (as′ : List Answer) (k : Held) → Session sheet h cs as′ k → (d : Book) × BookRun x b cs as′ d × Matches x d (k .journal)
+Serves sheet x b h = (cs : List Call) (as′ : List Answer) (k : Held) → Session sheet h cs as′ k → (d : Book) × BookRun x b cs as′ d × Matches x d (k .record)
 
 -- a call with the book b, its answer, and what is held after it
 pub record Answered (sheet : List ℕ) (x : RuleSheet) (b : Book) (c : Call) (a : Answer) (h : Held) : Type 0 where

@@ -11,7 +11,7 @@ use Rattle.refusal.specs.declared.Refusal.the-variants.{Closed, Line}
 use Rattle.refusal.specs.declared.Outcome.the-variants.{Accepted, Refused}
 use Rattle.refusal.specs.declared.Verdict.{Verdict}
 use Rattle.sheet.specs.RuleSheet.{RuleSheet, outputs, accepted, readSheet}
-use Rattle.circular.specs.Checks as sheets
+use Rattle.circular.specs.Checks.{sheetChecks}
 use Rattle.text.specs.Text.{verdictLine, closingText, lineRefusal, sheetRefusal}
 use Rattle.claims.specs.Book.{Call, refused, verdicts, closed, Book, emptyBook, counted, BookStep}
 use Rattle.pending.specs.Lines.{calls, malformed, readLine, linesOf}
@@ -38,6 +38,6 @@ pub data Written (x : RuleSheet) : Book → ℕ → List (List ℕ) → List ℕ
 
 -- What is written for the bytes of a sheet and all bytes of standard input.
 pub data Printed (sheet input : List ℕ) : List ℕ → Type 0 where
-  refusedSheet : {r : Refusal} → Decided (sheets.Broken sheet) sheets.rule (sheets.checksOf sheet) (Refused r) → Printed sheet input (sheetRefusal r)
-  journal : {x : RuleSheet} {t : List ℕ} → Decided (sheets.Broken sheet) sheets.rule (sheets.checksOf sheet) Accepted → readSheet sheet ≡ accepted x
+  refusedSheet : (r : Refusal) → Decided (sheetChecks sheet) (Refused r) → Printed sheet input (sheetRefusal r)
+  journal : {x : RuleSheet} {t : List ℕ} → Decided (sheetChecks sheet) Accepted → readSheet sheet ≡ accepted x
       → Written x emptyBook 1 (linesOf input) t → Printed sheet input t

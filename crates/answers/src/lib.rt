@@ -5,18 +5,19 @@ ghost use mathlib.Core.List.{List};
 ghost use Prim.Native.Nat.{ℕ, _+_, _≤_, _<_};
 ghost use lib.ListN.{length};
 ghost use Rattle.refusal.specs.declared.Refusal.the-variants.{Closed, Line};
-ghost use Rattle.sheet.specs.Reading.{ruleSheet, Usable, whenAccepted};
+ghost use Rattle.sheet.specs.Reading.{ruleSheet, whenAccepted};
+ghost use Rattle.circular.specs.Checks.{AcceptedSheet, IsAccepted};
 ghost use Rattle.claims.specs.Book.{Book, round, closing};
-ghost use Rattle.claims.specs.Session.{roundSays, closingSays};
-ghost use Rattle.claims.specs.ReadSheet.{Accepts};
+ghost use Rattle.claims.specs.Session.{held, roundSays, closingSays};
 ghost use Rattle.text.specs.Text.{lineRefusal};
 ghost use Rattle.text.specs.Wrote.{Wrote};
 ghost use Rattle.pending.specs.Lines.{calls, readLine};
+ghost use Rattle.pending.specs.Scan.{Marked, Scanned};
 ghost use Rattle.answers.specs.Printed.{nextLine};
-ghost use Rattle.pending.specs.Scan.{Scanned};
-ghost use Rattle.answers.specs.LineEnd.{held, Serves, Answered, LineEnded, room, due};
+ghost use Rattle.answers.specs.LineEnd.{Serves, Answered, LineEnded, room, due};
 use accepted::ClosingAnswer;
 use accepted::RoundAnswer;
+use pending::Masks;
 use pending::Pending;
 use record::JournalRecord;
 use refusal::Outcome;
@@ -58,18 +59,19 @@ fn answer_round(
     known: u8,
     value: u8,
 ) -> RoundAnswer
-    requires { ⌜ Usable x ⌝ }
-    ensures by_the_book { λ a. ⌜ ((sheet : List ℕ) (b : Book) → Accepts sheet x → Serves sheet (ruleSheet x) b (held (now (storage .entry)) r) → Answered sheet (ruleSheet x) b (round known value) (roundSays (x .outputs) a (a .outcome)) (held (now (storage .exit)) (a .record))) ⌝ }
-    ensures done { λ a. ⌜ whenAccepted (a .outcome) ((a .record .closed ≡ r .closed) × (length (a .verdicts) ≡ 7)) ⌝ }
+    requires { ⌜ IsAccepted x ⌝ }
+    ensures by_the_book { λ a. ⌜ ((sheet : List ℕ) (b : Book) → AcceptedSheet sheet x → Serves sheet (ruleSheet x) b (held (now (storage .entry)) r) → Answered sheet (ruleSheet x) b (round known value) (roundSays (x .outputs) a (a .outcome)) (held (now (storage .exit)) (a .record))) ⌝ }
+    ensures done { λ a. ⌜ whenAccepted (a .outcome) (a .record .closed ≡ r .closed) ⌝ }
 {
     monitor::round_on(x, storage, r, known, value)
 }
 
 fn answer_closing(x: Sheet, storage: &[u64], r: JournalRecord) -> ClosingAnswer
-    ensures by_the_book { λ a. ⌜ ((sheet : List ℕ) (b : Book) → Accepts sheet x → Serves sheet (ruleSheet x) b (held (now (storage .entry)) r) → Answered sheet (ruleSheet x) b closing (closingSays (x .outputs) a (a .outcome)) (held (now (storage .entry)) (a .record))) ⌝ }
-    ensures done { λ a. ⌜ whenAccepted (a .outcome) ((r .closed ≡ false) × (a .record .closed ≡ true) × (a .record .counts ≡ r .counts) × (length (a .verdicts) ≡ 7) × (length (a .shares) ≡ 7)) ⌝ }
+    requires { ⌜ IsAccepted x ⌝ }
+    ensures by_the_book { λ a. ⌜ ((sheet : List ℕ) (b : Book) → AcceptedSheet sheet x → Serves sheet (ruleSheet x) b (held (now (storage .entry)) r) → Answered sheet (ruleSheet x) b closing (closingSays (x .outputs) a (a .outcome)) (held (now (storage .entry)) (a .record))) ⌝ }
+    ensures done { λ a. ⌜ whenAccepted (a .outcome) ((r .closed ≡ false) × (a .record .closed ≡ true) × (a .record .counts ≡ r .counts) × (length (a .shares) ≡ 7)) ⌝ }
 {
-    monitor::close_read(x, storage, r)
+    monitor::close_on(x, storage, r)
 }
 
 // A line that stands for a round.
@@ -77,24 +79,23 @@ fn round_line(
     x: Sheet,
     line: u64,
     journal: JournalRecord,
-    known: u8,
-    value: u8,
+    heard: Masks,
     storage: &mut [u64],
     out: &mut [u8],
     at: usize,
 ) -> Ended
-    requires { ⌜ Usable x × (at + room (journal .closed) + 8 ≤ length (now out)) ⌝ }
-    ensures ended { λ r. ⌜ ((sheet : List ℕ) (b : Book) (part : List ℕ) → Accepts sheet x → Serves sheet (ruleSheet x) b (held (now (storage .entry)) journal) → readLine (x .inputs) part ≡ calls (round known value) → LineEnded sheet (ruleSheet x) b line part (now (out .entry)) at (now (out .exit)) (now (storage .exit)) r) ⌝ }
+    requires { ⌜ IsAccepted x × (at + room (journal .closed) + 8 ≤ length (now out)) ⌝ }
+    ensures ended { λ r. ⌜ ((sheet : List ℕ) (b : Book) (part : List ℕ) → AcceptedSheet sheet x → Serves sheet (ruleSheet x) b (held (now (storage .entry)) journal) → readLine (x .inputs) part ≡ calls (round (heard .known) (heard .value)) → LineEnded sheet (ruleSheet x) b line part (now (out .entry)) at (now (out .exit)) (now (storage .exit)) r) ⌝ }
     ensures bound { λ r. ⌜ r .at + due (r .over) (r .record .closed) ≤ at + room (journal .closed) + 8 ⌝ }
 {
-    let a = answer_round(x, storage, journal, known, value);
+    let a = answer_round(x, storage, journal, heard.known, heard.value);
     let outcome = a.outcome;
     match outcome {
         Outcome::Refused(e) => refused_line(e, line, journal, out, at),
         Outcome::Accepted => {
             let verdicts = a.verdicts;
             let next = a.record;
-            let to = text::verdict_line(out, at, &verdicts, x.outputs as usize);
+            let to = text::verdict_line(out, at, verdicts, x.outputs as usize);
             Ended {
                 over: false,
                 line: next_line(line),
@@ -114,8 +115,8 @@ fn closing_line(
     out: &mut [u8],
     at: usize,
 ) -> Ended
-    requires { ⌜ Usable x × (at + room (journal .closed) + 8 ≤ length (now out)) ⌝ }
-    ensures ended { λ r. ⌜ ((sheet : List ℕ) (b : Book) (part : List ℕ) → Accepts sheet x → Serves sheet (ruleSheet x) b (held (now (storage .entry)) journal) → readLine (x .inputs) part ≡ calls closing → LineEnded sheet (ruleSheet x) b line part (now (out .entry)) at (now (out .exit)) (now (storage .entry)) r) ⌝ }
+    requires { ⌜ IsAccepted x × (at + room (journal .closed) + 8 ≤ length (now out)) ⌝ }
+    ensures ended { λ r. ⌜ ((sheet : List ℕ) (b : Book) (part : List ℕ) → AcceptedSheet sheet x → Serves sheet (ruleSheet x) b (held (now (storage .entry)) journal) → readLine (x .inputs) part ≡ calls closing → LineEnded sheet (ruleSheet x) b line part (now (out .entry)) at (now (out .exit)) (now (storage .entry)) r) ⌝ }
     ensures bound { λ r. ⌜ r .at + due (r .over) (r .record .closed) ≤ at + room (journal .closed) + 8 ⌝ }
 {
     let a = answer_closing(x, storage, journal);
@@ -127,7 +128,7 @@ fn closing_line(
             let shares = a.shares;
             let next = a.record;
             let counts = journal.counts;
-            let to = text::closing(out, at, &verdicts, &counts, &shares, x.outputs as usize);
+            let to = text::closing(out, at, verdicts, &counts, &shares, x.outputs as usize);
             Ended {
                 over: false,
                 line: next_line(line),
@@ -149,28 +150,21 @@ fn malformed_line(line: u64, journal: JournalRecord, out: &mut [u8], at: usize) 
     refused_line(Refusal::Line, line, journal, out, at)
 }
 
-// The line that has come is at its end.
-pub fn line_end(
+// A line of marks: blank, a round, or too short for one.
+fn marks_line(
     x: Sheet,
     line: u64,
     journal: JournalRecord,
-    pending: Pending,
+    marks: Masks,
     storage: &mut [u64],
     out: &mut [u8],
     at: usize,
 ) -> Ended
-    requires { ⌜ Usable x × (at + room (journal .closed) + 8 ≤ length (now out)) ⌝ }
-    ensures ended { λ r. ⌜ ((sheet : List ℕ) (b : Book) (part : List ℕ) → Accepts sheet x → Serves sheet (ruleSheet x) b (held (now (storage .entry)) journal) → Scanned (x .inputs) part pending → LineEnded sheet (ruleSheet x) b line part (now (out .entry)) at (now (out .exit)) (now (storage .exit)) r) ⌝ }
+    requires { ⌜ IsAccepted x × (at + room (journal .closed) + 8 ≤ length (now out)) ⌝ }
+    ensures ended { λ r. ⌜ ((sheet : List ℕ) (b : Book) (part : List ℕ) → AcceptedSheet sheet x → Serves sheet (ruleSheet x) b (held (now (storage .entry)) journal) → Marked (x .inputs) part marks → LineEnded sheet (ruleSheet x) b line part (now (out .entry)) at (now (out .exit)) (now (storage .exit)) r) ⌝ }
     ensures bound { λ r. ⌜ r .at + due (r .over) (r .record .closed) ≤ at + room (journal .closed) + 8 ⌝ }
 {
-    let kind = pending.kind;
-    let count = pending.count;
-    if kind == 1 {
-        return closing_line(x, line, journal, storage, out, at);
-    }
-    if kind != 0 {
-        return malformed_line(line, journal, out, at);
-    }
+    let count = marks.count;
     if count == 0 {
         return Ended {
             over: false,
@@ -182,7 +176,26 @@ pub fn line_end(
     if count != x.inputs {
         return malformed_line(line, journal, out, at);
     }
-    let known = pending.known;
-    let value = pending.value;
-    round_line(x, line, journal, known, value, storage, out, at)
+    round_line(x, line, journal, marks, storage, out, at)
+}
+
+// The line that has come is at its end.
+pub fn line_end(
+    x: Sheet,
+    line: u64,
+    journal: JournalRecord,
+    pending: Pending,
+    storage: &mut [u64],
+    out: &mut [u8],
+    at: usize,
+) -> Ended
+    requires { ⌜ IsAccepted x × (at + room (journal .closed) + 8 ≤ length (now out)) ⌝ }
+    ensures ended { λ r. ⌜ ((sheet : List ℕ) (b : Book) (part : List ℕ) → AcceptedSheet sheet x → Serves sheet (ruleSheet x) b (held (now (storage .entry)) journal) → Scanned (x .inputs) part pending → LineEnded sheet (ruleSheet x) b line part (now (out .entry)) at (now (out .exit)) (now (storage .exit)) r) ⌝ }
+    ensures bound { λ r. ⌜ r .at + due (r .over) (r .record .closed) ≤ at + room (journal .closed) + 8 ⌝ }
+{
+    match pending {
+        Pending::Marks(marks) => marks_line(x, line, journal, marks, storage, out, at),
+        Pending::Dot => closing_line(x, line, journal, storage, out, at),
+        Pending::Malformed => malformed_line(line, journal, out, at),
+    }
 }

@@ -1,22 +1,23 @@
 -- What a call leaves in its slices: verdicts, shares and the record as numbers.
-use mathlib.Core.Path.{_≡_, refl, sym, ap, ap₂, _∙_}
+use mathlib.Core.Path.{_≡_, refl, sym, ap, _∙_}
 use mathlib.Core.Bool.{Bool, true, false}
-use mathlib.Core.List.{List, _∷_, _++_, map, append-assoc}
-use Prim.Native.Nat.{ℕ, zero, suc, _+_, _≤_, _<_}
+use mathlib.Core.List.{List, _++_, map, append-assoc}
+use Prim.Native.Nat.{ℕ, _+_, _≤_, _<_}
 use native.Mathlib.Omega.{arith}
 use native.Mathlib.Nat.{zero-add}
-use lib.ListN.{length, getD, take, drop}
-use lib.Seq.{paste, length-paste, take-paste, drop-paste, take-at, drop-at, drop-cons, drop-drop, length-take-le}
-use Rattle.refusal.specs.Numbers.{refusalNo, outcomeNo, verdictNo, verdictAt, verdictList, Verdicts}
+use lib.Dec.{leb}
+use lib.ListN.{length, take, drop}
+use lib.Seq.{paste, length-paste, take-paste, drop-paste, take-at, drop-at, take-all, drop-drop, length-take-le}
+use Rattle.refusal.specs.Numbers.{refusalNo, outcomeNo, verdictNo, verdictList}
 use Rattle.refusal.specs.declared.Refusal.{Refusal}
 use Rattle.refusal.specs.declared.Refusal.the-variants.{Short, Mark, Version, Counts, Assumption, Length, Byte, Values, Leftover, Circular, Letter, Closed, Full, NoRound, Storage, Extent, Line, Record}
 use Rattle.refusal.specs.declared.Outcome.{Outcome}
 use Rattle.refusal.specs.declared.Outcome.the-variants.{Accepted, Refused}
-use Rattle.refusal.specs.declared.Verdict.{Verdict}
-use Rattle.refusal.proofs.NumberLaws.{verdict-back}
+use Rattle.refusal.specs.declared.Told.{Told}
+use Rattle.words.specs.Below.{one}
 use Rattle.record.specs.declared.JournalRecord.{JournalRecord}
-use Rattle.slices.specs.Slices.{recordOf, numbersOf}
-use Rattle.claims.specs.Session.{numberList}
+use Rattle.slices.specs.Slices.{recordOf, marked, numbersOf, verdictNumbers}
+use Rattle.slices.proofs.SliceLaws.{numbers-size}
 
 -- ---- numbers of outcomes
 
@@ -53,23 +54,18 @@ record-back r = go (r .closed) refl
     go true e = rw e
     go false e = rw e
 
--- ---- verdicts and shares as numbers
+-- its mark is 0 or 1
+pub mark-right : (r : JournalRecord) → marked (numbersOf r) ≡ true
+mark-right r = go (r .closed)
+  where
+    go : (b : Bool) → leb (one b) 1 ≡ true
+    go true = refl
+    go false = refl
 
-take-verdicts : (n k : ℕ) (f : ℕ → Verdict) (vs : List ℕ) → k + n ≤ length vs → ((i : ℕ) → i < k + n → getD vs i 0 ≡ verdictNo (f i))
-    → take n (drop k vs) ≡ map verdictNo (verdictList vs k n)
-take-verdicts zero k f vs h each = refl
-take-verdicts (suc n) k f vs h each =
-    rw (drop-cons vs k 0 (omega arith))
-    (ap₂ (λ (v : ℕ) (r : List ℕ). v ∷ r)
-    (each k (omega arith) ∙ sym (ap (λ (v : ℕ). verdictNo (verdictAt v)) (each k (omega arith)) ∙ ap verdictNo (verdict-back (f k))))
-    (take-verdicts n (suc k) f vs (omega arith) (λ i l. each i (omega arith))))
+-- ---- verdicts as numbers
 
-pub verdicts-shown : {n : ℕ} {f : ℕ → Verdict} (m : ℕ) (vs : List ℕ) → n ≡ m → m ≤ 7 → Verdicts n f vs → take m vs ≡ map verdictNo (verdictList vs 0 m)
-verdicts-shown {f = f} m vs e h v = take-verdicts m 0 f vs (omega (arith, v .size)) (λ i l. v .each i (omega arith))
-
-pub take-numbers : (n k : ℕ) (xs : List ℕ) → k + n ≤ length xs → take n (drop k xs) ≡ numberList xs k n
-take-numbers zero k xs h = refl
-take-numbers (suc n) k xs h = rw (drop-cons xs k 0 (omega arith)) (ap (λ (r : List ℕ). getD xs k 0 ∷ r) (take-numbers n (suc k) xs (omega arith)))
+pub numbers-all : (vs : List Told) (n : ℕ) → n ≤ length vs → take n (verdictNumbers vs n) ≡ map verdictNo (verdictList vs n)
+numbers-all vs n h = take-all n (verdictNumbers vs n) (omega (arith, numbers-size vs n h))
 
 -- ---- n numbers at the front, and n behind them
 

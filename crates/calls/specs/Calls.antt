@@ -6,7 +6,8 @@ use mathlib.Core.List.{List, [], _∷_, map}
 use Prim.Native.Nat.{ℕ, _+_, _≤_, _<_}
 use lib.ListN.{length, take, drop}
 use Rattle.refusal.specs.Numbers.{refusalNo, verdictNo}
-use Rattle.sheet.specs.RuleSheet.{RuleSheet, outputs, accepted, readSheet}
+use Rattle.sheet.specs.RuleSheet.{RuleSheet, outputs}
+use Rattle.circular.specs.Checks.{OfSheet}
 use Rattle.record.specs.declared.JournalRecord.{JournalRecord}
 use Rattle.slices.specs.Slices.{numbersOf}
 use Rattle.claims.specs.Book.{Call, round, closing, Answer, refused, verdicts, closed, Book, emptyBook, BookRun}
@@ -34,13 +35,17 @@ abbrev pub ExportedStep : List ℕ → HeldSlices → Call → Reply → HeldSli
 ExportedStep bs h (round known val) y k = RoundAs bs (h .storage) (k .storage) known val (slicesOf h y k) (y .number)
 ExportedStep bs h closing y k = (k .storage ≡ h .storage) × ClosedAs bs (h .storage) (slicesOf h y k) (y .number)
 
--- A list of calls (01, "Completions and verdicts"): each gets the storage and the record's numbers from the one before it, and an answer slice
--- of at least 16 numbers, whatever they are. The record's slice has 30 numbers from the preparation on, so no call returns 255.
+-- A list of calls (01, "Completions and verdicts"): each gets the storage and the record's numbers from the one before it, and an answer slice,
+-- whatever it holds. Where that has fewer than 16 numbers, the call returns 255 and is a step that changes nothing and is no call of the book; the
+-- record's slice has 30 numbers from the preparation on.
 pub data ExportedRun (bs : List ℕ) : HeldSlices → List Call → List Reply → HeldSlices → Type 0 where
   finish : {h : HeldSlices} → ExportedRun bs h [] [] h
   next : {h h₁ h₂ : HeldSlices} {c : Call} {y : Reply} {cs : List Call} {ys : List Reply}
       → 16 ≤ length (y .before) → ExportedStep bs h c y h₁ → ExportedRun bs h₁ cs ys h₂
       → ExportedRun bs h (c ∷ cs) (y ∷ ys) h₂
+  unanswered : {h h₁ h₂ : HeldSlices} (c : Call) (y : Reply) {cs : List Call} {ys : List Reply}
+      → length (y .before) < 16 → ExportedStep bs h c y h₁ → ExportedRun bs h₁ cs ys h₂
+      → ExportedRun bs h cs ys h₂
 
 -- The book's answer as the caller sees it, for a sheet of n outputs. Refused: the refusal's number, which is not 0, and the answer slice is as it
 -- was (01, "What is turned down"). Accepted: 0; a round's slice begins with the n verdicts by their numbers, a closing's with these and then the n
@@ -71,5 +76,4 @@ abbrev pub ExportedCalls : Type 0
 ExportedCalls =
     (bs s t : List ℕ) (z : Slices) → PreparedAs bs s t z 0
     → (cs : List Call) (ys : List Reply) (k : HeldSlices) → ExportedRun bs (record { storage = t; numbers = z .rec′ }) cs ys k
-    → (x : RuleSheet) × (readSheet bs ≡ accepted x)
-    × (as′ : List Answer) × (b : Book) × BookRun x emptyBook cs as′ b × AllShow (outputs x) as′ ys × NumbersMatch x b (k .numbers)
+    → OfSheet bs (λ x. (as′ : List Answer) × (b : Book) × BookRun x emptyBook cs as′ b × AllShow (outputs x) as′ ys × NumbersMatch x b (k .numbers))

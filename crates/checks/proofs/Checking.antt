@@ -1,66 +1,75 @@
--- The checks behind the sheet's own, in the order in which the code makes them.
-use mathlib.Core.Path.{_≡_, refl, sym, _∙_}
-use mathlib.Core.Bool.{true, false, true≢false, false≢true}
-use mathlib.Core.List.{List, [], _∷_}
+-- What an accepted preparation, round and closing may take for granted: no rule of theirs is broken.
+use mathlib.Core.Path.{_≡_, refl}
+use mathlib.Core.Bool.{Bool, true, false}
+use mathlib.Core.List.{[], _∷_}
 use Prim.Native.Nat.{ℕ, zero, suc, _<_, _≤_}
 use native.Mathlib.Omega.{arith}
+use native.Mathlib.Decide.{decLt}
 use Rattle.refusal.specs.Decided.{Decided}
-use Rattle.refusal.specs.declared.Refusal.the-variants.{Letter, Closed, Full, NoRound, Storage, Record}
-use Rattle.refusal.specs.declared.Outcome.{Outcome}
-use Rattle.refusal.specs.declared.Outcome.the-variants.{Accepted, Refused}
-use Rattle.record.specs.Record.{recordOk}
+use Rattle.refusal.specs.declared.Outcome.the-variants.{Accepted}
+use Rattle.refusal.proofs.Decisions.{all-passed}
+use Rattle.record.specs.Record.{maxRounds, recordOk}
+use Rattle.record.specs.declared.JournalRecord.{JournalRecord}
 use Rattle.letters.specs.Masks.{badMasks}
-use Rattle.checks.specs.Checks.{CallCheck, storage, tallies, closed, masks, full, noRound, callRule, Given, CallBroken}
-use Rattle.checks.proofs.Chain.{cons-holds, cons-breaks, nil-holds}
+use Rattle.pairs.specs.Storage.{storageWords}
+use Rattle.checks.specs.Checks.{tooShort, roundRules, closingRules}
 
-module _ (m n : ℕ) (g : Given) where
-  abbrev B : CallCheck → Type 0
-  B = CallBroken m n g
+not-below : (a b : ℕ) → (a < b → ⊥) → b ≤ a
+not-below a b n = go (decLt a b)
+  where
+    go : Dec (a < b) → b ≤ a
+    go (yes h) = absurd (n h)
+    go (no h) = omega arith
 
-  abbrev By : List CallCheck → Outcome → Type 0
-  By cs o = Decided B callRule cs o
+not-above : (a b : ℕ) → (b ≤ a → ⊥) → a < b
+not-above a b n = go (decLt a b)
+  where
+    go : Dec (a < b) → a < b
+    go (yes h) = h
+    go (no h) = absurd (n (omega arith))
 
-  pub short-storage : (cs : List CallCheck) → g .lent < 3084 → By (storage ∷ cs) (Refused Storage)
-  short-storage cs h = cons-breaks B callRule storage cs h
+is-true : (t : Bool) → (t ≡ false → ⊥) → t ≡ true
+is-true true n = refl
+is-true false n = absurd (n refl)
 
-  -- from here on the storage is long enough
-  module _ (cs : List CallCheck) (o : Outcome) (lent : 3084 ≤ g .lent) where
-    pub past-storage : By cs o → By (storage ∷ cs) o
-    past-storage d = cons-holds B callRule storage cs o (λ b. omega arith) d
+is-false : (t : Bool) → (t ≡ true → ⊥) → t ≡ false
+is-false true n = absurd (n refl)
+is-false false n = refl
 
-  pub wrong-record : (cs : List CallCheck) → recordOk n (g .before) ≡ false → By (tallies ∷ cs) (Refused Record)
-  wrong-record cs h = cons-breaks B callRule tallies cs h
-
-  pub past-record : (cs : List CallCheck) (o : Outcome) → recordOk n (g .before) ≡ true → By cs o → By (tallies ∷ cs) o
-  past-record cs o h d = cons-holds B callRule tallies cs o (λ b. true≢false (sym h ∙ b)) d
-
-  pub is-closed : (cs : List CallCheck) → g .before .closed ≡ true → By (closed ∷ cs) (Refused Closed)
-  is-closed cs h = cons-breaks B callRule closed cs h
-
-  pub past-closed : (cs : List CallCheck) (o : Outcome) → g .before .closed ≡ false → By cs o → By (closed ∷ cs) o
-  past-closed cs o h d = cons-holds B callRule closed cs o (λ b. false≢true (sym h ∙ b)) d
-
-  pub wrong-masks : (cs : List CallCheck) → badMasks m (g .known) (g .val) ≡ true → By (masks ∷ cs) (Refused Letter)
-  wrong-masks cs h = cons-breaks B callRule masks cs h
-
-  pub past-masks : (cs : List CallCheck) (o : Outcome) → badMasks m (g .known) (g .val) ≡ false → By cs o → By (masks ∷ cs) o
-  past-masks cs o h d = cons-holds B callRule masks cs o (λ b. false≢true (sym h ∙ b)) d
-
-  pub is-full : 1000000 ≤ g .before .rounds → By (full ∷ []) (Refused Full)
-  is-full h = cons-breaks B callRule full [] h
-
-  pub not-full : g .before .rounds < 1000000 → By (full ∷ []) Accepted
-  not-full h = cons-holds B callRule full [] Accepted (λ b. omega arith) (nil-holds B callRule)
-
-  pub no-round : g .before .rounds ≡ 0 → By (noRound ∷ []) (Refused NoRound)
-  no-round h = cons-breaks B callRule noRound [] h
-
-  pub some-round : (g .before .rounds ≡ 0 → ⊥) → By (noRound ∷ []) Accepted
-  some-round h = cons-holds B callRule noRound [] Accepted h (nil-holds B callRule)
-
-pub none-left : (m n : ℕ) (g : Given) → Decided (CallBroken m n g) callRule [] Accepted
-none-left m n g = nil-holds (CallBroken m n g) callRule
-
-pub nonzero : (t : ℕ) → (t ≡ 0 → ⊥) → 1 ≤ t
+nonzero : (t : ℕ) → (t ≡ 0 → ⊥) → 1 ≤ t
 nonzero zero h = absurd (h refl)
 nonzero (suc t) h = omega arith
+
+pub enough : (lent : ℕ) → Decided (tooShort lent ∷ []) Accepted → storageWords ≤ lent
+enough lent d = not-below lent storageWords (all-passed (tooShort lent ∷ []) d .0)
+
+-- what an accepted round may take for granted
+pub record RoundReady (m n lent : ℕ) (r : JournalRecord) (known val : ℕ) : Type 0 where
+  pub long : storageWords ≤ lent
+  pub right : recordOk n r ≡ true
+  pub shut : r .closed ≡ false
+  pub masks : badMasks m known val ≡ false
+  pub room : r .rounds < maxRounds
+
+pub round-ready : (m n lent : ℕ) (r : JournalRecord) (known val : ℕ) → Decided (roundRules m n lent r known val) Accepted → RoundReady m n lent r known val
+round-ready m n lent r known val d =
+    let p = all-passed (roundRules m n lent r known val) d in
+    record {
+      long = not-below lent storageWords (p .0);
+      right = is-true (recordOk n r) (p .1 .0);
+      shut = is-false (r .closed) (p .1 .1 .0);
+      masks = is-false (badMasks m known val) (p .1 .1 .1 .0);
+      room = not-above (r .rounds) maxRounds (p .1 .1 .1 .1 .0);
+    }
+
+-- and an accepted closing
+pub record ClosingReady (n lent : ℕ) (r : JournalRecord) : Type 0 where
+  pub long : storageWords ≤ lent
+  pub right : recordOk n r ≡ true
+  pub shut : r .closed ≡ false
+  pub some : 1 ≤ r .rounds
+
+pub closing-ready : (n lent : ℕ) (r : JournalRecord) → Decided (closingRules n lent r) Accepted → ClosingReady n lent r
+closing-ready n lent r d =
+    let p = all-passed (closingRules n lent r) d in
+    record { long = not-below lent storageWords (p .0); right = is-true (recordOk n r) (p .1 .0); shut = is-false (r .closed) (p .1 .1 .0); some = nonzero (r .rounds) (p .1 .1 .1 .0) }

@@ -1,77 +1,53 @@
--- The checks of preparation, rounds and closing, in their order (01, "What is turned down").
+-- The checks of preparation, rounds and closing, in their order (01, "What is turned down"): the sheet's own first.
 -- Manual: "Refusals".
 use mathlib.Core.Path.{_≡_}
 use mathlib.Core.Bool.{true, false}
-use mathlib.Core.List.{List, [], _∷_, _++_, map}
+use mathlib.Core.List.{List, [], _∷_, _++_}
 use Prim.Native.Nat.{ℕ, _<_, _≤_}
-use Rattle.refusal.specs.declared.Refusal.{Refusal}
+use Rattle.refusal.specs.Decided.{Check, check}
 use Rattle.refusal.specs.declared.Refusal.the-variants.{Letter, Closed, Full, NoRound, Storage, Record}
 use Rattle.sheet.specs.Checks.{inputsOf, outputsOf}
-use Rattle.circular.specs.Checks.{SheetCheck}
-use Rattle.circular.specs.Checks as sheets
-use Rattle.record.specs.Record.{recordOk}
+use Rattle.circular.specs.Checks.{sheetChecks}
+use Rattle.record.specs.Record.{maxRounds, recordOk}
 use Rattle.record.specs.declared.JournalRecord.{JournalRecord}
 use Rattle.letters.specs.Masks.{badMasks}
+use Rattle.pairs.specs.Storage.{storageWords}
 
--- the checks behind the sheet's own
-pub data CallCheck : Type 0 where
-  storage : CallCheck
-  tallies : CallCheck
-  closed : CallCheck
-  masks : CallCheck
-  full : CallCheck
-  noRound : CallCheck
+-- fewer numbers are lent than the three sets take
+abbrev pub tooShort : ℕ → Check
+tooShort lent = check Storage (lent < storageWords)
 
-abbrev pub callRule : CallCheck → Refusal
-callRule storage = Storage
-callRule tallies = Record
-callRule closed = Closed
-callRule masks = Letter
-callRule full = Full
-callRule noRound = NoRound
+-- a call on a journal of n outputs that isn't closed: 15, 18, 12
+abbrev pub journalRules : ℕ → ℕ → JournalRecord → List Check
+journalRules n lent r =
+    tooShort lent
+    ∷ (check Record (recordOk n r ≡ false)
+    ∷ (check Closed (r .closed ≡ true)
+    ∷ []))
 
--- what a call is handed besides the sheet: how many numbers are lent, the record, and a round's masks
-pub record Given : Type 0 where
-  pub lent : ℕ
-  pub before : JournalRecord
-  pub known : ℕ
-  pub val : ℕ
+-- behind those 11 and 13 for a round, m being the number of inputs
+abbrev pub heardRules : ℕ → JournalRecord → ℕ → ℕ → List Check
+heardRules m r known val =
+    check Letter (badMasks m known val ≡ true)
+    ∷ (check Full (maxRounds ≤ r .rounds)
+    ∷ [])
 
-abbrev pub given : ℕ → JournalRecord → ℕ → ℕ → Given
-given lent r known val = record { lent = lent; before = r; known = known; val = val }
+abbrev pub roundRules : ℕ → ℕ → ℕ → JournalRecord → ℕ → ℕ → List Check
+roundRules m n lent r known val = journalRules n lent r ++ heardRules m r known val
 
--- the check is broken, for a sheet of m inputs and n outputs
-abbrev pub CallBroken : ℕ → ℕ → Given → CallCheck → Type 0
-CallBroken m n g storage = g .lent < 3084
-CallBroken m n g tallies = recordOk n (g .before) ≡ false
-CallBroken m n g closed = g .before .closed ≡ true
-CallBroken m n g masks = badMasks m (g .known) (g .val) ≡ true
-CallBroken m n g full = 1000000 ≤ g .before .rounds
-CallBroken m n g noRound = g .before .rounds ≡ 0
+-- and 14 for a closing
+abbrev pub endRules : JournalRecord → List Check
+endRules r = check NoRound (r .rounds ≡ 0) ∷ []
 
--- 15, 18, 12, then 11 and 13 for a round, 14 for a closing
-abbrev pub roundChecks : List CallCheck
-roundChecks = storage ∷ (tallies ∷ (closed ∷ (masks ∷ (full ∷ []))))
-
-abbrev pub closingChecks : List CallCheck
-closingChecks = storage ∷ (tallies ∷ (closed ∷ (noRound ∷ [])))
+abbrev pub closingRules : ℕ → ℕ → JournalRecord → List Check
+closingRules n lent r = journalRules n lent r ++ endRules r
 
 -- preparation: 15 last
-abbrev pub prepareChecks : List CallCheck
-prepareChecks = storage ∷ []
+abbrev pub prepareChecks : List ℕ → ℕ → List Check
+prepareChecks bs lent = sheetChecks bs ++ (tooShort lent ∷ [])
 
--- the checks of an entry: the sheet's own first
-pub data EntryCheck : Type 0 where
-  sheet : SheetCheck → EntryCheck
-  call : CallCheck → EntryCheck
+abbrev pub roundChecks : List ℕ → ℕ → JournalRecord → ℕ → ℕ → List Check
+roundChecks bs lent r known val = sheetChecks bs ++ roundRules (inputsOf bs) (outputsOf bs) lent r known val
 
-abbrev pub rule : EntryCheck → Refusal
-rule (sheet c) = sheets.rule c
-rule (call c) = callRule c
-
-abbrev pub Broken : List ℕ → Given → EntryCheck → Type 0
-Broken bs g (sheet c) = sheets.Broken bs c
-Broken bs g (call c) = CallBroken (inputsOf bs) (outputsOf bs) g c
-
-abbrev pub entryChecks : List ℕ → List CallCheck → List EntryCheck
-entryChecks bs cs = map sheet (sheets.checksOf bs) ++ map call cs
+abbrev pub closingChecks : List ℕ → ℕ → JournalRecord → List Check
+closingChecks bs lent r = sheetChecks bs ++ closingRules (outputsOf bs) lent r

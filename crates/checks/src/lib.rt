@@ -1,18 +1,15 @@
 // What a round or a closing is refused for, behind the rules of its sheet.
 ghost use Prim.Native.Nat.{_≤_};
 ghost use Rattle.refusal.specs.Decided.{Decided};
-ghost use Rattle.sheet.specs.Reading.{whenAccepted};
-ghost use Rattle.checks.specs.Checks.{given, callRule, CallBroken, roundChecks, closingChecks};
-ghost use Rattle.checks.specs.Ready.{RoundReady, ClosingReady};
+ghost use Rattle.checks.specs.Checks.{journalRules, heardRules, endRules, roundRules, closingRules};
 use record::JournalRecord;
 use refusal::Outcome;
 use refusal::Refusal;
 
-// Rules 15, 18, 12, 11 and 13 of a round, for m inputs, n outputs and `lent` numbers of storage.
-pub fn check_round(m: u8, n: u8, lent: usize, r: JournalRecord, known: u8, value: u8) -> Outcome
-    requires { ⌜ (m ≤ 6) × (n ≤ 7) ⌝ }
-    ensures decided { λ x. ⌜ Decided (CallBroken m n (given lent r known value)) callRule roundChecks x ⌝ }
-    ensures ready { λ x. ⌜ whenAccepted x (RoundReady m n (given lent r known value)) ⌝ }
+// Rules 15, 18 and 12, for n outputs and `lent` numbers of storage.
+fn check_journal(n: u8, lent: usize, r: JournalRecord) -> Outcome
+    requires { ⌜ n ≤ 7 ⌝ }
+    ensures { λ x. ⌜ Decided (journalRules n lent r) x ⌝ }
 {
     if lent < JournalRecord::STORAGE_WORDS {
         return Outcome::Refused(Refusal::Storage);
@@ -23,6 +20,14 @@ pub fn check_round(m: u8, n: u8, lent: usize, r: JournalRecord, known: u8, value
     if r.closed {
         return Outcome::Refused(Refusal::Closed);
     }
+    Outcome::Accepted
+}
+
+// Rules 11 and 13, for m inputs.
+fn check_heard(m: u8, r: JournalRecord, known: u8, value: u8) -> Outcome
+    requires { ⌜ m ≤ 6 ⌝ }
+    ensures { λ x. ⌜ Decided (heardRules m r known value) x ⌝ }
+{
     if letters::bad_masks(m, known, value) {
         return Outcome::Refused(Refusal::Letter);
     }
@@ -32,23 +37,36 @@ pub fn check_round(m: u8, n: u8, lent: usize, r: JournalRecord, known: u8, value
     Outcome::Accepted
 }
 
-// Rules 15, 18, 12 and 14 of a closing.
-pub fn check_closing(m: u8, n: u8, lent: usize, r: JournalRecord) -> Outcome
-    requires { ⌜ n ≤ 7 ⌝ }
-    ensures decided { λ x. ⌜ Decided (CallBroken m n (given lent r 0 0)) callRule closingChecks x ⌝ }
-    ensures ready { λ x. ⌜ whenAccepted x (ClosingReady n (given lent r 0 0)) ⌝ }
+// Rule 14.
+fn check_end(r: JournalRecord) -> Outcome
+    ensures { λ x. ⌜ Decided (endRules r) x ⌝ }
 {
-    if lent < JournalRecord::STORAGE_WORDS {
-        return Outcome::Refused(Refusal::Storage);
-    }
-    if !record::record_ok(r, n as usize) {
-        return Outcome::Refused(Refusal::Record);
-    }
-    if r.closed {
-        return Outcome::Refused(Refusal::Closed);
-    }
     if r.rounds == 0 {
         return Outcome::Refused(Refusal::NoRound);
     }
     Outcome::Accepted
+}
+
+// A round: 15, 18, 12, 11, 13.
+pub fn check_round(m: u8, n: u8, lent: usize, r: JournalRecord, known: u8, value: u8) -> Outcome
+    requires { ⌜ (m ≤ 6) × (n ≤ 7) ⌝ }
+    ensures { λ x. ⌜ Decided (roundRules m n lent r known value) x ⌝ }
+{
+    let outcome = check_journal(n, lent, r);
+    match outcome {
+        Outcome::Refused(e) => Outcome::Refused(e),
+        Outcome::Accepted => check_heard(m, r, known, value),
+    }
+}
+
+// A closing: 15, 18, 12, 14.
+pub fn check_closing(n: u8, lent: usize, r: JournalRecord) -> Outcome
+    requires { ⌜ n ≤ 7 ⌝ }
+    ensures { λ x. ⌜ Decided (closingRules n lent r) x ⌝ }
+{
+    let outcome = check_journal(n, lent, r);
+    match outcome {
+        Outcome::Refused(e) => Outcome::Refused(e),
+        Outcome::Accepted => check_end(r),
+    }
 }

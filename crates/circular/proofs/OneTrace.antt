@@ -1,7 +1,7 @@
 -- Every accepted sheet has, for every list of letters, exactly one whole trace.
 use mathlib.Core.Path.{_≡_, refl, sym, ap, _∙_}
 use mathlib.Core.Bool.{Bool, true, false}
-use mathlib.Core.List.{List, [], _∷_, map, List·Memᴰ·head, Memᴰ·append-right}
+use mathlib.Core.List.{List, [], _∷_}
 use Prim.Native.Nat.{ℕ, zero, suc, _+_, _-_, _*_, _^_, _<_}
 use native.Mathlib.Omega.{arith}
 use native.Mathlib.Decide.{decLt}
@@ -13,14 +13,14 @@ use Rattle.words.specs.Bits.{bit}
 use Rattle.words.specs.Below.{one}
 use Rattle.words.proofs.BitLaws.{bits-ext}
 use Rattle.words.proofs.JoinLaws.{bit-of-low, bit-low, bit-above, join-lt}
-use Rattle.sheet.specs.Checks as sheet
 use Rattle.sheet.specs.RuleSheet.{RuleSheet, outputs, streams, accepted, readSheet}
 use Rattle.sheet.proofs.Formed.{Formed, read-formed}
 use Rattle.lola.specs.Equations.{Letters, joined}
 use Rattle.circular.specs.Circular.{CircularSheet, edges}
-use Rattle.circular.specs.Checks.{reading, circular, rule, Broken, checksOf}
+use Rattle.circular.specs.Checks.{sheetChecks}
 use Rattle.circular.specs.Unique.{TraceOf, OneTrace}
 use Rattle.circular.specs.Places.{Assignment, Place, Solves}
+use Rattle.circular.proofs.Decided.{accepted-level}
 use Rattle.circular.proofs.Unique.{run}
 use Rattle.circular.proofs.Sweep.{solves-of}
 use Rattle.circular.proofs.Sides.{rightOf, right-reads, a-solution, one-solution}
@@ -138,8 +138,5 @@ one-trace bs x e level ls g =
     record { exists = a-trace x (read-formed bs x e) level ls g; only = no-other x (read-formed bs x e) level ls }
 
 -- the same from the outcome of rules 1 to 10
-accepted-level : (bs : List ℕ) (x : RuleSheet) → Decided (Broken bs) rule (checksOf bs) Accepted → readSheet bs ≡ accepted x → CircularSheet x → ⊥
-accepted-level bs x d e c = d circular (Memᴰ·append-right (map reading (sheet.checksOf bs)) (List·Memᴰ·head refl)) (x, e, c)
-
-pub accepted-one-trace : (bs : List ℕ) (x : RuleSheet) → Decided (Broken bs) rule (checksOf bs) Accepted → readSheet bs ≡ accepted x → (ls : List ℕ) → Letters (x .inputs) ls → OneTrace x ls
-accepted-one-trace bs x d e = one-trace bs x e (accepted-level bs x d e)
+pub accepted-one-trace : (bs : List ℕ) (x : RuleSheet) → Decided (sheetChecks bs) Accepted → readSheet bs ≡ accepted x → (ls : List ℕ) → Letters (x .inputs) ls → OneTrace x ls
+accepted-one-trace bs x d e = one-trace bs x e (accepted-level bs x e d)

@@ -7,7 +7,7 @@ ghost use Rattle.refusal.specs.Decided.{Decided};
 ghost use Rattle.sheet.specs.Reading.{whenAccepted, blankIfRefused};
 ghost use Rattle.circular.specs.Circular.{Circular};
 ghost use Rattle.circular.specs.Masks.{readsOfCode};
-ghost use Rattle.circular.specs.Checks.{Broken, rule, checksOf, AcceptedSheet};
+ghost use Rattle.circular.specs.Checks.{sheetChecks, AcceptedSheet};
 use refusal::Outcome;
 use refusal::Refusal;
 use sheet::SheetRead;
@@ -26,7 +26,7 @@ fn is_circular<'a>(code: &'a [u8], len: &'a [usize], m: u8, n: usize) -> bool
 
 // Reads a sheet and checks it by rules 1 to 10. Where it is refused, the sheet is blank.
 pub fn accept_sheet(s: &[u8]) -> SheetRead
-    ensures decided { λ r. ⌜ Decided (Broken (now (s .entry))) rule (checksOf (now (s .entry))) (r .outcome) ⌝ }
+    ensures decided { λ r. ⌜ Decided (sheetChecks (now (s .entry))) (r .outcome) ⌝ }
     ensures sheet { λ r. ⌜ whenAccepted (r .outcome) (AcceptedSheet (now (s .entry)) (r .sheet)) ⌝ }
     ensures refused { λ r. ⌜ blankIfRefused (r .outcome) (r .sheet) ⌝ }
 {
@@ -47,7 +47,7 @@ pub fn accept_sheet(s: &[u8]) -> SheetRead
 
 // Whether a sheet is accepted, or the first rule that it breaks.
 pub fn check_sheet(s: &[u8]) -> Outcome
-    ensures { λ r. ⌜ Decided (Broken (now (s .entry))) rule (checksOf (now (s .entry))) r ⌝ }
+    ensures { λ r. ⌜ Decided (sheetChecks (now (s .entry))) r ⌝ }
 {
     let got = accept_sheet(s);
     got.outcome

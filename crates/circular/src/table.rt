@@ -201,10 +201,11 @@ fn has_reads(words: &[u64; 7], m: u8, n: usize) -> bool
     requires { ⌜ (m ≤ 6) × (n ≤ 7) ⌝ }
     ensures { λ r. ⌜ (r ≡ false → (s : ℕ) → s < n → (q o : ℕ) → readsOfWords (now (words .entry)) m s q o ≡ false) ⌝ }
 {
-    let inputs = 3 * (m as u64);
+    let first = sheet::stream_of(m, OutputNo(0));
+    let from = 3 * (first.0 as u64);
     let mut s: usize = 0;
     while s < n {
-        if words[s] >> inputs != 0 {
+        if words[s] >> from != 0 {
             return true;
         }
         s += 1;

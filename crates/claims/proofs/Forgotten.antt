@@ -10,7 +10,7 @@ use Rattle.record.specs.declared.JournalRecord.{JournalRecord}
 use Rattle.completions.specs.Live.{Pairs}
 use Rattle.completions.specs.Steps.{Within, Represents}
 use Rattle.completions.proofs.Count.{Subset, pairs-same}
-use Rattle.pairs.specs.Storage.{stored}
+use Rattle.pairs.specs.Storage.{stored, setWords, reachedAt, scratchAt, storageWords, live}
 use Rattle.accepted.specs.Results.{Zero}
 use Rattle.claims.specs.Further.{StorageForgotten}
 use Rattle.claims.proofs.Tidy.{zero-none}
@@ -20,22 +20,22 @@ holds-same : (w : ℕ) (S R : Pairs) (P : ℕ → Option ℕ → Type 0) → Rep
 holds-same w S R P f g b c hb hc t = g b c hb hc .1 (f b c hb hc .0 t)
 
 -- two sets that are empty are the same
-empty-same : (t t′ : List ℕ) → Zero 1028 3084 t → Zero 1028 3084 t′ → (base b : ℕ) (c : Option ℕ) → b < 256 → Within 256 c → 1028 ≤ base → base + 1028 ≤ 3084
+empty-same : (t t′ : List ℕ) → Zero reachedAt storageWords t → Zero reachedAt storageWords t′ → (base b : ℕ) (c : Option ℕ) → b < 256 → Within 256 c → reachedAt ≤ base → base + setWords ≤ storageWords
     → stored t base b c ≡ stored t′ base b c
-empty-same t t′ z z′ base b c hb hc l g = zero-none 1028 3084 t z base b c hb hc l g ∙ sym (zero-none 1028 3084 t′ z′ base b c hb hc l g)
+empty-same t t′ z z′ base b c hb hc l g = zero-none reachedAt storageWords t z base b c hb hc l g ∙ sym (zero-none reachedAt storageWords t′ z′ base b c hb hc l g)
 
 fresh-same : (r r′ : JournalRecord) → Fresh r → Fresh r′ → r ≡ r′
 fresh-same r r′ f g = λ i. record { rounds = (f .rounds ∙ sym (g .rounds)) i; closed = (f .closed ∙ sym (g .closed)) i; counts = (f .counts ∙ sym (g .counts)) i }
 
 pub storage-forgotten : StorageForgotten
 storage-forgotten x s s′ t t′ a a′ d d′ =
-    let there : Subset 256 (stored t 0) (stored t′ 0) = holds-same 256 (stored t 0) (stored t′ 0) _ (d .live) (d′ .live) in
-    let back : Subset 256 (stored t′ 0) (stored t 0) = holds-same 256 (stored t′ 0) (stored t 0) _ (d′ .live) (d .live) in (
+    let there : Subset 256 (live t) (live t′) = holds-same 256 (live t) (live t′) _ (d .lives) (d′ .lives) in
+    let back : Subset 256 (live t′) (live t) = holds-same 256 (live t′) (live t) _ (d′ .lives) (d .lives) in (
       record {
-        live = λ b c hb hc. same-test (stored t 0 b c) (stored t′ 0 b c) (there b c hb hc) (back b c hb hc);
-        reached = λ b c hb hc. empty-same t t′ (d .empty) (d′ .empty) 1028 b c hb hc (omega arith) (omega arith);
-        scratch = λ b c hb hc. empty-same t t′ (d .empty) (d′ .empty) 2056 b c hb hc (omega arith) (omega arith);
+        live = λ b c hb hc. same-test (live t b c) (live t′ b c) (there b c hb hc) (back b c hb hc);
+        reached = λ b c hb hc. empty-same t t′ (d .empty) (d′ .empty) reachedAt b c hb hc (omega arith) (omega arith);
+        scratch = λ b c hb hc. empty-same t t′ (d .empty) (d′ .empty) scratchAt b c hb hc (omega arith) (omega arith);
       },
-      d .count ∙ pairs-same 256 (stored t 0) (stored t′ 0) there back ∙ sym (d′ .count),
+      d .count ∙ pairs-same 256 (live t) (live t′) there back ∙ sym (d′ .count),
       fresh-same (a .record) (a′ .record) (d .fresh) (d′ .fresh),
     )

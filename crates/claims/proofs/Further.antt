@@ -15,13 +15,9 @@ use Rattle.completions.proofs.Letters.{onLetter, onLetters, completion-of, run-
 use Rattle.completions.proofs.Backward.{liveWithin, settled-exact, settles, prefix-short, small-256}
 use Rattle.completions.proofs.Range.{wider}
 use Rattle.accepted.specs.Results.{width}
-use Rattle.claims.specs.Book.{Book, Call, Answer, emptyBook}
-use Rattle.claims.specs.Session.{Held, Session, finish, next}
-use Rattle.claims.specs.Demands.{lent}
 use Rattle.claims.specs.Further.{LiveSet, OneVerdict, SomeVerdict, StaysBroken, ShortCompletion, StaysInOrder}
 use Rattle.claims.proofs.BookLaws.{reached-by, reaches-round, reaches-closing}
-use Rattle.claims.proofs.Refusals.{SheetOk}
-use Rattle.claims.proofs.ThirdDemand.{Tracks, Follows, one-call, prepared-tracks, sheet-accepted, storage-enough}
+use Rattle.claims.proofs.ThirdDemand.{began, after-calls}
 
 pub one-verdict-fits : OneVerdict
 unfolding RoundVerdict ClosingVerdict
@@ -58,16 +54,9 @@ short-completion x small L live r rs ls c =
     let z = prefix-short x 256 (small-256 x small) L live (onLetter x r) (onLetters x rs) (c .trace) (run-of x (r ∷ rs) ls c) in
     (map (letter x) (z .0), completion-of x (r ∷ rs) (z .0) (z .1), omega (arith, z .2, length-map (z .0) (letter x), length-map rs (onLetter x)))
 
-module _ (bs : List ℕ) (x : RuleSheet) (ok : SheetOk bs x) where
-  tracked : (b : Book) (h k : Held) (cs : List Call) (as′ : List Answer) → Tracks bs x ok b h → Session bs h cs as′ k → (d : Book) × Tracks bs x ok d k
-  tracked b h k cs as′ tr finish = (b, tr)
-  tracked b h k cs as′ tr (next {h₁ = m} {c = c} {a = a} {cs = ds} {as′ = bs′} s rest) =
-      let y : Follows bs x ok b c a m = one-call bs x ok b h m c a tr s in
-      tracked (y .book) m k ds bs′ (y .tracks) rest
-
 pub stays-in-order : StaysInOrder
-stays-in-order bs s t r p d z cs as′ h run =
-    let ok : SheetOk bs (z .0) = record { holds = sheet-accepted bs (lent s r) d; reads = z .1 } in
-    let e = tracked bs (z .0) ok emptyBook (record { storage = t; journal = p .record }) h cs as′ (prepared-tracks bs (z .0) ok s t p (storage-enough bs (lent s r) d) (z .2)) run in
-    let right : RecordOk (outputs (z .0)) (h .journal) = record-is (outputs (z .0)) (h .journal) (e .1 .right) in
-    record { sums = right .sums; few = right .few; long = e .1 .lent }
+stays-in-order bs s t p z o cs as′ h run =
+    let b = began bs s t p z o in
+    let e = after-calls bs s t p z o cs as′ h run in
+    let right : RecordOk (outputs (b .sheet)) (h .record) = record-is (outputs (b .sheet)) (h .record) (e .tracks .right) in
+    (b .sheet, b .ok .reads, record { sums = right .sums; few = right .few; long = e .tracks .lent })

@@ -2,10 +2,10 @@ pub mod BookLaws
 pub mod Refusals
 pub mod FirstDemand
 pub mod SecondDemand
+pub mod Tracks
 pub mod ThirdDemand
 pub mod Further
 pub mod Tidy
 pub mod Forgotten
 pub mod Longest
-pub mod ReadSheet
 pub mod Share

@@ -1,18 +1,21 @@
 -- The longest sheet that is read has 463 bytes: a header of 8, and at most 7 outputs of a length byte and 64 expression bytes.
 use mathlib.Core.Path.{_≡_, refl, ap, subst}
 use mathlib.Core.Bool.{Bool, true, false, not}
-use mathlib.Core.List.{List, [], _∷_, List·Memᴰ, List·Memᴰ·head, List·Memᴰ·tail, Memᴰ·append-left, Memᴰ·append-right}
+use mathlib.Core.List.{List, [], _∷_}
 use Prim.Native.Nat.{ℕ, zero, suc, _+_, _*_, _≤_, _<_}
 use native.Mathlib.Omega.{arith}
 use lib.Dec.{leb, ltb}
 use lib.ListN.{length}
 use borrow.Author.Tests.{leb-true, ltb-false}
-use Rattle.refusal.specs.Decided.{Decided}
+use Rattle.refusal.specs.Decided.{test, Decided}
+use Rattle.refusal.specs.declared.Refusal.the-variants.{Leftover, Values}
 use Rattle.refusal.specs.declared.Outcome.the-variants.{Accepted}
+use Rattle.refusal.proofs.Decisions.{Passed, all-passed, passed-append}
 use Rattle.words.proofs.Bools.{and-split}
 use Rattle.sheet.specs.Header.{countsOk}
-use Rattle.sheet.specs.Checks.{counts, size, leftover, rule, inputsOf, outputsOf, placeOf, sizeOf, broken?, Broken, byteChecks, outputChecks, checksOf}
-use Rattle.sheet.proofs.First.{reading-decided, readingOutcome}
+use Rattle.sheet.specs.Checks.{inputsOf, outputsOf, placeOf, sizeOf, badSize, badEnd, leftOver, byteChecks, outputChecks, readingChecks}
+use Rattle.sheet.specs.Decided.{readingOutcome}
+use Rattle.sheet.proofs.First.{reading-decided}
 use Rattle.sheet.proofs.Headers as headers
 use Rattle.claims.specs.Further.{LongestSheet}
 
@@ -27,26 +30,25 @@ not-less a b h = go (ltb a b) refl
     go true e = absurd (h e)
     go false e = ltb-false a b e
 
--- the length check of every output is in the list
-size-in : (bs : List ℕ) (r k j : ℕ) → j < r → List·Memᴰ (size (k + j)) (outputChecks bs k r)
+-- the length of every output is right
+sizes : (bs : List ℕ) (r k : ℕ) → Passed (outputChecks bs k r) → (j : ℕ) → j < r → badSize bs (k + j) ≡ true → ⊥
 unfolding outputChecks
-size-in bs zero k j h = absurd (omega arith)
-size-in bs (suc r) k zero h = let e : k + 0 ≡ k = omega arith in List·Memᴰ·head (ap size e)
-size-in bs (suc r) k (suc j) h =
+sizes bs zero k p j h = absurd (omega arith)
+sizes bs (suc r) k p zero h = let e : k ≡ k + 0 = omega arith in subst (λ (i : ℕ). badSize bs i ≡ true → ⊥) e (p .0)
+sizes bs (suc r) k p (suc j) h =
     let e : suc k + j ≡ k + suc j = omega arith in
-    List·Memᴰ·tail
-    (Memᴰ·append-right (byteChecks k 0 (sizeOf bs k))
-    (List·Memᴰ·tail (subst (λ (i : ℕ). List·Memᴰ (size i) (outputChecks bs (suc k) r)) e (size-in bs r (suc k) j (omega arith)))))
+    let q = passed-append (byteChecks bs k 0 (sizeOf bs k)) (test Values (badEnd bs k) ∷ outputChecks bs (suc k) r) (p .1) in
+    subst (λ (i : ℕ). badSize bs i ≡ true → ⊥) e (sizes bs r (suc k) (q .1 .1) j (omega arith))
 
-module _ (bs : List ℕ) (holds : Decided (Broken bs) rule (checksOf bs) Accepted) where
+module _ (bs : List ℕ) (holds : Decided (readingChecks bs) Accepted) where
+  behind : Passed (outputChecks bs 0 (outputsOf bs)) × Passed (test Leftover (leftOver bs) ∷ [])
+  unfolding readingChecks
+  behind = passed-append (outputChecks bs 0 (outputsOf bs)) (test Leftover (leftOver bs) ∷ []) (all-passed (readingChecks bs) holds .1 .1 .1 .1 .1)
+
   short-size : (k : ℕ) → k < outputsOf bs → sizeOf bs k ≤ 64
-  unfolding checksOf broken?
   short-size k h =
       let z : 0 + k ≡ k = omega arith in
-      let here : List·Memᴰ (size k) (outputChecks bs 0 (outputsOf bs)) = subst (λ (i : ℕ). List·Memᴰ (size i) (outputChecks bs 0 (outputsOf bs))) z (size-in bs (outputsOf bs) 0 k h) in
-      let m : List·Memᴰ (size k) (checksOf bs) =
-      List·Memᴰ·tail (List·Memᴰ·tail (List·Memᴰ·tail (List·Memᴰ·tail (List·Memᴰ·tail (Memᴰ·append-left (leftover ∷ []) here))))) in
-      let e = not-broken _ (holds (size k) m) in
+      let e = not-broken _ (subst (λ (i : ℕ). badSize bs i ≡ true → ⊥) z (sizes bs (outputsOf bs) 0 (behind .0) k h)) in
       let a = and-split (ltb (placeOf bs k) (length bs)) _ e .1 in
       let b = and-split (leb 1 (sizeOf bs k)) _ a .1 in
       leb-true (sizeOf bs k) 64 (and-split (leb (sizeOf bs k) 64) _ b .0)
@@ -57,20 +59,11 @@ module _ (bs : List ℕ) (holds : Decided (Broken bs) rule (checksOf bs) Accepte
   place-bound (suc k) h = omega (arith, place-bound k (omega arith), short-size k (omega arith))
 
   few-outputs : outputsOf bs ≤ 7
-  unfolding checksOf broken?
-  few-outputs =
-      let m : List·Memᴰ counts (checksOf bs) = List·Memᴰ·tail (List·Memᴰ·tail (List·Memᴰ·tail (List·Memᴰ·head refl))) in
-      headers.counts (inputsOf bs) (outputsOf bs) (not-broken (countsOk (inputsOf bs) (outputsOf bs)) (holds counts m)) .outputs
-
-  no-more : length bs ≤ placeOf bs (outputsOf bs)
-  unfolding checksOf broken?
-  no-more =
-      let m : List·Memᴰ leftover (checksOf bs) =
-      List·Memᴰ·tail (List·Memᴰ·tail (List·Memᴰ·tail (List·Memᴰ·tail (List·Memᴰ·tail (Memᴰ·append-right (outputChecks bs 0 (outputsOf bs)) (List·Memᴰ·head refl)))))) in
-      not-less (placeOf bs (outputsOf bs)) (length bs) (holds leftover m)
+  unfolding readingChecks
+  few-outputs = headers.counts (inputsOf bs) (outputsOf bs) (not-broken (countsOk (inputsOf bs) (outputsOf bs)) (all-passed (readingChecks bs) holds .1 .1 .1 .0)) .outputs
 
   at-most : length bs ≤ 463
-  at-most = omega (arith, no-more, place-bound (outputsOf bs) (omega arith), few-outputs)
+  at-most = omega (arith, not-less (placeOf bs (outputsOf bs)) (length bs) (behind .1 .0), place-bound (outputsOf bs) (omega arith), few-outputs)
 
 pub longest-sheet : LongestSheet
-longest-sheet bs x e = at-most bs (rw (ap readingOutcome e) at (reading-decided bs))
+longest-sheet bs x e = at-most bs (subst (Decided (readingChecks bs)) (ap readingOutcome e) (reading-decided bs))

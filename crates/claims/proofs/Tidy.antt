@@ -10,20 +10,22 @@ use Rattle.refusal.specs.declared.Outcome.{Outcome}
 use Rattle.refusal.specs.declared.Outcome.the-variants.{Accepted, Refused}
 use Rattle.words.specs.Bits.{bit}
 use Rattle.words.proofs.BitLaws.{bit-none}
-use Rattle.sheet.specs.RuleSheet.{RuleSheet, accepted, readSheet}
-use Rattle.record.specs.declared.JournalRecord.{JournalRecord}
+use Rattle.sheet.specs.RuleSheet.{RuleSheet}
 use Rattle.completions.specs.Live.{Pairs}
-use Rattle.completions.specs.Completion.{masked}
+use Rattle.completions.specs.Completion.{LetterSet, masked}
 use Rattle.completions.specs.Steps.{Within, partBelow}
-use Rattle.pairs.specs.Storage.{place, slot, stored, used}
+use Rattle.pairs.specs.Storage.{place, slot, stored, setWords, reachedAt, scratchAt, storageWords, live, reached, scratch, used}
 use Rattle.pairs.proofs.Sets.{place-lt, unused}
 use Rattle.accepted.specs.Results.{width, heard, nextSet, Zero, Prepared, RoundDone}
 use Rattle.accepted.specs.declared.PrepareAnswer.{PrepareAnswer}
 use Rattle.accepted.specs.declared.RoundAnswer.{RoundAnswer}
-use Rattle.monitor.specs.Entries.{OfSheet, RoundResult}
+use Rattle.monitor.specs.Entries.{Rounds}
 use Rattle.claims.specs.Book.{Call, Answer}
-use Rattle.claims.specs.Session.{Held, SessionStep, a-round, a-closing, Session, finish, next}
+use Rattle.claims.specs.Session.{Held, held, SessionStep, a-round, a-closing, Session, finish, next}
 use Rattle.claims.specs.Further.{Tidy, StaysTidy}
+use Rattle.claims.proofs.Refusals.{SheetOk}
+use Rattle.claims.proofs.Tracks.{same-sheet}
+use Rattle.claims.proofs.ThirdDemand.{began}
 
 -- ---- tests
 
@@ -46,44 +48,52 @@ none-left false l e = e
 
 -- ---- preparation, a round, any calls
 
-pub zero-none : (from to : ℕ) (t : List ℕ) → Zero from to t → (base b : ℕ) (c : Option ℕ) → b < 256 → Within 256 c → from ≤ base → base + 1028 ≤ to → stored t base b c ≡ false
+-- the set at `base` is empty
+pub zero-none : (from to : ℕ) (t : List ℕ) → Zero from to t → (base b : ℕ) (c : Option ℕ) → b < 256 → Within 256 c → from ≤ base → base + setWords ≤ to → stored t base b c ≡ false
 unfolding stored
 zero-none from to t z base b c hb hc l g =
-    let p : place b c < 1028 = place-lt b c hb hc in
+    let p : place b c < setWords = place-lt b c hb hc in
     ap (bit (slot b c)) (z (base + place b c) (omega arith) (omega arith)) ∙ bit-none (slot b c)
 
-prepared-tidy : (x : RuleSheet) (s t : List ℕ) (p : PrepareAnswer) → Prepared x s t p → Tidy (width x) t
+prepared-tidy : (x : RuleSheet) (s t : List ℕ) (p : PrepareAnswer) → Prepared x s t p → Tidy x (held t (p .record))
 prepared-tidy x s t p d = record {
-  reached = λ b c hb hc. within-zero (ltb b (width x)) (partBelow (width x) c) (stored t 1028 b c) (zero-none 1028 3084 t (d .empty) 1028 b c hb hc (omega arith) (omega arith));
-  scratch = λ b c hb hc. zero-none 1028 3084 t (d .empty) 2056 b c hb hc (omega arith) (omega arith);
+  reached = λ b c hb hc. within-zero (ltb b (width x)) (partBelow (width x) c) (reached t b c) (zero-none reachedAt storageWords t (d .empty) reachedAt b c hb hc (omega arith) (omega arith));
+  scratch = λ b c hb hc. zero-none reachedAt storageWords t (d .empty) scratchAt b c hb hc (omega arith) (omega arith);
 }
 
-round-tidy : (x : RuleSheet) (s t : List ℕ) (r : JournalRecord) (known val : ℕ) (a : RoundAnswer) → RoundDone x s t r known val a → Tidy (width x) s → Tidy (width x) t
-round-tidy x s t r known val a d y = record {
+round-tidy : (x : RuleSheet) (h k : Held) (m : LetterSet) (a : RoundAnswer) → RoundDone x (h .storage) (k .storage) (h .record) m a → Tidy x h → Tidy x k
+round-tidy x h k m a d y = record {
   reached = λ b c hb hc.
-      d .reached b c hb hc
-      ∙ within-next (ltb b (width x)) (partBelow (width x) c) (used (width x) b c) (N b c) (stored s 1028 b c) (unused (width x) b c) (y .reached b c hb hc)
-      ∙ ap (λ (u : Bool). ltb b (width x) && (partBelow (width x) c && u)) (sym (d .reached b c hb hc));
-  scratch = λ b c hb hc. d .scratch b c hb hc ∙ none-left (used (width x) b c) (stored s 2056 b c) (y .scratch b c hb hc);
+      d .steps b c hb hc
+      ∙ within-next (ltb b (width x)) (partBelow (width x) c) (used (width x) b c) (N b c) (reached (h .storage) b c) (unused (width x) b c) (y .reached b c hb hc)
+      ∙ ap (λ (u : Bool). ltb b (width x) && (partBelow (width x) c && u)) (sym (d .steps b c hb hc));
+  scratch = λ b c hb hc. d .cleared b c hb hc ∙ none-left (used (width x) b c) (scratch (h .storage) b c) (y .scratch b c hb hc);
 }
   where
     N : Pairs
-    N = nextSet x (stored s 0) (r .rounds) (stored s 1028) (heard x (masked known val))
+    N = nextSet x (live (h .storage)) (h .record .rounds) (reached (h .storage)) (heard x m)
 
-module _ (bs : List ℕ) (x : RuleSheet) (reads : readSheet bs ≡ accepted x) where
-  call-tidy : (h k : Held) (c : Call) (a : Answer) → SessionStep bs h c a k → Tidy (width x) (h .storage) → Tidy (width x) (k .storage)
-  call-tidy h k c a (a-round {known = known} {val = val} {t = t} z d e) y = go (z .outcome) e
+kept-tidy : (x : RuleSheet) (h k : Held) → k .storage ≡ h .storage → Tidy x h → Tidy x k
+kept-tidy x h k e y = record { reached = rw e (y .reached); scratch = rw e (y .scratch) }
+
+module _ (bs : List ℕ) (x : RuleSheet) (ok : SheetOk bs x) where
+  call-tidy : (h k : Held) (c : Call) (a : Answer) → SessionStep bs h c a k → Tidy x h → Tidy x k
+  call-tidy h k c a (a-round {known = known} {val = val} {t = t} z d) y = go (z .outcome) (d .result)
     where
-      go : (o : Outcome) → RoundResult (OfSheet bs (λ q. RoundDone q (h .storage) t (h .journal) known val z)) (h .storage) t (h .journal) z o → Tidy (width x) t
-      go Accepted e =
-          let same : e .0 ≡ x = (let q : accepted (e .0) ≡ accepted x = sym (e .1) ∙ reads in cc) in
-          round-tidy x (h .storage) t (h .journal) known val z (subst (λ (q : RuleSheet). RoundDone q (h .storage) t (h .journal) known val z) same (e .2)) y
-      go (Refused q) e = subst (Tidy (width x)) (sym (e .0)) y
-  call-tidy h k c a (a-closing z d e) y = y
+      after : Held
+      after = held t (z .record)
 
-  calls-tidy : (h k : Held) (cs : List Call) (as′ : List Answer) → Session bs h cs as′ k → Tidy (width x) (h .storage) → Tidy (width x) (k .storage)
+      go : (o : Outcome) → Rounds bs (h .storage) t (h .record) known val z o → Tidy x after
+      go Accepted e =
+          round-tidy x h after (masked known val) z (subst (λ (q : RuleSheet). RoundDone q (h .storage) t (h .record) (masked known val) z) (same-sheet bs x ok (e .0) (e .1)) (e .2)) y
+      go (Refused q) e = kept-tidy x h after (e .0) y
+  call-tidy h k c a (a-closing z d) y = kept-tidy x h k refl y
+
+  calls-tidy : (h k : Held) (cs : List Call) (as′ : List Answer) → Session bs h cs as′ k → Tidy x h → Tidy x k
   calls-tidy h k cs as′ finish y = y
   calls-tidy h k cs as′ (next {h₁ = m} {c = c} {a = a} {cs = ds} {as′ = bs′} s rest) y = calls-tidy m k ds bs′ rest (call-tidy h m c a s y)
 
 pub stays-tidy : StaysTidy
-stays-tidy bs s t p z cs as′ h run = calls-tidy bs (z .0) (z .1) (record { storage = t; journal = p .record }) h cs as′ run (prepared-tidy (z .0) s t p (z .2))
+stays-tidy bs s t p z o cs as′ h run =
+    let b = began bs s t p z o in
+    (b .sheet, b .ok .reads, calls-tidy bs (b .sheet) (b .ok) (held t (p .record)) h cs as′ run (prepared-tidy (b .sheet) (b .done .0) t p (b .done .1)))

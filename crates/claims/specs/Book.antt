@@ -8,14 +8,13 @@ use mathlib.Core.Option.{Option, none, some}
 use Prim.Native.Nat.{ℕ, _+_}
 use lib.Dec.{eqb, leb}
 use lib.ListN.{length, getElem?}
-use Rattle.refusal.specs.Numbers.{verdictNo}
 use Rattle.refusal.specs.declared.Refusal.{Refusal}
 use Rattle.refusal.specs.declared.Refusal.the-variants.{Letter, Closed, Full, NoRound}
 use Rattle.refusal.specs.declared.Verdict.{Verdict}
 use Rattle.refusal.specs.declared.Verdict.the-variants.{True}
 use Rattle.words.specs.Below.{one}
 use Rattle.sheet.specs.RuleSheet.{RuleSheet, outputs}
-use Rattle.record.specs.Record.{share}
+use Rattle.record.specs.Record.{maxRounds, share, sameVerdict}
 use Rattle.completions.specs.Completion.{LetterSet, masked}
 use Rattle.completions.specs.Judged.{RoundVerdict, ClosingVerdict}
 use Rattle.letters.specs.Masks.{badMasks}
@@ -43,19 +42,16 @@ emptyBook = record { rounds = []; told = []; shut = false }
 -- the entry is this verdict
 abbrev pub isAt : Option Verdict → Verdict → Bool
 isAt none v = false
-isAt (some u) v = eqb (verdictNo u) (verdictNo v)
+isAt (some u) v = sameVerdict u v
 
 -- the number of accepted rounds that were answered with the verdict v on output k
 unfoldable pub counted : List (List Verdict) → ℕ → Verdict → ℕ
 counted [] k v = 0
 counted (vs ∷ told) k v = one (isAt (getElem? vs k) v) + counted told k v
 
-abbrev pub limit : ℕ
-limit = 1000000
-
 -- what a call is refused with, or none, when the list has t rounds
 unfoldable pub refusal : RuleSheet → ℕ → Bool → Call → Option Refusal
-refusal x t shut (round known val) = cond shut (some Closed) (cond (badMasks (x .inputs) known val) (some Letter) (cond (leb limit t) (some Full) none))
+refusal x t shut (round known val) = cond shut (some Closed) (cond (badMasks (x .inputs) known val) (some Letter) (cond (leb maxRounds t) (some Full) none))
 refusal x t shut closing = cond shut (some Closed) (cond (eqb t 0) (some NoRound) none)
 
 -- a list with one entry for each of n outputs, of which R holds

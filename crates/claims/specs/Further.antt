@@ -6,25 +6,22 @@ use mathlib.Core.List.{List, [], _∷_, _++_}
 use mathlib.Core.Option.{Option}
 use Prim.Native.Nat.{ℕ, _+_, _≤_, _<_}
 use lib.ListN.{length}
-use Rattle.refusal.specs.Decided.{Decided}
 use Rattle.refusal.specs.declared.Verdict.{Verdict}
 use Rattle.refusal.specs.declared.Verdict.the-variants.{Broken}
 use Rattle.refusal.specs.declared.Outcome.the-variants.{Accepted}
 use Rattle.sheet.specs.RuleSheet.{RuleSheet, outputs, streams, accepted, readSheet}
-use Rattle.record.specs.Record.{sumAt}
-use Rattle.record.specs.declared.JournalRecord.{JournalRecord}
+use Rattle.circular.specs.Checks.{OfSheet}
+use Rattle.record.specs.Record.{maxRounds, sumAt}
 use Rattle.completions.specs.Live.{Pairs, Live, countPairs}
 use Rattle.completions.specs.Completion.{LetterSet, Completion}
 use Rattle.completions.specs.Judged.{RoundVerdict, ClosingVerdict}
 use Rattle.completions.specs.Steps.{Represents, Within, pairsWithin}
-use Rattle.pairs.specs.Storage.{stored}
-use Rattle.checks.specs.Checks as checks
+use Rattle.pairs.specs.Storage.{storageWords, live, reached, scratch}
 use Rattle.accepted.specs.Results.{width, Prepared}
 use Rattle.accepted.specs.declared.PrepareAnswer.{PrepareAnswer}
-use Rattle.monitor.specs.Entries.{OfSheet}
+use Rattle.monitor.specs.Entries.{PrepareCall}
 use Rattle.claims.specs.Book.{Call, Answer, Book, BookRun}
-use Rattle.claims.specs.Session.{Held, Session}
-use Rattle.claims.specs.Demands.{lent}
+use Rattle.claims.specs.Session.{Held, held, Session}
 
 -- a sheet that is read has at most 463 bytes (01, "The sheet")
 abbrev pub LongestSheet : Type 0
@@ -63,11 +60,11 @@ ShortCompletion =
     (x : RuleSheet) → streams x ≤ 8 → (L : Pairs) → Represents 256 L (Live x) → (r : LetterSet) (rs : List LetterSet) (ls : List ℕ) → Completion x (r ∷ rs) ls
     → (ms : List ℕ) × Completion x (r ∷ rs) ms × (length ms < length (r ∷ rs) + countPairs 256 L)
 
--- two storages hold the same pairs in each of the three sets: the live set, the reached set and the scratch set
+-- two storages hold the same pairs in each of the three sets
 pub record SameSets (t t′ : List ℕ) : Type 0 where
-  pub live : (b : ℕ) (c : Option ℕ) → b < 256 → Within 256 c → stored t 0 b c ≡ stored t′ 0 b c
-  pub reached : (b : ℕ) (c : Option ℕ) → b < 256 → Within 256 c → stored t 1028 b c ≡ stored t′ 1028 b c
-  pub scratch : (b : ℕ) (c : Option ℕ) → b < 256 → Within 256 c → stored t 2056 b c ≡ stored t′ 2056 b c
+  pub live : (b : ℕ) (c : Option ℕ) → b < 256 → Within 256 c → live t b c ≡ live t′ b c
+  pub reached : (b : ℕ) (c : Option ℕ) → b < 256 → Within 256 c → reached t b c ≡ reached t′ b c
+  pub scratch : (b : ℕ) (c : Option ℕ) → b < 256 → Within 256 c → scratch t b c ≡ scratch t′ b c
 
 -- nothing hangs on what the storage held before preparation (01, "Completions and verdicts"): two preparations of a sheet, on any storages s and
 -- s′, leave the same sets and answer with the same number of live pairs and the same record
@@ -76,27 +73,28 @@ StorageForgotten =
     (x : RuleSheet) (s s′ t t′ : List ℕ) (a a′ : PrepareAnswer) → Prepared x s t a → Prepared x s′ t′ a′
     → SameSets t t′ × (a .live ≡ a′ .live) × (a .record ≡ a′ .record)
 
--- after an accepted preparation and any calls, the four counts of each output add up to the rounds, of which there are at most 1,000,000, and
--- the storage is as long as it was: rules 15 and 18 are never met
-pub record InOrder (x : RuleSheet) (n : ℕ) (h : Held) : Type 0 where
-  pub sums : (k : ℕ) → k < outputs x → sumAt (h .journal .counts) k ≡ h .journal .rounds
-  pub few : h .journal .rounds ≤ 1000000
-  pub long : n ≤ length (h .storage)
+-- P holds of what is held after one accepted preparation and any calls with the same sheet
+abbrev pub AfterCalls : (RuleSheet → Held → Type 0) → Type 0
+AfterCalls P =
+    (bs s t : List ℕ) (p : PrepareAnswer) → PrepareCall bs s t p → p .outcome ≡ Accepted
+    → (cs : List Call) (as′ : List Answer) (h : Held) → Session bs (held t (p .record)) cs as′ h
+    → OfSheet bs (λ x. P x h)
+
+-- the four counts of each output add up to the rounds, of which there are at most 1,000,000, and the storage is as long as it has to be: rules
+-- 15 and 18 are never met
+pub record InOrder (x : RuleSheet) (h : Held) : Type 0 where
+  pub sums : (k : ℕ) → k < outputs x → sumAt (h .record .counts) k ≡ h .record .rounds
+  pub few : h .record .rounds ≤ maxRounds
+  pub long : storageWords ≤ length (h .storage)
 
 abbrev pub StaysInOrder : Type 0
-StaysInOrder =
-    (bs s t : List ℕ) (r : JournalRecord) (p : PrepareAnswer)
-    → Decided (checks.Broken bs (lent s r)) checks.rule (checks.entryChecks bs checks.prepareChecks) Accepted
-    → (z : OfSheet bs (λ x. Prepared x s t p))
-    → (cs : List Call) (as′ : List Answer) (h : Held) → Session bs (record { storage = t; journal = p .record }) cs as′ h → InOrder (z .0) 3084 h
+StaysInOrder = AfterCalls InOrder
 
--- after a preparation and any calls the scratch set is empty, and the reached set has no pair beyond the sheet's valuations: nothing is left in
--- the words that rounds don't write (builders' choice, docs/LAYOUT)
-pub record Tidy (w : ℕ) (t : List ℕ) : Type 0 where
-  pub reached : (b : ℕ) (c : Option ℕ) → b < 256 → Within 256 c → stored t 1028 b c ≡ pairsWithin w (stored t 1028) b c
-  pub scratch : (b : ℕ) (c : Option ℕ) → b < 256 → Within 256 c → stored t 2056 b c ≡ false
+-- the scratch set is empty, and the reached set has no pair beyond the sheet's valuations: nothing is left in the words that rounds don't write
+-- (builders' choice, docs/LAYOUT)
+pub record Tidy (x : RuleSheet) (h : Held) : Type 0 where
+  pub reached : (b : ℕ) (c : Option ℕ) → b < 256 → Within 256 c → reached (h .storage) b c ≡ pairsWithin (width x) (reached (h .storage)) b c
+  pub scratch : (b : ℕ) (c : Option ℕ) → b < 256 → Within 256 c → scratch (h .storage) b c ≡ false
 
 abbrev pub StaysTidy : Type 0
-StaysTidy =
-    (bs s t : List ℕ) (p : PrepareAnswer) (z : OfSheet bs (λ x. Prepared x s t p)) (cs : List Call) (as′ : List Answer) (h : Held)
-    → Session bs (record { storage = t; journal = p .record }) cs as′ h → Tidy (width (z .0)) (h .storage)
+StaysTidy = AfterCalls Tidy

@@ -2,5 +2,4 @@ pub mod Book
 pub mod Session
 pub mod Demands
 pub mod Further
-pub mod ReadSheet
 pub mod Share

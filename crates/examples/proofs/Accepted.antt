@@ -11,7 +11,7 @@ use Rattle.refusal.proofs.Decisions.{decided-once}
 use Rattle.words.proofs.Tests.{and-left, and-right, not-both, true-of, of-true}
 use Rattle.sheet.specs.RuleSheet.{RuleSheet, outputs, Reading, refused, accepted, readSheet}
 use Rattle.circular.specs.Circular.{edges, CircularSheet}
-use Rattle.circular.specs.Checks as sheets
+use Rattle.circular.specs.Checks.{sheetChecks}
 use Rattle.circular.proofs.Decide.{circular?, circular?-true, circular?-of}
 use Rattle.circular.proofs.Decided.{level, round}
 use Rattle.examples.specs.Table.{SheetOutcome, AcceptedAs}
@@ -65,4 +65,4 @@ module _ (bs : List ℕ) (x : RuleSheet) (e : readSheet bs ≡ accepted x) where
 -- ---- one outcome
 
 pub one-outcome : (bs : List ℕ) (o p : Outcome) → SheetOutcome bs o → SheetOutcome bs p → o ≡ p
-one-outcome bs = decided-once (sheets.Broken bs) sheets.rule (sheets.checksOf bs)
+one-outcome bs = decided-once (sheetChecks bs)

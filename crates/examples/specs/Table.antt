@@ -14,7 +14,7 @@ use Rattle.refusal.specs.declared.Verdict.{Verdict}
 use Rattle.refusal.specs.declared.Verdict.the-variants.{False, True, Open, Broken}
 use Rattle.sheet.specs.RuleSheet.{RuleSheet, outputs, accepted, readSheet}
 use Rattle.lola.specs.Equations.{joined}
-use Rattle.circular.specs.Checks as sheets
+use Rattle.circular.specs.Checks.{sheetChecks}
 use Rattle.circular.specs.Unique.{TraceOf}
 use Rattle.completions.specs.Live.{Pairs, Live, countPairs}
 use Rattle.completions.specs.Completion.{LetterSet, masked}
@@ -40,7 +40,7 @@ unheard = masked 0 0
 
 -- what rules 1 to 10 make of a sheet's bytes (01, "What is turned down")
 abbrev pub SheetOutcome : List ℕ → Outcome → Type 0
-SheetOutcome bs o = Decided (sheets.Broken bs) sheets.rule (sheets.checksOf bs) o
+SheetOutcome bs o = Decided (sheetChecks bs) o
 
 -- the bytes break none of them, and are the sheet x
 pub record AcceptedAs (bs : List ℕ) (x : RuleSheet) : Type 0 where

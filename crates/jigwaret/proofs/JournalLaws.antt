@@ -1,7 +1,8 @@
--- The exported functions of a journal: the slices' sizes, byte 6 of an accepted sheet, and what an outcome leaves.
-use mathlib.Core.Bool.{Bool, true, not}
+-- The exported functions of a journal: the slices' sizes, the mark for closed, byte 6 of an accepted sheet, and what an outcome leaves.
+use mathlib.Core.Bool.{Bool, true, false, not}
 use mathlib.Core.Path.{_≡_, refl, sym, ap, _∙_, subst}
-use mathlib.Core.List.{List, List·Memᴰ·head}
+use mathlib.Core.Logic.{inl, inr}
+use mathlib.Core.List.{List, [], _∷_, _++_}
 use Prim.Native.Nat.{ℕ, _≤_, _<_}
 use native.Mathlib.Omega.{arith}
 use native.Mathlib.Decide.{decLt}
@@ -9,19 +10,25 @@ use lib.ListN.{length}
 use lib.Seq.{paste, length-paste}
 use borrow.Author.Tests.{not-true, lt-ltb}
 use Rattle.refusal.specs.Numbers.{refusalNo, outcomeNo}
-use Rattle.refusal.specs.Decided.{Decided}
+use Rattle.refusal.specs.Decided.{Check, check, Decided}
 use Rattle.refusal.specs.declared.Refusal.{Refusal}
+use Rattle.refusal.specs.declared.Refusal.the-variants.{Record}
 use Rattle.refusal.specs.declared.Outcome.{Outcome}
 use Rattle.refusal.specs.declared.Outcome.the-variants.{Accepted, Refused}
+use Rattle.refusal.proofs.Decisions.{all-passed, decided-behind, passed-both}
 use Rattle.sheet.specs.RuleSheet.{RuleSheet}
-use Rattle.sheet.specs.Checks.{outputsOf, short, checksOf, broken?}
+use Rattle.sheet.specs.Checks.{outputsOf, readingChecks}
 use Rattle.sheet.proofs.Formed.{counts-of, read-formed}
-use Rattle.circular.specs.Checks.{reading}
-use Rattle.slices.specs.Slices.{sized}
-use Rattle.slices.proofs.SliceLaws.{Sizes, right-sizes}
-use Rattle.checks.specs.Checks.{Given, CallCheck, sheet, Broken, rule, entryChecks}
-use Rattle.monitor.specs.Entries.{OfSheet}
-use Rattle.jigwaret.specs.Journal.{Slices, slices, SlicesAfter, BySizes}
+use Rattle.circular.specs.Checks.{OfSheet, sheetChecks}
+use Rattle.record.specs.declared.JournalRecord.{JournalRecord}
+use Rattle.checks.specs.Checks.{tooShort}
+use Rattle.slices.specs.Slices.{marked, numbersOf, verdictNumbers, sized}
+use Rattle.slices.specs.Loaded.{loaded}
+use Rattle.slices.proofs.SliceLaws.{Sizes, right-sizes, loaded-right, loaded-wrong}
+use Rattle.accepted.specs.declared.RoundAnswer.{RoundAnswer}
+use Rattle.accepted.specs.declared.ClosingAnswer.{ClosingAnswer}
+use Rattle.monitor.specs.Entries.{Rounds, RoundCall, CloseCall}
+use Rattle.jigwaret.specs.Journal.{Slices, slices, SlicesAfter, markChecks, MarkRefused, ByMark, RoundNumbered, ClosingNumbered, BySizes}
 
 -- ---- sizes
 
@@ -50,14 +57,51 @@ front-size n old new vs h l e = rw e (length-paste old 0 vs n (omega arith) l)
 pub put-behind : (n : ℕ) (old front new vs xs : List ℕ) → front ≡ paste old 0 vs n → new ≡ paste front n xs n → new ≡ paste (paste old 0 vs n) n xs n
 put-behind n old front new vs xs e f = rw (sym e) f
 
+-- ---- by the mark
+
+module _ (bs s t : List ℕ) (z : Slices) (r : ℕ) where
+  -- a record that is refused whatever else is handed over
+  mark-refused : (P : Type 0) (rest : List Check) (o : Outcome) (new answer : List ℕ) → Decided (sheetChecks bs ++ (tooShort (length s) ∷ (check Record P ∷ rest))) o → P → r ≡ outcomeNo o
+      → ((e : Refusal) → o ≡ Refused e → t ≡ s) → SlicesAfter new answer z o → MarkRefused bs s t z r
+  mark-refused P rest o new answer d p n f w =
+      let e : Decided (markChecks bs (length s)) o = decided-behind (sheetChecks bs) (tooShort (length s) ∷ (check Record P ∷ rest)) (tooShort (length s) ∷ (check Record (Unit {0}) ∷ [])) o stop d in
+      record { outcome = o; decided = e; number = n; kept = kept o e f w }
+    where
+      stop : Decided (tooShort (length s) ∷ (check Record P ∷ rest)) o → Decided (tooShort (length s) ∷ (check Record (Unit {0}) ∷ [])) o
+      stop (inl h) = inl h
+      stop (inr (h, inl g)) = inr (h, inl (tt, g .1))
+      stop (inr (h, inr g)) = absurd (g .0 p)
+
+      kept : (o : Outcome) → Decided (markChecks bs (length s)) o → ((e : Refusal) → o ≡ Refused e → t ≡ s) → SlicesAfter new answer z o → (t ≡ s) × (z .rec′ ≡ z .rec) × (z .ans′ ≡ z .ans)
+      kept Accepted e f w = absurd (all-passed (tooShort (length s) ∷ (check Record (Unit {0}) ∷ [])) (passed-both (sheetChecks bs) _ e .1) .1 .0 tt)
+      kept (Refused q) e f w = (f q refl, w .0, w .1)
+
+  pub round-by-mark : (known val : ℕ) (a : RoundAnswer) → RoundCall bs s t (loaded (z .rec)) known val a → r ≡ outcomeNo (a .outcome)
+      → SlicesAfter (numbersOf (a .record)) (paste (z .ans) 0 (verdictNumbers (a .verdicts) (outputsOf bs)) (outputsOf bs)) z (a .outcome)
+      → ByMark (marked (z .rec)) (RoundNumbered bs s t known val z r) (MarkRefused bs s t z r)
+  round-by-mark known val a d n w = go (marked (z .rec)) refl
+    where
+      go : (b : Bool) → marked (z .rec) ≡ b → ByMark b (RoundNumbered bs s t known val z r) (MarkRefused bs s t z r)
+      go true e = record { answer = a; result = subst (λ (q : JournalRecord). RoundCall bs s t q known val a) (loaded-right (z .rec) e) d; number = n; written = w }
+      go false e = mark-refused _ _ (a .outcome) _ _ (d .decided) (loaded-wrong (outputsOf bs) (z .rec) e) n (λ q f. subst (Rounds bs s t (loaded (z .rec)) known val a) f (d .result) .0) w
+
+pub closing-by-mark : (bs s : List ℕ) (z : Slices) (r : ℕ) (a : ClosingAnswer) → CloseCall bs s (loaded (z .rec)) a → r ≡ outcomeNo (a .outcome)
+    → SlicesAfter (numbersOf (a .record)) (paste (paste (z .ans) 0 (verdictNumbers (a .verdicts) (outputsOf bs)) (outputsOf bs)) (outputsOf bs) (a .shares) (outputsOf bs)) z (a .outcome)
+    → ByMark (marked (z .rec)) (ClosingNumbered bs s z r) (MarkRefused bs s s z r)
+closing-by-mark bs s z r a d n w = go (marked (z .rec)) refl
+  where
+    go : (b : Bool) → marked (z .rec) ≡ b → ByMark b (ClosingNumbered bs s z r) (MarkRefused bs s s z r)
+    go true e = record { answer = a; result = subst (λ (q : JournalRecord). CloseCall bs s q a) (loaded-right (z .rec) e) d; number = n; written = w }
+    go false e = mark-refused bs s s z r _ _ (a .outcome) _ _ (d .decided) (loaded-wrong (outputsOf bs) (z .rec) e) n (λ q f. refl) w
+
 -- ---- an accepted sheet has a byte 6, and it is at most 7
 
-pub sheet-long : (bs : List ℕ) (g : Given) (cs : List CallCheck) → Decided (Broken bs g) rule (entryChecks bs cs) Accepted → 8 ≤ length bs
-unfolding checksOf broken?
-sheet-long bs g cs d = go (decLt (length bs) 8)
+pub sheet-long : (bs : List ℕ) (cs : List Check) → Decided (sheetChecks bs ++ cs) Accepted → 8 ≤ length bs
+unfolding readingChecks
+sheet-long bs cs d = go (decLt (length bs) 8)
   where
     go : Dec (length bs < 8) → 8 ≤ length bs
-    go (yes h) = absurd (d (sheet (reading short)) (List·Memᴰ·head refl) (lt-ltb (length bs) 8 h))
+    go (yes h) = absurd (all-passed (sheetChecks bs) (passed-both (sheetChecks bs) cs d .0) .0 (lt-ltb (length bs) 8 h))
     go (no h) = omega arith
 
 pub few-outputs : (bs : List ℕ) (P : RuleSheet → Type 0) → OfSheet bs P → outputsOf bs ≤ 7

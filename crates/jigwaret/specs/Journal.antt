@@ -3,18 +3,23 @@
 -- Manual: "Calling it".
 use mathlib.Core.Path.{_≡_}
 use mathlib.Core.Bool.{Bool, true, false}
-use mathlib.Core.List.{List, _∷_, []}
+use mathlib.Core.List.{List, _∷_, [], _++_}
 use Prim.Native.Nat.{ℕ}
+use lib.ListN.{length}
 use lib.Seq.{paste}
 use Rattle.refusal.specs.Numbers.{outcomeNo}
+use Rattle.refusal.specs.Decided.{Check, check, Decided}
+use Rattle.refusal.specs.declared.Refusal.the-variants.{Record}
 use Rattle.refusal.specs.declared.Outcome.{Outcome}
 use Rattle.refusal.specs.declared.Outcome.the-variants.{Accepted, Refused}
 use Rattle.sheet.specs.Checks.{outputsOf}
-use Rattle.slices.specs.Slices.{recordOf, numbersOf, sized}
+use Rattle.circular.specs.Checks.{sheetChecks}
+use Rattle.checks.specs.Checks.{tooShort}
+use Rattle.slices.specs.Slices.{recordOf, marked, numbersOf, verdictNumbers, sized}
 use Rattle.accepted.specs.declared.PrepareAnswer.{PrepareAnswer}
 use Rattle.accepted.specs.declared.RoundAnswer.{RoundAnswer}
 use Rattle.accepted.specs.declared.ClosingAnswer.{ClosingAnswer}
-use Rattle.claims.specs.ReadSheet.{PreparedBytes, RoundBytes, ClosingBytes}
+use Rattle.monitor.specs.Entries.{PrepareCall, RoundCall, CloseCall}
 
 -- the record's and the answer's slices before and after
 pub record Slices : Type 0 where
@@ -28,26 +33,42 @@ abbrev pub SlicesAfter : List ℕ → List ℕ → Slices → Outcome → Type 0
 SlicesAfter new answer z Accepted = (z .rec′ ≡ new) × (z .ans′ ≡ answer)
 SlicesAfter new answer z (Refused e) = (z .rec′ ≡ z .rec) × (z .ans′ ≡ z .ans)
 
+-- 18 for a record whose mark for closed is neither 0 nor 1, behind the sheet's rules and 15
+abbrev pub markChecks : List ℕ → ℕ → List Check
+markChecks bs lent = sheetChecks bs ++ (tooShort lent ∷ (check Record (Unit {0}) ∷ []))
+
+-- a round or a closing with such a record, whatever else it is handed
+pub record MarkRefused (bs s t : List ℕ) (z : Slices) (r : ℕ) : Type 0 where
+  pub outcome : Outcome
+  pub decided : Decided (markChecks bs (length s)) outcome
+  pub number : r ≡ outcomeNo outcome
+  pub kept : (t ≡ s) × (z .rec′ ≡ z .rec) × (z .ans′ ≡ z .ans)
+
+-- by the mark
+abbrev pub ByMark : Bool → Type 0 → Type 0 → Type 0
+ByMark true Done Wrong = Done
+ByMark false Done Wrong = Wrong
+
 -- preparation: a fresh record, and the number of live pairs
 pub record PreparationNumbered (bs s t : List ℕ) (z : Slices) (r : ℕ) : Type 0 where
   pub answer : PrepareAnswer
-  pub result : PreparedBytes bs s t answer
+  pub result : PrepareCall bs s t answer
   pub number : r ≡ outcomeNo (answer .outcome)
   pub written : SlicesAfter (numbersOf (answer .record)) (paste (z .ans) 0 (answer .live ∷ []) 1) z (answer .outcome)
 
 -- a round: the verdict numbers of the n outputs
 pub record RoundNumbered (bs s t : List ℕ) (known val : ℕ) (z : Slices) (r : ℕ) : Type 0 where
   pub answer : RoundAnswer
-  pub result : RoundBytes bs s t (recordOf (z .rec)) known val answer
+  pub result : RoundCall bs s t (recordOf (z .rec)) known val answer
   pub number : r ≡ outcomeNo (answer .outcome)
-  pub written : SlicesAfter (numbersOf (answer .record)) (paste (z .ans) 0 (answer .verdicts) (outputsOf bs)) z (answer .outcome)
+  pub written : SlicesAfter (numbersOf (answer .record)) (paste (z .ans) 0 (verdictNumbers (answer .verdicts) (outputsOf bs)) (outputsOf bs)) z (answer .outcome)
 
 -- a closing: those, and behind them the n shares
 pub record ClosingNumbered (bs s : List ℕ) (z : Slices) (r : ℕ) : Type 0 where
   pub answer : ClosingAnswer
-  pub result : ClosingBytes bs s (recordOf (z .rec)) answer
+  pub result : CloseCall bs s (recordOf (z .rec)) answer
   pub number : r ≡ outcomeNo (answer .outcome)
-  pub written : SlicesAfter (numbersOf (answer .record)) (paste (paste (z .ans) 0 (answer .verdicts) (outputsOf bs)) (outputsOf bs) (answer .shares) (outputsOf bs)) z (answer .outcome)
+  pub written : SlicesAfter (numbersOf (answer .record)) (paste (paste (z .ans) 0 (verdictNumbers (answer .verdicts) (outputsOf bs)) (outputsOf bs)) (outputsOf bs) (answer .shares) (outputsOf bs)) z (answer .outcome)
 
 -- by the sizes of the slices: where they are wrong, 255, and nothing has altered
 abbrev pub BySizes : Bool → Type 0 → List ℕ → List ℕ → Slices → ℕ → Type 0
@@ -61,7 +82,8 @@ abbrev pub PreparedAs : List ℕ → List ℕ → List ℕ → Slices → ℕ �
 PreparedAs bs s t z r = BySizes (sized (z .rec) (z .ans)) (PreparationNumbered bs s t z r) s t z r
 
 abbrev pub RoundAs : List ℕ → List ℕ → List ℕ → ℕ → ℕ → Slices → ℕ → Type 0
-RoundAs bs s t known val z r = BySizes (sized (z .rec) (z .ans)) (RoundNumbered bs s t known val z r) s t z r
+RoundAs bs s t known val z r =
+    BySizes (sized (z .rec) (z .ans)) (ByMark (marked (z .rec)) (RoundNumbered bs s t known val z r) (MarkRefused bs s t z r)) s t z r
 
 abbrev pub ClosedAs : List ℕ → List ℕ → Slices → ℕ → Type 0
-ClosedAs bs s z r = BySizes (sized (z .rec) (z .ans)) (ClosingNumbered bs s z r) s s z r
+ClosedAs bs s z r = BySizes (sized (z .rec) (z .ans)) (ByMark (marked (z .rec)) (ClosingNumbered bs s z r) (MarkRefused bs s s z r)) s s z r

@@ -3,23 +3,20 @@
 use mathlib.Core.Path.{_≡_}
 use mathlib.Core.List.{List}
 use Prim.Native.Nat.{ℕ}
-use lib.ListN.{length}
 use Rattle.refusal.specs.Numbers.{outcomeNo}
 use Rattle.refusal.specs.Decided.{Decided}
 use Rattle.refusal.specs.declared.Outcome.{Outcome}
-use Rattle.circular.specs.Checks as sheets
-use Rattle.trace.specs.Checks as traces
-use Rattle.trace.specs.Evaluated.{Evaluated}
+use Rattle.circular.specs.Checks.{sheetChecks}
+use Rattle.trace.specs.Evaluated.{EvaluateCall}
 
 -- the check of a sheet
 pub record Checked (bs : List ℕ) (r : ℕ) : Type 0 where
   pub outcome : Outcome
-  pub decided : Decided (sheets.Broken bs) sheets.rule (sheets.checksOf bs) outcome
+  pub decided : Decided (sheetChecks bs) outcome
   pub number : r ≡ outcomeNo outcome
 
 -- evaluation
 pub record EvaluatedAs (bs letters old new : List ℕ) (r : ℕ) : Type 0 where
   pub outcome : Outcome
-  pub decided : Decided (traces.Broken bs letters (length old)) traces.rule (traces.checksOf bs letters) outcome
-  pub evaluated : Evaluated bs letters old new outcome
+  pub call : EvaluateCall bs letters old new outcome
   pub number : r ≡ outcomeNo outcome

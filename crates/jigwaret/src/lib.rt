@@ -27,12 +27,12 @@ pub extern "C" fn jigwaret_evaluate(sheet: &[u8], letters: &[u8], out: &mut [u8]
 pub extern "C" fn jigwaret_prepare(
     sheet: &[u8],
     storage: &mut [u64],
-    journal: &mut [u32],
+    record: &mut [u32],
     answer: &mut [u32],
 ) -> u32
-    ensures { λ r. ⌜ PreparedAs (now (sheet .entry)) (now (storage .entry)) (now (storage .exit)) (Journal·slices (now (journal .entry)) (now (journal .exit)) (now (answer .entry)) (now (answer .exit))) r ⌝ }
+    ensures { λ r. ⌜ PreparedAs (now (sheet .entry)) (now (storage .entry)) (now (storage .exit)) (Journal·slices (now («record» .entry)) (now («record» .exit)) (now (answer .entry)) (now (answer .exit))) r ⌝ }
 {
-    if !slices::sized(journal.len(), answer.len()) {
+    if !slices::sized(record.len(), answer.len()) {
         return 255;
     }
     let a = monitor::prepare(sheet, storage);
@@ -40,7 +40,7 @@ pub extern "C" fn jigwaret_prepare(
     match outcome {
         Outcome::Refused(e) => refusal::refusal_number(e),
         Outcome::Accepted => {
-            slices::store(journal, a.record);
+            slices::store(record, a.record);
             answer[0] = a.live;
             0
         }
@@ -52,25 +52,25 @@ pub extern "C" fn jigwaret_prepare(
 pub extern "C" fn jigwaret_round(
     sheet: &[u8],
     storage: &mut [u64],
-    journal: &mut [u32],
+    record: &mut [u32],
     known: u8,
     value: u8,
     answer: &mut [u32],
 ) -> u32
-    ensures { λ r. ⌜ RoundAs (now (sheet .entry)) (now (storage .entry)) (now (storage .exit)) known value (Journal·slices (now (journal .entry)) (now (journal .exit)) (now (answer .entry)) (now (answer .exit))) r ⌝ }
+    ensures { λ r. ⌜ RoundAs (now (sheet .entry)) (now (storage .entry)) (now (storage .exit)) known value (Journal·slices (now («record» .entry)) (now («record» .exit)) (now (answer .entry)) (now (answer .exit))) r ⌝ }
 {
-    if !slices::sized(journal.len(), answer.len()) {
+    if !slices::sized(record.len(), answer.len()) {
         return 255;
     }
-    let before = slices::load(journal);
+    let before = slices::load(record);
     let a = monitor::round(sheet, storage, before, known, value);
     let outcome = a.outcome;
     match outcome {
         Outcome::Refused(e) => refusal::refusal_number(e),
         Outcome::Accepted => {
-            slices::store(journal, a.record);
+            slices::store(record, a.record);
             let verdicts = a.verdicts;
-            slices::put_bytes(answer, 0, &verdicts, sheet[6] as usize);
+            slices::put_verdicts(answer, 0, verdicts, sheet[6] as usize);
             0
         }
     }
@@ -81,24 +81,24 @@ pub extern "C" fn jigwaret_round(
 pub extern "C" fn jigwaret_close(
     sheet: &[u8],
     storage: &[u64],
-    journal: &mut [u32],
+    record: &mut [u32],
     answer: &mut [u32],
 ) -> u32
-    ensures { λ r. ⌜ ClosedAs (now (sheet .entry)) (now (storage .entry)) (Journal·slices (now (journal .entry)) (now (journal .exit)) (now (answer .entry)) (now (answer .exit))) r ⌝ }
+    ensures { λ r. ⌜ ClosedAs (now (sheet .entry)) (now (storage .entry)) (Journal·slices (now («record» .entry)) (now («record» .exit)) (now (answer .entry)) (now (answer .exit))) r ⌝ }
 {
-    if !slices::sized(journal.len(), answer.len()) {
+    if !slices::sized(record.len(), answer.len()) {
         return 255;
     }
-    let before = slices::load(journal);
+    let before = slices::load(record);
     let a = monitor::close(sheet, storage, before);
     let outcome = a.outcome;
     match outcome {
         Outcome::Refused(e) => refusal::refusal_number(e),
         Outcome::Accepted => {
-            slices::store(journal, a.record);
+            slices::store(record, a.record);
             let n = sheet[6] as usize;
             let verdicts = a.verdicts;
-            slices::put_bytes(answer, 0, &verdicts, n);
+            slices::put_verdicts(answer, 0, verdicts, n);
             let shares = a.shares;
             slices::put_numbers(answer, n, &shares, n);
             0

@@ -1,7 +1,7 @@
 // The journal program: reads the sheet's file and standard input, and writes what the crate `lines` makes of them.
 ghost use Prim.Native.Nat.{_+_, _*_, _≤_};
 ghost use lib.ListN.{length};
-ghost use Rattle.sheet.specs.Reading.{Usable};
+ghost use Rattle.circular.specs.Checks.{IsAccepted};
 use libc::STDIN_FILENO;
 use libc::STDOUT_FILENO;
 use lines::Progress;
@@ -18,7 +18,7 @@ struct Taken {
 
 // Reads once, and writes what there is to write for the bytes that came.
 fn turn(x: Sheet, s: Progress, storage: &mut [u64], buf: &mut [u8], out: &mut [u8]) -> Taken
-    requires { ⌜ Usable x × (8 * length (now buf) + 462 ≤ length (now out)) ⌝ }
+    requires { ⌜ IsAccepted x × (8 * length (now buf) + 462 ≤ length (now out)) ⌝ }
 {
     let got = libc::read(STDIN_FILENO, buf);
     let n = io::count(got, buf);
@@ -43,7 +43,7 @@ fn turn(x: Sheet, s: Progress, storage: &mut [u64], buf: &mut [u8], out: &mut [u
 
 // All lines. A proved loop has to end, and nothing says that the input does, so the turns are counted down.
 fn run(x: Sheet, s: Progress, storage: &mut [u64])
-    requires { ⌜ Usable x ⌝ }
+    requires { ⌜ IsAccepted x ⌝ }
 {
     let mut buf = [0u8; 8000];
     let mut out = io::large_buffer();

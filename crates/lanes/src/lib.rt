@@ -21,7 +21,7 @@ mod expression; // expression.rt: expressions and equations on rows of two words
 mod mask; // mask.rt: the streams that expressions read one round earlier
 mod row; // row.rt: one row of words
 
-// The families of reads that may be of the lane's valuation, numbered as the read bytes are: those of family f begin at 0x40 + 16 f.
+// The families of reads that may be of the lane's valuation.
 const NOW: u8 = 0;
 
 const EARLIER: u8 = 1;

@@ -1,14 +1,13 @@
 -- A letter matches the masks input by input exactly if its known bits are the value.
 use mathlib.Core.Path.{_≡_, refl, sym, ap, ap₂, _∙_}
 use mathlib.Core.Bool.{Bool, true, false, cond, not, _&&_, Bool·beq, and-true, and-false}
-use Prim.Native.Nat.{ℕ, zero, suc, _+_, _-_, _%_, _<_, _≤_, _^_}
-use native.Mathlib.Nat.{mod-lt, mod-eq-of-lt}
+use Prim.Native.Nat.{ℕ, zero, suc, _+_, _<_, _≤_, _^_}
 use native.Mathlib.Omega.{arith}
 use native.Mathlib.Numerals.{add-one}
 use native.Mathlib.Decide.{ℕ-discrete}
-use lib.Bits.{bitAnd, and-le-r, and-mod}
+use lib.Bits.{bitAnd, and-le-r}
 use lib.Dec.{eqb, leb}
-use lib.Pow.{pow-pos, pow-mono, mod-mod-pow}
+use lib.Pow.{pow-mono}
 use borrow.Author.Tests.{eq-eqb, ne-eqb, eqb-true, leb-false, not-false}
 use Rattle.words.specs.Bits.{bit}
 use Rattle.words.proofs.BitLaws.{bit-and, bits-ext}
@@ -96,17 +95,7 @@ valid m known val h e =
       inside = eqb-true (bitAnd val known) val (not-false (eqb (bitAnd val known) val) (or-none (leb (2 ^ m) known) (not (eqb (bitAnd val known) val)) e .1));
     }
 
--- the bits of a number at places below m are those of its rest
-and-low : (m known x y : ℕ) → known < 2 ^ m → x % 2 ^ m ≡ y % 2 ^ m → bitAnd x known ≡ bitAnd y known
-and-low m known x y h e = sym (cut x) ∙ and-mod x known m ∙ ap (λ (z : ℕ). bitAnd z (known % 2 ^ m)) e ∙ sym (and-mod y known m) ∙ cut y
-  where
-    cut : (z : ℕ) → bitAnd z known % 2 ^ m ≡ bitAnd z known
-    cut z = let l : bitAnd z known < 2 ^ m = omega (arith, and-le-r z known) in mod-eq-of-lt l
-
--- so the masks ask of six bits what they ask of the inputs
-pub masked-low : (m known val v : ℕ) → m ≤ 6 → badMasks m known val ≡ false → masked known val (v % 64) ≡ masked known val (v % 2 ^ m)
-unfolding masked
-masked-low m known val v h e = ap (λ (z : ℕ). eqb z val) (and-low m known (v % 64) (v % 2 ^ m) (known-small m known val e) (six ∙ sym (mod-eq-of-lt (mod-lt v (pow-pos m)))))
-  where
-    six : v % 64 % 2 ^ m ≡ v % 2 ^ m
-    six = let q : 6 ≡ 6 - m + m = omega arith in ap (λ (k : ℕ). v % 2 ^ k % 2 ^ m) q ∙ mod-mod-pow v (6 - m) m
+-- so where rule 11 lets the masks pass, the letters that match are the round's set
+pub letters-masked : (m known val letters : ℕ) → m ≤ 6 → badMasks m known val ≡ false
+    → ((l : ℕ) → l < 64 → bit l letters ≡ matches known val 6 l) → (l : ℕ) → l < 64 → bit l letters ≡ masked known val l
+letters-masked m known val letters h e f l g = f l g ∙ matches-masked known val l (valid m known val h e)

@@ -1,7 +1,7 @@
 // A round's set of letters, made from its masks: bit l of the word is letter l.
 ghost use mathlib.Core.Path.{_≡_};
 ghost use mathlib.Core.Bool.{_&&_};
-ghost use Prim.Native.Nat.{ℕ, _<_, _≤_};
+ghost use Prim.Native.Nat.{ℕ, _%_, _^_, _<_, _≤_};
 ghost use Rattle.words.specs.Bits.{bit};
 ghost use Rattle.letters.specs.Masks.{badMasks};
 ghost use Rattle.letters.specs.Matching.{agrees, matches};
@@ -48,4 +48,20 @@ pub fn letters_of(known: u8, value: u8) -> u64
         i += 1;
     }
     set
+}
+
+// The letters of m inputs that are in a set, repeated in all lanes: lane l has the letter of l's first m bits. A product with a number whose
+// bits are 2^m apart puts the part of 2^m lanes next to itself.
+pub fn repeated(set: u64, m: usize) -> u64
+    requires { ⌜ (1 ≤ m) × (m ≤ 6) ⌝ }
+    ensures { λ r. ⌜ ((l : ℕ) → l < 64 → bit l r ≡ bit (l % 2 ^ m) set) ⌝ }
+{
+    match m {
+        1 => (set & 0x3) * 0x5555_5555_5555_5555,
+        2 => (set & 0xf) * 0x1111_1111_1111_1111,
+        3 => (set & 0xff) * 0x0101_0101_0101_0101,
+        4 => (set & 0xffff) * 0x0001_0001_0001_0001,
+        5 => (set & 0xffff_ffff) * 0x0000_0001_0000_0001,
+        _ => set,
+    }
 }

@@ -13,17 +13,16 @@ use Rattle.refusal.specs.declared.Refusal.{Refusal}
 use Rattle.refusal.specs.declared.Outcome.the-variants.{Refused}
 use Rattle.sheet.specs.Reading.{ruleSheet}
 use Rattle.sheet.specs.declared.Sheet.{Sheet}
-use Rattle.circular.specs.Checks as sheets
+use Rattle.circular.specs.Checks.{sheetChecks, AcceptedSheet}
 use Rattle.text.specs.Text.{sheetRefusal}
 use Rattle.text.specs.Wrote.{Wrote}
 use Rattle.claims.specs.Book.{emptyBook}
-use Rattle.claims.specs.Session.{Held}
-use Rattle.claims.specs.ReadSheet.{Accepts}
+use Rattle.claims.specs.Session.{Held, held}
 use Rattle.pending.specs.Lines.{linesFrom}
 use Rattle.pending.specs.Scan.{Scanned}
 use Rattle.pending.specs.declared.Pending.{Pending}
 use Rattle.answers.specs.Printed.{Written, ended, Printed, refusedSheet, journal}
-use Rattle.answers.specs.LineEnd.{held, Serves, Onward, Ends, LineEnded, room}
+use Rattle.answers.specs.LineEnd.{Serves, Onward, Ends, LineEnded, room}
 use Rattle.answers.specs.declared.Ended.{Ended}
 use Rattle.lines.specs.Machine.{Midway, Over, Stands}
 use Rattle.lines.specs.declared.Progress.{Progress}
@@ -105,7 +104,7 @@ module _ (sheet : List ℕ) (x : Sheet) (line : ℕ) (q : Pending) (h : Held) (s
 
 -- from one place to another, by these bytes of input and output
 abbrev pub Way : Sheet → ℕ → Pending → Held → ℕ → Pending → Held → List ℕ → List ℕ → Type 0
-Way x line q h line₁ q₁ h₁ xs ys = (sheet seen wrote : List ℕ) → Accepts sheet x → Midway sheet x line q h seen wrote → Midway sheet x line₁ q₁ h₁ (seen ++ xs) (wrote ++ ys)
+Way x line q h line₁ q₁ h₁ xs ys = (sheet seen wrote : List ℕ) → AcceptedSheet sheet x → Midway sheet x line q h seen wrote → Midway sheet x line₁ q₁ h₁ (seen ++ xs) (wrote ++ ys)
 
 -- ---- a run that is over
 
@@ -131,11 +130,11 @@ module _ (sheet : List ℕ) (x : Sheet) (s : Progress) (t seen wrote : List ℕ)
 
 -- ---- the beginning
 
-pub midway-start : (sheet : List ℕ) (x : Sheet) (q : Pending) (h : Held) → Accepts sheet x → Serves sheet (ruleSheet x) emptyBook h → Scanned (x .inputs) [] q → Midway sheet x 1 q h [] []
-midway-start sheet x q h o sv s = record { book = emptyBook; part = []; serves = sv; scanned = s; more = λ rest t w. journal (o .decided) (o .read .reads) w }
+pub midway-start : (sheet : List ℕ) (x : Sheet) (q : Pending) (h : Held) → AcceptedSheet sheet x → Serves sheet (ruleSheet x) emptyBook h → Scanned (x .inputs) [] q → Midway sheet x 1 q h [] []
+midway-start sheet x q h o sv s = record { book = emptyBook; part = []; serves = sv; scanned = s; more = λ rest t w. journal (o .decided) (o .reads) w }
 
-pub refused-start : (sheet input d e : List ℕ) (q : Refusal) (r : ℕ) → Decided (sheets.Broken sheet) sheets.rule (sheets.checksOf sheet) (Refused q) → Wrote d 0 (sheetRefusal q) e r → Printed sheet input (take r e)
-refused-start sheet input d e q r h w = subst (λ (z : List ℕ). Printed sheet input z) (sym (w .text)) (refusedSheet h)
+pub refused-start : (sheet input d e : List ℕ) (q : Refusal) (r : ℕ) → Decided (sheetChecks sheet) (Refused q) → Wrote d 0 (sheetRefusal q) e r → Printed sheet input (take r e)
+refused-start sheet input d e q r h w = subst (λ (z : List ℕ). Printed sheet input z) (sym (w .text)) (refusedSheet q h)
 
 -- ---- room
 

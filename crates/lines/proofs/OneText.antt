@@ -9,7 +9,7 @@ use Rattle.refusal.specs.declared.Verdict.{Verdict}
 use Rattle.refusal.proofs.Decisions.{decided-once}
 use Rattle.refusal.proofs.NumberLaws.{not-both}
 use Rattle.sheet.specs.RuleSheet.{RuleSheet, outputs, accepted}
-use Rattle.circular.specs.Checks as sheets
+use Rattle.circular.specs.Checks.{sheetChecks}
 use Rattle.text.specs.Text.{verdictLine, closingText, lineRefusal, sheetRefusal}
 use Rattle.claims.specs.Book.{Call, Answer, refused, verdicts, closed, Book, emptyBook, counted, BookStep}
 use Rattle.claims.proofs.BookLaws.{step-unique}
@@ -102,12 +102,12 @@ written-once x (unread e) (unread f) = refl
 -- ---- the program
 
 pub one-text : OneText
-one-text sheet input t u (refusedSheet {r = r} d) (refusedSheet {r = q} e) =
-    let z : Refused r ≡ Refused q = decided-once (sheets.Broken sheet) sheets.rule (sheets.checksOf sheet) (Refused r) (Refused q) d e in
+one-text sheet input t u (refusedSheet r d) (refusedSheet q e) =
+    let z : Refused r ≡ Refused q = decided-once (sheetChecks sheet) (Refused r) (Refused q) d e in
     let g : r ≡ q = cc in
     ap sheetRefusal g
-one-text sheet input t u (refusedSheet {r = r} d) (journal e f w) = absurd (not-both (decided-once (sheets.Broken sheet) sheets.rule (sheets.checksOf sheet) (Refused r) Accepted d e))
-one-text sheet input t u (journal e f w) (refusedSheet {r = r} d) = absurd (not-both (decided-once (sheets.Broken sheet) sheets.rule (sheets.checksOf sheet) (Refused r) Accepted d e))
+one-text sheet input t u (refusedSheet r d) (journal e f w) = absurd (not-both (decided-once (sheetChecks sheet) (Refused r) Accepted d e))
+one-text sheet input t u (journal e f w) (refusedSheet r d) = absurd (not-both (decided-once (sheetChecks sheet) (Refused r) Accepted d e))
 one-text sheet input t u (journal {x = x} d e v) (journal {x = y} f g w) =
     let z : accepted y ≡ accepted x = sym g ∙ e in
     let p : y ≡ x = cc in

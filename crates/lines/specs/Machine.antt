@@ -5,16 +5,16 @@ use mathlib.Core.List.{List, [], _++_}
 use Prim.Native.Nat.{ℕ}
 use Rattle.refusal.specs.declared.Outcome.{Outcome}
 use Rattle.refusal.specs.declared.Outcome.the-variants.{Accepted, Refused}
-use Rattle.sheet.specs.Reading.{ruleSheet, Usable}
+use Rattle.sheet.specs.Reading.{ruleSheet}
 use Rattle.sheet.specs.declared.Sheet.{Sheet}
+use Rattle.circular.specs.Checks.{AcceptedSheet, IsAccepted}
 use Rattle.claims.specs.Book.{Book}
-use Rattle.claims.specs.Session.{Held}
-use Rattle.claims.specs.ReadSheet.{Accepts}
+use Rattle.claims.specs.Session.{Held, held}
 use Rattle.pending.specs.Lines.{linesFrom}
 use Rattle.pending.specs.Scan.{Scanned}
 use Rattle.pending.specs.declared.Pending.{Pending}
 use Rattle.answers.specs.Printed.{Written, Printed}
-use Rattle.answers.specs.LineEnd.{held, Serves}
+use Rattle.answers.specs.LineEnd.{Serves}
 use Rattle.lines.specs.declared.Progress.{Progress}
 use Rattle.lines.specs.declared.Started.{Started}
 
@@ -39,14 +39,14 @@ Place sheet x s h seen wrote false = Midway sheet x (s .line) (s .pending) h see
 
 -- where a run with the storage t stands
 pub record Stands (sheet : List ℕ) (x : Sheet) (s : Progress) (t seen wrote : List ℕ) : Type 0 where
-  pub accepts : Accepts sheet x
+  pub accepts : AcceptedSheet sheet x
   pub place : Place sheet x s (held t (s .record)) seen wrote (s .over)
 
 -- ---- What the functions give
 
 -- the beginning: a run of a sheet that is accepted, or all that is written for one that is refused, whatever the input
 abbrev pub Begun : List ℕ → Started → List ℕ → List ℕ → Outcome → Type 0
-Begun sheet r t wrote Accepted = Usable (r .sheet) × (r .at ≡ 0) × Stands sheet (r .sheet) (r .state) t [] []
+Begun sheet r t wrote Accepted = IsAccepted (r .sheet) × (r .at ≡ 0) × Stands sheet (r .sheet) (r .state) t [] []
 Begun sheet r t wrote (Refused e) = (input : List ℕ) → Printed sheet input wrote
 
 -- a chunk: from wherever the run stood it goes on by the chunk and by what was written

@@ -1,7 +1,8 @@
 // The line protocol of the journal program.
 ghost use Prim.Native.Nat.{_+_, _*_, _≤_};
 ghost use lib.ListN.{length, take};
-ghost use Rattle.sheet.specs.Reading.{Usable};
+ghost use Rattle.circular.specs.Checks.{IsAccepted};
+ghost use Rattle.pairs.specs.Storage.{storageWords};
 ghost use Rattle.lines.specs.Machine.{Begun, Goes, Finishes};
 use pending::Pending;
 use record::JournalRecord;
@@ -32,7 +33,7 @@ pub struct Fed {
 
 // Accepts the sheet and prepares the storage; or puts a refusal of the sheet into `out`, and the run is over.
 pub fn start(sheet: &[u8], storage: &mut [u64], out: &mut [u8]) -> Started
-    requires { ⌜ (3084 ≤ length (now storage)) × (40 ≤ length (now out)) ⌝ }
+    requires { ⌜ (storageWords ≤ length (now storage)) × (40 ≤ length (now out)) ⌝ }
     ensures begun { λ r. ⌜ Begun (now (sheet .entry)) r (now (storage .exit)) (take (r .at) (now (out .exit))) (r .outcome) ⌝ }
     ensures bound { λ r. ⌜ r .at ≤ length (now (out .exit)) ⌝ }
 {
@@ -58,7 +59,7 @@ pub fn start(sheet: &[u8], storage: &mut [u64], out: &mut [u8]) -> Started
             }
         }
         Outcome::Accepted => {
-            let prepared = monitor::prepare_read(x, storage);
+            let prepared = monitor::prepare_on(x, storage);
             let record = prepared.record;
             let state = Progress {
                 over: false,
@@ -78,7 +79,7 @@ pub fn start(sheet: &[u8], storage: &mut [u64], out: &mut [u8]) -> Started
 
 // Takes a chunk of the input in, and puts what is to be written for it into `out`.
 pub fn feed(x: Sheet, s: Progress, storage: &mut [u64], chunk: &[u8], out: &mut [u8]) -> Fed
-    requires { ⌜ Usable x × (8 * length (now chunk) + 462 ≤ length (now out)) ⌝ }
+    requires { ⌜ IsAccepted x × (8 * length (now chunk) + 462 ≤ length (now out)) ⌝ }
     ensures goes { λ r. ⌜ Goes x s (now (storage .entry)) (now (chunk .entry)) (r .state) (now (storage .exit)) (take (r .at) (now (out .exit))) ⌝ }
     ensures bound { λ r. ⌜ r .at ≤ length (now (out .exit)) ⌝ }
 {
@@ -124,7 +125,7 @@ pub fn feed(x: Sheet, s: Progress, storage: &mut [u64], chunk: &[u8], out: &mut 
 
 // The input is at its end: a last line may lack its line feed.
 pub fn finish(x: Sheet, s: Progress, storage: &mut [u64], out: &mut [u8]) -> usize
-    requires { ⌜ Usable x × (470 ≤ length (now out)) ⌝ }
+    requires { ⌜ IsAccepted x × (470 ≤ length (now out)) ⌝ }
     ensures finishes { λ r. ⌜ Finishes x s (now (storage .entry)) (take r (now (out .exit))) ⌝ }
     ensures bound { λ r. ⌜ r ≤ length (now (out .exit)) ⌝ }
 {

@@ -1,73 +1,116 @@
--- An entry's checks: the sheet's own, then the call's.
+-- From the parts of a call to its definition: the sheet's checks, then the call's, then what is done.
 use mathlib.Core.Path.{_≡_, refl, sym, _∙_, subst}
-use mathlib.Core.List.{List, map}
-use Prim.Native.Nat.{ℕ}
-use Rattle.refusal.specs.Decided.{Decided}
+use mathlib.Core.Bool.{false}
+use mathlib.Core.List.{List, [], _∷_, _++_}
+use Prim.Native.Nat.{ℕ, _^_, _<_, _≤_}
+use native.Mathlib.Omega.{arith}
+use lib.ListN.{length, replicate}
+use lib.Pow.{pow-mono}
+use Rattle.refusal.specs.Numbers.{untold}
+use Rattle.refusal.specs.Decided.{Check, Decided}
 use Rattle.refusal.specs.declared.Refusal.{Refusal}
+use Rattle.refusal.specs.declared.Refusal.the-variants.{Storage}
 use Rattle.refusal.specs.declared.Outcome.{Outcome}
 use Rattle.refusal.specs.declared.Outcome.the-variants.{Accepted, Refused}
-use Rattle.refusal.proofs.Decisions.{decided-map, decided-refused, decided-accepted}
+use Rattle.refusal.proofs.Decisions.{decided-refused, decided-accepted}
+use Rattle.words.specs.Bits.{bit}
 use Rattle.sheet.specs.Checks.{inputsOf, outputsOf}
 use Rattle.sheet.specs.Reading.{ruleSheet}
 use Rattle.sheet.specs.declared.Sheet.{Sheet}
 use Rattle.sheet.proofs.Formed.{counts-of}
-use Rattle.circular.specs.Checks.{AcceptedSheet}
-use Rattle.circular.specs.Checks as sheets
+use Rattle.circular.specs.Checks.{sheetChecks, AcceptedSheet}
+use Rattle.record.specs.Record.{Fresh}
 use Rattle.record.specs.declared.JournalRecord.{JournalRecord}
-use Rattle.checks.specs.Checks.{CallCheck, callRule, Given, CallBroken, sheet, call, rule, Broken, entryChecks}
+use Rattle.completions.specs.Completion.{masked}
+use Rattle.letters.specs.Masks.{badMasks}
+use Rattle.letters.specs.Matching.{matches}
+use Rattle.letters.proofs.Matching.{letters-masked}
+use Rattle.checks.specs.Checks.{tooShort, roundRules, closingRules, prepareChecks, roundChecks, closingChecks}
+use Rattle.accepted.specs.Results.{Prepared, RoundDone, ClosingDone}
 use Rattle.accepted.specs.declared.PrepareAnswer.{PrepareAnswer}
 use Rattle.accepted.specs.declared.RoundAnswer.{RoundAnswer}
 use Rattle.accepted.specs.declared.ClosingAnswer.{ClosingAnswer}
 use Rattle.accepted.proofs.Rounding.{sheet-outputs}
-use Rattle.monitor.specs.Entries.{AfterForm, PrepareResult, RoundResult, ClosingResult}
+use Rattle.accepted.proofs.Done.{round-as}
+use Rattle.monitor.specs.Entries.{Prepares, PrepareCall, Rounds, RoundCall, Closes, CloseCall}
 
-module _ (bs : List ℕ) (g : Given) where
-  sheet-part : (o : Outcome) → Decided (sheets.Broken bs) sheets.rule (sheets.checksOf bs) o → Decided (Broken bs g) rule (map sheet (sheets.checksOf bs)) o
-  sheet-part o d = decided-map sheet (sheets.Broken bs) sheets.rule (Broken bs g) rule (λ c b. b) (λ c b. b) (λ c. refl) (sheets.checksOf bs) o d
+-- ---- the checks
 
-  -- a sheet that is refused
-  pub sheet-refused : (cs : List CallCheck) (e : Refusal) → Decided (sheets.Broken bs) sheets.rule (sheets.checksOf bs) (Refused e) → Decided (Broken bs g) rule (entryChecks bs cs) (Refused e)
-  sheet-refused cs e d = decided-refused (Broken bs g) rule (map sheet (sheets.checksOf bs)) (map call cs) e (sheet-part (Refused e) d)
+module _ (bs : List ℕ) (x : Sheet) (ok : AcceptedSheet bs x) where
+  same-inputs : x .inputs ≡ inputsOf bs
+  same-inputs = counts-of bs (ruleSheet x) (ok .reads) .0
 
-  -- a sheet that is accepted: the call's checks decide
-  pub sheet-accepted : (x : Sheet) → AcceptedSheet bs x → Decided (sheets.Broken bs) sheets.rule (sheets.checksOf bs) Accepted → (cs : List CallCheck) (o : Outcome)
-      → Decided (CallBroken (x .inputs) (x .outputs) g) callRule cs o → Decided (Broken bs g) rule (entryChecks bs cs) o
-  sheet-accepted x a d cs o e =
-      let k = counts-of bs (ruleSheet x) (a .reads) in
-      let m : x .inputs ≡ inputsOf bs = k .0 in
-      let n : x .outputs ≡ outputsOf bs = sym (sheet-outputs x) ∙ k .1 in
-      decided-accepted (Broken bs g) rule (map sheet (sheets.checksOf bs)) (map call cs) o (sheet-part Accepted d)
-      (decided-map call (CallBroken (x .inputs) (x .outputs) g) callRule (Broken bs g) rule
-      (λ c b. subst (λ (i : ℕ). CallBroken i (x .outputs) g c) (sym m) (subst (λ (j : ℕ). CallBroken (inputsOf bs) j g c) (sym n) b))
-      (λ c b. subst (λ (j : ℕ). CallBroken (inputsOf bs) j g c) n (subst (λ (i : ℕ). CallBroken i (x .outputs) g c) m b))
-      (λ c. refl) cs o e)
+  same-outputs : x .outputs ≡ outputsOf bs
+  same-outputs = sym (sheet-outputs x) ∙ counts-of bs (ruleSheet x) (ok .reads) .1
 
--- what is done is the result, where the outcome is accepted
-pub prepare-accepted : (Done : Type 0) (s t : List ℕ) (a : PrepareAnswer) (o : Outcome) → o ≡ Accepted → Done → PrepareResult Done s t a o
-prepare-accepted Done s t a o e d = subst (PrepareResult Done s t a) (sym e) d
+  behind-sheet : (cs : List Check) (o : Outcome) → Decided cs o → Decided (sheetChecks bs ++ cs) o
+  behind-sheet cs o d = decided-accepted (sheetChecks bs) cs o (ok .decided) d
 
-pub round-accepted : (Done : Type 0) (s t : List ℕ) (r : JournalRecord) (a : RoundAnswer) (o : Outcome) → o ≡ Accepted → Done → RoundResult Done s t r a o
-round-accepted Done s t r a o e d = subst (RoundResult Done s t r a) (sym e) d
+  round-checks : (lent : ℕ) (r : JournalRecord) (known val : ℕ) (o : Outcome) → Decided (roundRules (x .inputs) (x .outputs) lent r known val) o → Decided (roundChecks bs lent r known val) o
+  round-checks lent r known val o d = behind-sheet (roundRules (inputsOf bs) (outputsOf bs) lent r known val) o (rw (← same-inputs, ← same-outputs) d)
 
-pub closing-accepted : (Done : Type 0) (r : JournalRecord) (a : ClosingAnswer) (o : Outcome) → o ≡ Accepted → Done → ClosingResult Done r a o
-closing-accepted Done r a o e d = subst (ClosingResult Done r a) (sym e) d
+  closing-checks : (lent : ℕ) (r : JournalRecord) (o : Outcome) → Decided (closingRules (x .outputs) lent r) o → Decided (closingChecks bs lent r) o
+  closing-checks lent r o d = behind-sheet (closingRules (outputsOf bs) lent r) o (rw (← same-outputs) d)
 
--- the result of a call on a sheet that was read is that of the sheet's bytes
-pub round-of : (Done Done′ : Type 0) (s t : List ℕ) (r : JournalRecord) (a : RoundAnswer) (o : Outcome) → (Done → Done′) → RoundResult Done s t r a o → RoundResult Done′ s t r a o
-round-of Done Done′ s t r a Accepted f d = f d
-round-of Done Done′ s t r a (Refused e) f d = d
+-- ---- calls that are refused, by any of their checks
 
-pub closing-of : (Done Done′ : Type 0) (r : JournalRecord) (a : ClosingAnswer) (o : Outcome) → (Done → Done′) → ClosingResult Done r a o → ClosingResult Done′ r a o
-closing-of Done Done′ r a Accepted f d = f d
-closing-of Done Done′ r a (Refused e) f d = d
+pub prepare-refused : (bs s : List ℕ) (a : PrepareAnswer) (e : Refusal) → (a .outcome ≡ Refused e) × Fresh (a .record) × (a .live ≡ 0)
+    → Decided (prepareChecks bs (length s)) (Refused e) → PrepareCall bs s s a
+prepare-refused bs s a e p d = record { decided = rw (p .0) d; result = subst (Prepares bs s s a) (sym (p .0)) (refl, p .1, p .2) }
 
--- a sheet already read: the form decides first
-pub form-refused : (f o : Outcome) (e : Refusal) (Call : Outcome → Type 0) → f ≡ Refused e → o ≡ Refused e → AfterForm f Call o
-form-refused f o e Call p q = subst (λ (y : Outcome). AfterForm y Call o) (sym p) q
+pub round-refused : (bs s : List ℕ) (r : JournalRecord) (known val : ℕ) (a : RoundAnswer) (e : Refusal) → (a .outcome ≡ Refused e) × (a .record ≡ r) × (a .verdicts ≡ replicate 7 untold)
+    → Decided (roundChecks bs (length s) r known val) (Refused e) → RoundCall bs s s r known val a
+round-refused bs s r known val a e p d = record { decided = rw (p .0) d; result = subst (Rounds bs s s r known val a) (sym (p .0)) (refl, p .1, p .2) }
 
-pub form-accepted : (f o : Outcome) (Call : Outcome → Type 0) → f ≡ Accepted → Call o → AfterForm f Call o
-form-accepted f o Call p d = subst (λ (y : Outcome). AfterForm y Call o) (sym p) d
+pub closing-refused : (bs s : List ℕ) (r : JournalRecord) (a : ClosingAnswer) (e : Refusal) → (a .outcome ≡ Refused e) × (a .record ≡ r) × (a .verdicts ≡ replicate 7 untold) × (a .shares ≡ replicate 7 0)
+    → Decided (closingChecks bs (length s) r) (Refused e) → CloseCall bs s r a
+closing-refused bs s r a e p d = record { decided = rw (p .0) d; result = subst (Closes bs s r a) (sym (p .0)) (p .1, p .2, p .3) }
 
-pub prepare-of : (Done Done′ : Type 0) (s t : List ℕ) (a : PrepareAnswer) (o : Outcome) → (Done → Done′) → PrepareResult Done s t a o → PrepareResult Done′ s t a o
-prepare-of Done Done′ s t a Accepted f d = f d
-prepare-of Done Done′ s t a (Refused e) f d = d
+-- by one of the sheet's own
+pub prepare-unread : (bs : List ℕ) (lent : ℕ) (e : Refusal) → Decided (sheetChecks bs) (Refused e) → Decided (prepareChecks bs lent) (Refused e)
+prepare-unread bs lent e d = decided-refused (sheetChecks bs) (tooShort lent ∷ []) e d
+
+pub round-unread : (bs : List ℕ) (lent : ℕ) (r : JournalRecord) (known val : ℕ) (e : Refusal) → Decided (sheetChecks bs) (Refused e) → Decided (roundChecks bs lent r known val) (Refused e)
+round-unread bs lent r known val e d = decided-refused (sheetChecks bs) (roundRules (inputsOf bs) (outputsOf bs) lent r known val) e d
+
+pub closing-unread : (bs : List ℕ) (lent : ℕ) (r : JournalRecord) (e : Refusal) → Decided (sheetChecks bs) (Refused e) → Decided (closingChecks bs lent r) (Refused e)
+closing-unread bs lent r e d = decided-refused (sheetChecks bs) (closingRules (outputsOf bs) lent r) e d
+
+-- ---- calls with a sheet that is accepted
+
+module _ (bs : List ℕ) (x : Sheet) (ok : AcceptedSheet bs x) where
+  pub too-short : (s : List ℕ) (a : PrepareAnswer) → (a .outcome ≡ Refused Storage) × Fresh (a .record) × (a .live ≡ 0) → Decided (tooShort (length s) ∷ []) (Refused Storage) → PrepareCall bs s s a
+  too-short s a p d = prepare-refused bs s a Storage p (behind-sheet bs x ok (tooShort (length s) ∷ []) (Refused Storage) d)
+
+  pub prepare-done : (s t : List ℕ) (a : PrepareAnswer) → a .outcome ≡ Accepted → Decided (tooShort (length s) ∷ []) Accepted → Prepared (ruleSheet x) s t a → PrepareCall bs s t a
+  prepare-done s t a e d p = record {
+    decided = rw e (behind-sheet bs x ok (tooShort (length s) ∷ []) Accepted d);
+    result = subst (Prepares bs s t a) (sym e) (ruleSheet x, ok .reads, p);
+  }
+
+  module _ (r : JournalRecord) (known val : ℕ) where
+    pub round-turned-down : (s : List ℕ) (a : RoundAnswer) (e : Refusal) → (a .outcome ≡ Refused e) × (a .record ≡ r) × (a .verdicts ≡ replicate 7 untold)
+        → Decided (roundRules (x .inputs) (x .outputs) (length s) r known val) (Refused e) → RoundCall bs s s r known val a
+    round-turned-down s a e p d = round-refused bs s r known val a e p (round-checks bs x ok (length s) r known val (Refused e) d)
+
+    pub round-done : (s t : List ℕ) (a : RoundAnswer) (letters : ℕ) → a .outcome ≡ Accepted
+        → Decided (roundRules (x .inputs) (x .outputs) (length s) r known val) Accepted → badMasks (x .inputs) known val ≡ false
+        → ((l : ℕ) → l < 64 → bit l letters ≡ matches known val 6 l) → RoundDone (ruleSheet x) s t r (λ l. bit l letters) a → RoundCall bs s t r known val a
+    round-done s t a letters e d m f p =
+        let few : x .inputs ≤ 6 = ok .usable .ranges .inputs in
+        let small : 2 ^ x .inputs ≤ 64 = pow-mono few in
+        record {
+          decided = rw e (round-checks bs x ok (length s) r known val Accepted d);
+          result = subst (Rounds bs s t r known val a) (sym e)
+              (ruleSheet x, ok .reads, round-as (ruleSheet x) s t r (λ l. bit l letters) (masked known val) a (λ l h. letters-masked (x .inputs) known val letters few m f l (omega arith)) p);
+        }
+
+  pub closing-turned-down : (r : JournalRecord) (s : List ℕ) (a : ClosingAnswer) (e : Refusal) → (a .outcome ≡ Refused e) × (a .record ≡ r) × (a .verdicts ≡ replicate 7 untold) × (a .shares ≡ replicate 7 0)
+      → Decided (closingRules (x .outputs) (length s) r) (Refused e) → CloseCall bs s r a
+  closing-turned-down r s a e p d = closing-refused bs s r a e p (closing-checks bs x ok (length s) r (Refused e) d)
+
+  pub closing-done : (r : JournalRecord) (s : List ℕ) (a : ClosingAnswer) → a .outcome ≡ Accepted → Decided (closingRules (x .outputs) (length s) r) Accepted → ClosingDone (ruleSheet x) s r a → CloseCall bs s r a
+  closing-done r s a e d p = record {
+    decided = rw e (closing-checks bs x ok (length s) r Accepted d);
+    result = subst (Closes bs s r a) (sym e) (ruleSheet x, ok .reads, p);
+  }

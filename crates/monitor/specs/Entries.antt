@@ -1,37 +1,47 @@
--- What the entries give by their outcome, on the bytes of a sheet and on a sheet already read (01, "What is turned down").
+-- What a call of each entry means (01, "Completions and verdicts", each entry's definition; "What is turned down"): how it is decided, and by
+-- the outcome what is done, or that nothing but the refusal is given and what was lent or handed in has not altered.
 -- Manual: "Refusals".
 use mathlib.Core.Path.{_≡_}
 use mathlib.Core.List.{List}
 use Prim.Native.Nat.{ℕ}
-use lib.ListN.{replicate}
+use lib.ListN.{length, replicate}
+use Rattle.refusal.specs.Numbers.{untold}
+use Rattle.refusal.specs.Decided.{Decided}
 use Rattle.refusal.specs.declared.Outcome.{Outcome}
 use Rattle.refusal.specs.declared.Outcome.the-variants.{Accepted, Refused}
-use Rattle.sheet.specs.RuleSheet.{RuleSheet, accepted, readSheet}
+use Rattle.circular.specs.Checks.{OfSheet}
 use Rattle.record.specs.Record.{Fresh}
 use Rattle.record.specs.declared.JournalRecord.{JournalRecord}
+use Rattle.completions.specs.Completion.{masked}
+use Rattle.checks.specs.Checks.{prepareChecks, roundChecks, closingChecks}
+use Rattle.accepted.specs.Results.{Prepared, RoundDone, ClosingDone}
 use Rattle.accepted.specs.declared.PrepareAnswer.{PrepareAnswer}
 use Rattle.accepted.specs.declared.RoundAnswer.{RoundAnswer}
 use Rattle.accepted.specs.declared.ClosingAnswer.{ClosingAnswer}
 
--- P holds of the sheet that the bytes read as
-abbrev pub OfSheet : List ℕ → (RuleSheet → Type 0) → Type 0
-OfSheet bs P = (x : RuleSheet) × (readSheet bs ≡ accepted x) × P x
+-- preparation with the sheet bs: the storage s before, t after, and the answer
+abbrev pub Prepares : List ℕ → List ℕ → List ℕ → PrepareAnswer → Outcome → Type 0
+Prepares bs s t a Accepted = OfSheet bs (λ x. Prepared x s t a)
+Prepares bs s t a (Refused e) = (t ≡ s) × Fresh (a .record) × (a .live ≡ 0)
 
--- The outcome of an entry that takes the sheet already read: the form decides, and where it is right, the call's checks do.
-abbrev pub AfterForm : Outcome → (Outcome → Type 0) → Outcome → Type 0
-AfterForm Accepted Call o = Call o
-AfterForm (Refused r) Call o = o ≡ Refused r
+pub record PrepareCall (bs s t : List ℕ) (a : PrepareAnswer) : Type 0 where
+  pub decided : Decided (prepareChecks bs (length s)) (a .outcome)
+  pub result : Prepares bs s t a (a .outcome)
 
--- What each entry gives by its outcome: what is done where it is accepted; where it is refused nothing but the refusal, and what was
--- lent or handed in has not altered.
-abbrev pub PrepareResult : Type 0 → List ℕ → List ℕ → PrepareAnswer → Outcome → Type 0
-PrepareResult Done s t a Accepted = Done
-PrepareResult Done s t a (Refused e) = (t ≡ s) × Fresh (a .record) × (a .live ≡ 0)
+-- a round with the record r and its masks
+abbrev pub Rounds : List ℕ → List ℕ → List ℕ → JournalRecord → ℕ → ℕ → RoundAnswer → Outcome → Type 0
+Rounds bs s t r known val a Accepted = OfSheet bs (λ x. RoundDone x s t r (masked known val) a)
+Rounds bs s t r known val a (Refused e) = (t ≡ s) × (a .record ≡ r) × (a .verdicts ≡ replicate 7 untold)
 
-abbrev pub RoundResult : Type 0 → List ℕ → List ℕ → JournalRecord → RoundAnswer → Outcome → Type 0
-RoundResult Done s t r a Accepted = Done
-RoundResult Done s t r a (Refused e) = (t ≡ s) × (a .record ≡ r) × (a .verdicts ≡ replicate 7 0)
+pub record RoundCall (bs s t : List ℕ) (r : JournalRecord) (known val : ℕ) (a : RoundAnswer) : Type 0 where
+  pub decided : Decided (roundChecks bs (length s) r known val) (a .outcome)
+  pub result : Rounds bs s t r known val a (a .outcome)
 
-abbrev pub ClosingResult : Type 0 → JournalRecord → ClosingAnswer → Outcome → Type 0
-ClosingResult Done r a Accepted = Done
-ClosingResult Done r a (Refused e) = (a .record ≡ r) × (a .verdicts ≡ replicate 7 0) × (a .shares ≡ replicate 7 0)
+-- a closing, which only reads the storage
+abbrev pub Closes : List ℕ → List ℕ → JournalRecord → ClosingAnswer → Outcome → Type 0
+Closes bs s r a Accepted = OfSheet bs (λ x. ClosingDone x s r a)
+Closes bs s r a (Refused e) = (a .record ≡ r) × (a .verdicts ≡ replicate 7 untold) × (a .shares ≡ replicate 7 0)
+
+pub record CloseCall (bs s : List ℕ) (r : JournalRecord) (a : ClosingAnswer) : Type 0 where
+  pub decided : Decided (closingChecks bs (length s) r) (a .outcome)
+  pub result : Closes bs s r a (a .outcome)

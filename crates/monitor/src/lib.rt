@@ -1,14 +1,13 @@
-// Preparation, rounds and closing of a journal. Each takes the bytes of the sheet, or, with `_read` in its name, the sheet already read, so that
-// a long journal reads it once.
+// Preparation, rounds and closing of a journal, each on the bytes of the sheet. With `_on` in its name: the same with a sheet that was accepted, which
+// callers have to show, so that a long journal reads it once. Those are no entries, but what the entries and the journal program share.
 ghost use mathlib.Core.Path.{_≡_};
-ghost use lib.ListN.{length, replicate};
-ghost use Rattle.refusal.specs.Decided.{Decided};
+ghost use mathlib.Core.List.{List};
+ghost use Prim.Native.Nat.{ℕ};
+ghost use lib.ListN.{replicate};
+ghost use Rattle.refusal.specs.Numbers.{untold};
+ghost use Rattle.circular.specs.Checks.{AcceptedSheet, IsAccepted};
 ghost use Rattle.record.specs.Record.{Fresh};
-ghost use Rattle.sheet.specs.Reading.{ruleSheet, Usable};
-ghost use Rattle.form.specs.Form.{formOf};
-ghost use Rattle.checks.specs.Checks.{given, callRule, CallBroken, prepareChecks, roundChecks, closingChecks, rule, Broken, entryChecks};
-ghost use Rattle.accepted.specs.Results.{Prepared, RoundDone, ClosingDone};
-ghost use Rattle.monitor.specs.Entries.{OfSheet, AfterForm, PrepareResult, RoundResult, ClosingResult};
+ghost use Rattle.monitor.specs.Entries.{PrepareCall, RoundCall, CloseCall};
 use accepted::ClosingAnswer;
 use accepted::PrepareAnswer;
 use accepted::RoundAnswer;
@@ -18,22 +17,22 @@ use refusal::Refusal;
 use sheet::Sheet;
 
 fn refused_round(e: Refusal, r: JournalRecord) -> RoundAnswer
-    ensures { λ a. ⌜ (a .outcome ≡ Outcome.Refused e) × (a .record ≡ r) × (a .verdicts ≡ replicate 7 0) ⌝ }
+    ensures { λ a. ⌜ (a .outcome ≡ Outcome.Refused e) × (a .record ≡ r) × (a .verdicts ≡ replicate 7 untold) ⌝ }
 {
     RoundAnswer {
         outcome: Outcome::Refused(e),
         record: r,
-        verdicts: [0; 7],
+        verdicts: refusal::untold(),
     }
 }
 
 fn refused_closing(e: Refusal, r: JournalRecord) -> ClosingAnswer
-    ensures { λ a. ⌜ (a .outcome ≡ Outcome.Refused e) × (a .record ≡ r) × (a .verdicts ≡ replicate 7 0) × (a .shares ≡ replicate 7 0) ⌝ }
+    ensures { λ a. ⌜ (a .outcome ≡ Outcome.Refused e) × (a .record ≡ r) × (a .verdicts ≡ replicate 7 untold) × (a .shares ≡ replicate 7 0) ⌝ }
 {
     ClosingAnswer {
         outcome: Outcome::Refused(e),
         record: r,
-        verdicts: [0; 7],
+        verdicts: refusal::untold(),
         shares: [0; 7],
     }
 }
@@ -50,11 +49,9 @@ fn refused_preparation(e: Refusal) -> PrepareAnswer
 
 // ---- Preparation
 
-// Preparation with a sheet that can be used.
-fn prepare_on(x: Sheet, storage: &mut [u64]) -> PrepareAnswer
-    requires { ⌜ Usable x ⌝ }
-    ensures decided { λ a. ⌜ ((r : JournalRecord) → Decided (CallBroken (x .inputs) (x .outputs) (given (length (now (storage .entry))) r 0 0)) callRule prepareChecks (a .outcome)) ⌝ }
-    ensures result { λ a. ⌜ PrepareResult (Prepared (ruleSheet x) (now (storage .entry)) (now (storage .exit)) a) (now (storage .entry)) (now (storage .exit)) a (a .outcome) ⌝ }
+pub fn prepare_on(x: Sheet, storage: &mut [u64]) -> PrepareAnswer
+    requires { ⌜ IsAccepted x ⌝ }
+    ensures { λ a. ⌜ ((bs : List ℕ) → AcceptedSheet bs x → PrepareCall bs (now (storage .entry)) (now (storage .exit)) a) ⌝ }
 {
     if storage.len() < JournalRecord::STORAGE_WORDS {
         return refused_preparation(Refusal::Storage);
@@ -64,8 +61,7 @@ fn prepare_on(x: Sheet, storage: &mut [u64]) -> PrepareAnswer
 
 // Prepares the storage for journals of a sheet: the live pairs, and their number.
 pub fn prepare(sheet: &[u8], storage: &mut [u64]) -> PrepareAnswer
-    ensures decided { λ a. ⌜ ((r : JournalRecord) → Decided (Broken (now (sheet .entry)) (given (length (now (storage .entry))) r 0 0)) rule (entryChecks (now (sheet .entry)) prepareChecks) (a .outcome)) ⌝ }
-    ensures result { λ a. ⌜ PrepareResult (OfSheet (now (sheet .entry)) (λ x. Prepared x (now (storage .entry)) (now (storage .exit)) a)) (now (storage .entry)) (now (storage .exit)) a (a .outcome) ⌝ }
+    ensures { λ a. ⌜ PrepareCall (now (sheet .entry)) (now (storage .entry)) (now (storage .exit)) a ⌝ }
 {
     let got = circular::accept_sheet(sheet);
     let outcome = got.outcome;
@@ -75,21 +71,8 @@ pub fn prepare(sheet: &[u8], storage: &mut [u64]) -> PrepareAnswer
     }
 }
 
-// The same with the sheet already read.
-pub fn prepare_read(x: Sheet, storage: &mut [u64]) -> PrepareAnswer
-    ensures decided { λ a. ⌜ ((r : JournalRecord) → AfterForm (formOf x) (Decided (CallBroken (x .inputs) (x .outputs) (given (length (now (storage .entry))) r 0 0)) callRule prepareChecks) (a .outcome)) ⌝ }
-    ensures result { λ a. ⌜ PrepareResult (Prepared (ruleSheet x) (now (storage .entry)) (now (storage .exit)) a) (now (storage .entry)) (now (storage .exit)) a (a .outcome) ⌝ }
-{
-    let outcome = form::check_form(x);
-    match outcome {
-        Outcome::Refused(broken) => refused_preparation(broken),
-        Outcome::Accepted => prepare_on(x, storage),
-    }
-}
-
 // ---- Rounds
 
-// A round with a sheet that can be used, which callers have to show: no entry, but what the entries and the journal program share.
 pub fn round_on(
     x: Sheet,
     storage: &mut [u64],
@@ -97,14 +80,13 @@ pub fn round_on(
     known: u8,
     value: u8,
 ) -> RoundAnswer
-    requires { ⌜ Usable x ⌝ }
-    ensures decided { λ a. ⌜ Decided (CallBroken (x .inputs) (x .outputs) (given (length (now (storage .entry))) r known value)) callRule roundChecks (a .outcome) ⌝ }
-    ensures result { λ a. ⌜ RoundResult (RoundDone (ruleSheet x) (now (storage .entry)) (now (storage .exit)) r known value a) (now (storage .entry)) (now (storage .exit)) r a (a .outcome) ⌝ }
+    requires { ⌜ IsAccepted x ⌝ }
+    ensures { λ a. ⌜ ((bs : List ℕ) → AcceptedSheet bs x → RoundCall bs (now (storage .entry)) (now (storage .exit)) r known value a) ⌝ }
 {
     let outcome = checks::check_round(x.inputs, x.outputs, storage.len(), r, known, value);
     match outcome {
         Outcome::Refused(e) => refused_round(e, r),
-        Outcome::Accepted => accepted::round(x, storage, r, known, value),
+        Outcome::Accepted => accepted::round(x, storage, r, letters::letters_of(known, value)),
     }
 }
 
@@ -116,8 +98,7 @@ pub fn round(
     known: u8,
     value: u8,
 ) -> RoundAnswer
-    ensures decided { λ a. ⌜ Decided (Broken (now (sheet .entry)) (given (length (now (storage .entry))) before known value)) rule (entryChecks (now (sheet .entry)) roundChecks) (a .outcome) ⌝ }
-    ensures result { λ a. ⌜ RoundResult (OfSheet (now (sheet .entry)) (λ x. RoundDone x (now (storage .entry)) (now (storage .exit)) before known value a)) (now (storage .entry)) (now (storage .exit)) before a (a .outcome) ⌝ }
+    ensures { λ a. ⌜ RoundCall (now (sheet .entry)) (now (storage .entry)) (now (storage .exit)) before known value a ⌝ }
 {
     let got = circular::accept_sheet(sheet);
     let outcome = got.outcome;
@@ -127,33 +108,13 @@ pub fn round(
     }
 }
 
-// The same with the sheet already read.
-pub fn round_read(
-    x: Sheet,
-    storage: &mut [u64],
-    before: JournalRecord,
-    known: u8,
-    value: u8,
-) -> RoundAnswer
-    ensures decided { λ a. ⌜ AfterForm (formOf x) (Decided (CallBroken (x .inputs) (x .outputs) (given (length (now (storage .entry))) before known value)) callRule roundChecks) (a .outcome) ⌝ }
-    ensures result { λ a. ⌜ RoundResult (RoundDone (ruleSheet x) (now (storage .entry)) (now (storage .exit)) before known value a) (now (storage .entry)) (now (storage .exit)) before a (a .outcome) ⌝ }
-{
-    let outcome = form::check_form(x);
-    match outcome {
-        Outcome::Refused(broken) => refused_round(broken, before),
-        Outcome::Accepted => round_on(x, storage, before, known, value),
-    }
-}
-
 // ---- Closing
 
-// A closing with a sheet that can be used.
-fn closing_on(x: Sheet, storage: &[u64], r: JournalRecord) -> ClosingAnswer
-    requires { ⌜ Usable x ⌝ }
-    ensures decided { λ a. ⌜ Decided (CallBroken (x .inputs) (x .outputs) (given (length (now (storage .entry))) r 0 0)) callRule closingChecks (a .outcome) ⌝ }
-    ensures result { λ a. ⌜ ClosingResult (ClosingDone (ruleSheet x) (now (storage .entry)) r a) r a (a .outcome) ⌝ }
+pub fn close_on(x: Sheet, storage: &[u64], r: JournalRecord) -> ClosingAnswer
+    requires { ⌜ IsAccepted x ⌝ }
+    ensures { λ a. ⌜ ((bs : List ℕ) → AcceptedSheet bs x → CloseCall bs (now (storage .entry)) r a) ⌝ }
 {
-    let outcome = checks::check_closing(x.inputs, x.outputs, storage.len(), r);
+    let outcome = checks::check_closing(x.outputs, storage.len(), r);
     match outcome {
         Outcome::Refused(e) => refused_closing(e, r),
         Outcome::Accepted => accepted::closing(x, storage, r),
@@ -162,25 +123,12 @@ fn closing_on(x: Sheet, storage: &[u64], r: JournalRecord) -> ClosingAnswer
 
 // Closes a journal: the verdicts over the completions that end here, and each output's share.
 pub fn close(sheet: &[u8], storage: &[u64], before: JournalRecord) -> ClosingAnswer
-    ensures decided { λ a. ⌜ Decided (Broken (now (sheet .entry)) (given (length (now (storage .entry))) before 0 0)) rule (entryChecks (now (sheet .entry)) closingChecks) (a .outcome) ⌝ }
-    ensures result { λ a. ⌜ ClosingResult (OfSheet (now (sheet .entry)) (λ x. ClosingDone x (now (storage .entry)) before a)) before a (a .outcome) ⌝ }
+    ensures { λ a. ⌜ CloseCall (now (sheet .entry)) (now (storage .entry)) before a ⌝ }
 {
     let got = circular::accept_sheet(sheet);
     let outcome = got.outcome;
     match outcome {
         Outcome::Refused(e) => refused_closing(e, before),
-        Outcome::Accepted => closing_on(got.sheet, storage, before),
-    }
-}
-
-// The same with the sheet already read.
-pub fn close_read(x: Sheet, storage: &[u64], before: JournalRecord) -> ClosingAnswer
-    ensures decided { λ a. ⌜ AfterForm (formOf x) (Decided (CallBroken (x .inputs) (x .outputs) (given (length (now (storage .entry))) before 0 0)) callRule closingChecks) (a .outcome) ⌝ }
-    ensures result { λ a. ⌜ ClosingResult (ClosingDone (ruleSheet x) (now (storage .entry)) before a) before a (a .outcome) ⌝ }
-{
-    let outcome = form::check_form(x);
-    match outcome {
-        Outcome::Refused(broken) => refused_closing(broken, before),
-        Outcome::Accepted => closing_on(x, storage, before),
+        Outcome::Accepted => close_on(got.sheet, storage, before),
     }
 }

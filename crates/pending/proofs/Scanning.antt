@@ -2,7 +2,7 @@
 use mathlib.Core.Path.{_≡_, refl, sym, ap, _∙_}
 use mathlib.Core.Bool.{Bool, true, false, cond, not, _&&_, and-false}
 use mathlib.Core.List.{List, [], _∷_, _++_}
-use Prim.Native.Nat.{ℕ, zero, suc, _+_, _*_, _^_, _%_, _≤_, _<_}
+use Prim.Native.Nat.{ℕ, suc, _+_, _*_, _^_, _%_, _≤_, _<_}
 use native.Mathlib.Omega.{arith}
 use native.Mathlib.Nat.{pow-suc, zero-add}
 use lib.Bits.{bitOr, or-shifted-r}
@@ -14,8 +14,8 @@ use borrow.Author.Tests.{ne-eqb}
 use Rattle.words.specs.Below.{one}
 use Rattle.words.proofs.CountLaws.{one-le-one}
 use Rattle.pending.specs.Lines.{isMark, allMarks, knownMask, valueMask, isDot, malformed, readLine}
-use Rattle.pending.specs.Scan.{Spoiled, Scanned}
-use Rattle.pending.specs.declared.Pending.{Pending}
+use Rattle.pending.specs.Scan.{Marked, Spoiled}
+use Rattle.pending.specs.declared.Masks.{Masks}
 
 -- ---- malformed lines
 
@@ -50,8 +50,8 @@ module _ (m : ℕ) (p : List ℕ) (b : ℕ) where
   pub one-more : (b ≡ 46 → ⊥) → m ≤ length p → Spoiled m (p ++ b ∷ [])
   one-more d h = spoil (λ z e. d e) (λ rest. rw (ne-eqb (length (p ++ b ∷ rest)) m (λ e. omega (arith, long p b rest))) refl)
 
-  -- a byte after a malformed start, and after a dot
-  still : Spoiled m p → Spoiled m (p ++ b ∷ [])
+  -- a byte after a malformed start
+  pub still : Spoiled m p → Spoiled m (p ++ b ∷ [])
   still h rest = rw (append-snoc p b rest) (h (b ∷ rest))
 
 after-dot : (m b : ℕ) → Spoiled m (46 ∷ b ∷ [])
@@ -106,27 +106,21 @@ all-more (a ∷ p) b h e = go (isMark a) h (λ g. all-more p b g e)
     go true g f = f g
     go false g f = g
 
-module _ (m : ℕ) (part : List ℕ) (q r : Pending) (b : ℕ) (kind : q .kind ≡ 0) (low : q .count < m) (h : Scanned m part q) (kept : r .kind ≡ 0) (next : r .count ≡ q .count + 1) where
-  marked : isMark b ≡ true → r .known ≡ knownMask (part ++ b ∷ []) → r .value ≡ valueMask (part ++ b ∷ []) → Scanned m (part ++ b ∷ []) r
-  marked e k v =
-      let s = h .marks kind in
-      record {
-        marks = λ z. record {
-          all = all-more part b (s .all) e;
-          few = omega (arith, s .count, length-append part (b ∷ []));
-          count = omega (arith, s .count, length-append part (b ∷ []));
-          known = k;
-          value = v;
-        };
-        dot = λ z. absurd (omega arith);
-        spoiled = λ z. absurd (omega arith);
-      }
+module _ (m : ℕ) (part : List ℕ) (q : Masks) (b : ℕ) (low : q .count < m) (h : Marked m part q) where
+  marked : (r : Masks) → r .count ≡ q .count + 1 → isMark b ≡ true → r .known ≡ knownMask (part ++ b ∷ []) → r .value ≡ valueMask (part ++ b ∷ []) → Marked m (part ++ b ∷ []) r
+  marked r n e k v = record {
+    all = all-more part b (h .all) e;
+    few = omega (arith, h .count, length-append part (b ∷ []));
+    count = omega (arith, h .count, length-append part (b ∷ []));
+    known = k;
+    value = v;
+  }
 
   or-known : q .count < 6 → bitOr (q .known) (1 * 2 ^ q .count % 2 ^ 8) ≡ 2 ^ length part + knownMask part
-  or-known l = let s = h .marks kind in rw (s .known, s .count) (or-place (knownMask part) (length part) (omega (arith, s .count)) (known-lt part))
+  or-known l = rw (h .known, h .count) (or-place (knownMask part) (length part) (omega (arith, h .count)) (known-lt part))
 
   or-value : q .count < 6 → bitOr (q .value) (1 * 2 ^ q .count % 2 ^ 8) ≡ 2 ^ length part + valueMask part
-  or-value l = let s = h .marks kind in rw (s .value, s .count) (or-place (valueMask part) (length part) (omega (arith, s .count)) (value-lt part))
+  or-value l = rw (h .value, h .count) (or-place (valueMask part) (length part) (omega (arith, h .count)) (value-lt part))
 
   known-is : (z : ℕ) → b ≡ z → knownMask (part ++ b ∷ []) ≡ place (not (eqb z 63)) (length part) + knownMask part
   known-is z e = known-more part b ∙ ap (λ (y : ℕ). place (not (eqb y 63)) (length part) + knownMask part) e
@@ -134,49 +128,33 @@ module _ (m : ℕ) (part : List ℕ) (q r : Pending) (b : ℕ) (kind : q .kind �
   value-is : (z : ℕ) → b ≡ z → valueMask (part ++ b ∷ []) ≡ place (eqb z 49) (length part) + valueMask part
   value-is z e = value-more part b ∙ ap (λ (y : ℕ). place (eqb y 49) (length part) + valueMask part) e
 
-  same-value : (z : ℕ) → b ≡ z → eqb z 49 ≡ false → r .value ≡ q .value → r .value ≡ valueMask (part ++ b ∷ [])
-  same-value z e f v = v ∙ h .marks kind .value ∙ sym (rw f at (value-is z e) ∙ zero-add (valueMask part))
+  same-value : (z : ℕ) → b ≡ z → eqb z 49 ≡ false → q .value ≡ valueMask (part ++ b ∷ [])
+  same-value z e f = h .value ∙ sym (rw f at (value-is z e) ∙ zero-add (valueMask part))
 
-  pub zero-mark : b ≡ 48 → q .count < 6 → r .known ≡ bitOr (q .known) (1 * 2 ^ q .count % 2 ^ 8) → r .value ≡ q .value → Scanned m (part ++ b ∷ []) r
-  zero-mark e l k v = marked (rw e refl) (k ∙ or-known l ∙ sym (known-is 48 e)) (same-value 48 e refl v)
+  pub zero-mark : b ≡ 48 → q .count < 6 → Marked m (part ++ b ∷ []) (record { count = q .count + 1; known = bitOr (q .known) (1 * 2 ^ q .count % 2 ^ 8); value = q .value })
+  zero-mark e l = marked _ refl (rw e refl) (or-known l ∙ sym (known-is 48 e)) (same-value 48 e refl)
 
-  pub one-mark : b ≡ 49 → q .count < 6 → r .known ≡ bitOr (q .known) (1 * 2 ^ q .count % 2 ^ 8) → r .value ≡ bitOr (q .value) (1 * 2 ^ q .count % 2 ^ 8) → Scanned m (part ++ b ∷ []) r
-  one-mark e l k v = marked (rw e refl) (k ∙ or-known l ∙ sym (known-is 49 e)) (v ∙ or-value l ∙ sym (value-is 49 e))
+  pub one-mark : b ≡ 49 → q .count < 6 → Marked m (part ++ b ∷ []) (record { count = q .count + 1; known = bitOr (q .known) (1 * 2 ^ q .count % 2 ^ 8); value = bitOr (q .value) (1 * 2 ^ q .count % 2 ^ 8) })
+  one-mark e l = marked _ refl (rw e refl) (or-known l ∙ sym (known-is 49 e)) (or-value l ∙ sym (value-is 49 e))
 
-  pub open-mark : b ≡ 63 → r .known ≡ q .known → r .value ≡ q .value → Scanned m (part ++ b ∷ []) r
-  open-mark e k v = marked (rw e refl) (k ∙ h .marks kind .known ∙ sym (known-is 63 e ∙ zero-add (knownMask part))) (same-value 63 e refl v)
+  pub open-mark : b ≡ 63 → Marked m (part ++ b ∷ []) (record { count = q .count + 1; known = q .known; value = q .value })
+  open-mark e = marked _ refl (rw e refl) (h .known ∙ sym (known-is 63 e ∙ zero-add (knownMask part))) (same-value 63 e refl)
 
 -- ---- one byte more
 
 pub mark-none : (b : ℕ) → (b ≡ 48 → ⊥) → (b ≡ 49 → ⊥) → (b ≡ 63 → ⊥) → isMark b ≡ false
 mark-none b h i j = simp (ne-eqb b 48 h, ne-eqb b 49 i, ne-eqb b 63 j)
 
-pub scanned-wrong : (m : ℕ) (part : List ℕ) (r : Pending) → r .kind ≡ 2 → Spoiled m part → Scanned m part r
-scanned-wrong m part r e h = record { marks = λ z. absurd (omega arith); dot = λ z. absurd (omega arith); spoiled = λ z. h }
+pub first-dot : (m : ℕ) (part : List ℕ) (q : Masks) (b : ℕ) → q .count ≡ 0 → b ≡ 46 → Marked m part q → part ++ b ∷ [] ≡ 46 ∷ []
+first-dot m [] q b e d h = rw d refl
+first-dot m (a ∷ part) q b e d h = absurd (omega (arith, h .count))
 
--- a byte after anything but marks
-pub past : (m : ℕ) (part : List ℕ) (q : Pending) (b : ℕ) → (q .kind ≡ 0 → ⊥) → Scanned m part q → Spoiled m (part ++ b ∷ [])
-past m part q b n h = go (q .kind) refl n
-  where
-    go : (k : ℕ) → q .kind ≡ k → (k ≡ 0 → ⊥) → Spoiled m (part ++ b ∷ [])
-    go zero e f = absurd (f refl)
-    go (suc zero) e f = rw (h .dot e) (after-dot m b)
-    go (suc (suc k)) e f = still m part b (h .spoiled (omega arith))
+pub late-dot : (m : ℕ) (part : List ℕ) (q : Masks) (b : ℕ) → (q .count ≡ 0 → ⊥) → b ≡ 46 → Marked m part q → Spoiled m (part ++ b ∷ [])
+late-dot m part q b e d h = no-mark m part b (λ z f. e (h .count ∙ z)) (rw d refl)
 
-pub first-dot : (m : ℕ) (part : List ℕ) (q : Pending) (b : ℕ) → q .kind ≡ 0 → q .count ≡ 0 → b ≡ 46 → Scanned m part q → part ++ b ∷ [] ≡ 46 ∷ []
-first-dot m [] q b k e d h = rw d refl
-first-dot m (a ∷ part) q b k e d h = absurd (omega (arith, h .marks k .count))
+pub past-dot : (m : ℕ) (part : List ℕ) (b : ℕ) → part ≡ 46 ∷ [] → Spoiled m (part ++ b ∷ [])
+past-dot m part b e = rw e (after-dot m b)
 
-pub late-dot : (m : ℕ) (part : List ℕ) (q : Pending) (b : ℕ) → q .kind ≡ 0 → (q .count ≡ 0 → ⊥) → b ≡ 46 → Scanned m part q → Spoiled m (part ++ b ∷ [])
-late-dot m part q b k e d h = no-mark m part b (λ z f. e (h .marks k .count ∙ z)) (rw d refl)
-
-pub empty-scanned : (m : ℕ) (r : Pending) → r .kind ≡ 0 → r .count ≡ 0 → r .known ≡ 0 → r .value ≡ 0 → Scanned m [] r
+pub none-marked : (m : ℕ) → Marked m [] (record { count = 0; known = 0; value = 0 })
 unfolding allMarks knownMask valueMask
-empty-scanned m r e n k v = record {
-  marks = λ z. record { all = refl; few = omega arith; count = n; known = k; value = v };
-  dot = λ z. absurd (omega arith);
-  spoiled = λ z. absurd (omega arith);
-}
-
-pub dot-scanned : (m : ℕ) (r : Pending) → r .kind ≡ 1 → Scanned m (46 ∷ []) r
-dot-scanned m r e = record { marks = λ z. absurd (omega arith); dot = λ z. refl; spoiled = λ z. absurd (omega arith) }
+none-marked m = record { all = refl; few = omega arith; count = refl; known = refl; value = refl }

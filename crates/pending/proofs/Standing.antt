@@ -2,15 +2,15 @@
 use mathlib.Core.Path.{_≡_, refl, sym, ap, _∙_}
 use mathlib.Core.Bool.{Bool, true, false, true≢false, and-true}
 use mathlib.Core.List.{List, [], _∷_, append-nil}
-use Prim.Native.Nat.{ℕ, zero, suc, _≤_, _<_}
+use Prim.Native.Nat.{ℕ, _<_}
 use native.Mathlib.Omega.{arith}
 use lib.Dec.{eqb}
 use lib.ListN.{length}
 use borrow.Author.Tests.{eq-eqb, ne-eqb, eqb-true}
 use Rattle.claims.specs.Book.{round, closing}
 use Rattle.pending.specs.Lines.{isMark, allMarks, knownMask, valueMask, isDot, blank, calls, malformed, readLine}
-use Rattle.pending.specs.Scan.{Scanned}
-use Rattle.pending.specs.declared.Pending.{Pending}
+use Rattle.pending.specs.Scan.{Marked, Spoiled}
+use Rattle.pending.specs.declared.Masks.{Masks}
 use Rattle.pending.proofs.Scanning.{read-bad}
 
 no-dot : (b : ℕ) → isMark b ≡ true → eqb b 46 ≡ false
@@ -31,47 +31,37 @@ unfolding readLine
 marks-line m [] a e n = absurd (n refl)
 marks-line m (b ∷ bs) a e n = simp (marks-no-dot (b ∷ bs) a, eq-eqb (length (b ∷ bs)) m e, a)
 
-module _ (m : ℕ) (part : List ℕ) (q : Pending) (h : Scanned m part q) where
-  pub scanned-blank : q .kind ≡ 0 → q .count ≡ 0 → part ≡ []
-  scanned-blank k e = go part (sym (h .marks k .count) ∙ e)
+module _ (m : ℕ) (part : List ℕ) (q : Masks) (h : Marked m part q) where
+  pub marked-blank : q .count ≡ 0 → part ≡ []
+  marked-blank e = go part (sym (h .count) ∙ e)
     where
       go : (p : List ℕ) → length p ≡ 0 → p ≡ []
       go [] e = refl
       go (a ∷ p) e = absurd (omega arith)
 
-  pub scanned-dot : q .kind ≡ 1 → readLine m part ≡ calls closing
-  unfolding readLine
-  scanned-dot k = rw (h .dot k) refl
+  pub marked-some : (q .count ≡ 0 → ⊥) → part ≡ [] → ⊥
+  marked-some n e = n (h .count ∙ ap length e)
 
-  pub scanned-round : q .kind ≡ 0 → (q .count ≡ 0 → ⊥) → q .count ≡ m → readLine m part ≡ calls (round (q .known) (q .value))
-  scanned-round k n e =
-      let s = h .marks k in
-      rw (s .known, s .value) (marks-line m part (s .all) (sym (s .count) ∙ e) (λ z. n (s .count ∙ z)))
+  pub marked-round : (q .count ≡ 0 → ⊥) → q .count ≡ m → readLine m part ≡ calls (round (q .known) (q .value))
+  marked-round n e = rw (h .known, h .value) (marks-line m part (h .all) (sym (h .count) ∙ e) (λ z. n (h .count ∙ z)))
 
   -- too few marks
-  pub scanned-short : q .kind ≡ 0 → (q .count ≡ 0 → ⊥) → (q .count ≡ m → ⊥) → readLine m part ≡ malformed
-  scanned-short k n e =
-      let s = h .marks k in
-      let some : 0 < length part = omega (arith, s .count) in
-      read-bad m part some (marks-no-dot part (s .all)) (rw (ne-eqb (length part) m (λ z. e (s .count ∙ z))) refl)
+  pub marked-short : (q .count ≡ 0 → ⊥) → (q .count ≡ m → ⊥) → readLine m part ≡ malformed
+  marked-short n e =
+      let some : 0 < length part = omega (arith, h .count) in
+      read-bad m part some (marks-no-dot part (h .all)) (rw (ne-eqb (length part) m (λ z. e (h .count ∙ z))) refl)
 
-  pub scanned-spoiled : (q .kind ≡ 0 → ⊥) → (q .kind ≡ 1 → ⊥) → readLine m part ≡ malformed
-  scanned-spoiled n o = rw append-nil at (h .spoiled (many (q .kind) n o) [])
-    where
-      many : (k : ℕ) → (k ≡ 0 → ⊥) → (k ≡ 1 → ⊥) → 2 ≤ k
-      many zero a b = absurd (a refl)
-      many (suc zero) a b = absurd (b refl)
-      many (suc (suc k)) a b = omega arith
-
-  -- where no byte has come, marks are kept, and none
-  pub not-blank : (q .kind ≡ 0 → ⊥) → part ≡ [] → ⊥
+module _ (m : ℕ) (part : List ℕ) where
+  pub dot-closing : part ≡ 46 ∷ [] → readLine m part ≡ calls closing
   unfolding readLine
-  not-blank n e = go (q .kind) refl n
-    where
-      go : (k : ℕ) → q .kind ≡ k → (k ≡ 0 → ⊥) → ⊥
-      go zero f n = n refl
-      go (suc zero) f n = let z : _≡_ {A = ℕ} 0 1 = ap length (sym e ∙ h .dot f) in omega arith
-      go (suc (suc k)) f n = let z : blank ≡ malformed = rw e at (h .spoiled (omega arith) []) in true≢false cc
+  dot-closing h = rw h refl
 
-  pub some-marks : q .kind ≡ 0 → (q .count ≡ 0 → ⊥) → part ≡ [] → ⊥
-  some-marks k n e = n (h .marks k .count ∙ ap length e)
+  pub spoiled-malformed : Spoiled m part → readLine m part ≡ malformed
+  spoiled-malformed h = rw append-nil at (h [])
+
+  pub dot-some : part ≡ 46 ∷ [] → part ≡ [] → ⊥
+  dot-some h e = let z : _≡_ {A = ℕ} 0 1 = ap length (sym e ∙ h) in omega arith
+
+  pub spoiled-some : Spoiled m part → part ≡ [] → ⊥
+  unfolding readLine
+  spoiled-some h e = let z : blank ≡ malformed = rw e at (h []) in true≢false cc

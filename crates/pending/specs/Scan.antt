@@ -5,10 +5,12 @@ use mathlib.Core.List.{List, [], _∷_, _++_}
 use Prim.Native.Nat.{ℕ, _≤_}
 use lib.ListN.{length}
 use Rattle.pending.specs.Lines.{allMarks, knownMask, valueMask, malformed, readLine}
+use Rattle.pending.specs.declared.Masks.{Masks}
 use Rattle.pending.specs.declared.Pending.{Pending}
+use Rattle.pending.specs.declared.Pending.the-variants.{Marks, Dot, Malformed}
 
 -- the bytes are at most m marks, and these are their number and their masks
-pub record Marks (m : ℕ) (part : List ℕ) (q : Pending) : Type 0 where
+pub record Marked (m : ℕ) (part : List ℕ) (q : Masks) : Type 0 where
   pub all : allMarks part ≡ true
   pub few : length part ≤ m
   pub count : q .count ≡ length part
@@ -19,8 +21,8 @@ pub record Marks (m : ℕ) (part : List ℕ) (q : Pending) : Type 0 where
 abbrev pub Spoiled : ℕ → List ℕ → Type 0
 Spoiled m part = (rest : List ℕ) → readLine m (part ++ rest) ≡ malformed
 
--- q is what is kept of the bytes of a line, in a journal of m inputs
-pub record Scanned (m : ℕ) (part : List ℕ) (q : Pending) : Type 0 where
-  pub marks : q .kind ≡ 0 → Marks m part q
-  pub dot : q .kind ≡ 1 → part ≡ 46 ∷ []
-  pub spoiled : 2 ≤ q .kind → Spoiled m part
+-- what is kept of the bytes of a line, in a journal of m inputs
+abbrev pub Scanned : ℕ → List ℕ → Pending → Type 0
+Scanned m part (Marks q) = Marked m part q
+Scanned m part Dot = part ≡ 46 ∷ []
+Scanned m part Malformed = Spoiled m part

@@ -11,13 +11,13 @@ use lib.Dec.{eqb, leb}
 use lib.ListN.{length, getD, set, length-set}
 use lib.Seq.{getD-set-same, getD-set-other}
 use borrow.Author.Tests.{eq-eqb, ne-eqb, le-leb, lt-leb, leb-true, eqb-true}
-use Rattle.refusal.specs.Numbers.{verdictNo}
+use Rattle.refusal.specs.Numbers.{toldAt}
 use Rattle.refusal.specs.declared.Verdict.{Verdict}
 use Rattle.refusal.specs.declared.Verdict.the-variants.{False, True, Open, Broken}
+use Rattle.refusal.specs.declared.Told.{Told}
 use Rattle.words.specs.Below.{one}
 use Rattle.words.proofs.Bools.{and-split}
-use Rattle.record.specs.Record.{column, countAt, sumAt, addUp, recordOk, Counted}
-use Rattle.record.specs.Columns.{columnNo, AreVerdicts, Countable}
+use Rattle.record.specs.Record.{maxRounds, column, countAt, sumAt, addUp, recordOk, sameVerdict, Counted}
 use Rattle.record.specs.declared.JournalRecord.{JournalRecord}
 
 -- ---- rule 18
@@ -44,23 +44,23 @@ add-up-at counts t (suc n) e k h = go (ℕ-discrete k n) (add-up-at counts t n (
     go (yes q) rec = ap (sumAt counts) q ∙ eqb-true (sumAt counts n) t (and-split (eqb (sumAt counts n) t) (addUp counts t n) e .0)
     go (no q) rec = rec (omega arith)
 
-pub too-many : (n : ℕ) (r : JournalRecord) → 1000000 < r .rounds → recordOk n r ≡ false
+pub too-many : (n : ℕ) (r : JournalRecord) → maxRounds < r .rounds → recordOk n r ≡ false
 unfolding recordOk
-too-many n r h = rw (lt-leb (r .rounds) 1000000 h)
+too-many n r h = rw (lt-leb (r .rounds) maxRounds h)
 
-pub by-counts : (n : ℕ) (r : JournalRecord) (b : Bool) → r .rounds ≤ 1000000 → addUp (r .counts) (r .rounds) n ≡ b → recordOk n r ≡ b
+pub by-counts : (n : ℕ) (r : JournalRecord) (b : Bool) → r .rounds ≤ maxRounds → addUp (r .counts) (r .rounds) n ≡ b → recordOk n r ≡ b
 unfolding recordOk
-by-counts n r b h e = rw (le-leb (r .rounds) 1000000 h) e
+by-counts n r b h e = rw (le-leb (r .rounds) maxRounds h) e
 
 pub record RecordOk (n : ℕ) (r : JournalRecord) : Type 0 where
-  pub few : r .rounds ≤ 1000000
+  pub few : r .rounds ≤ maxRounds
   pub sums : (k : ℕ) → k < n → sumAt (r .counts) k ≡ r .rounds
 
 pub record-is : (n : ℕ) (r : JournalRecord) → recordOk n r ≡ true → RecordOk n r
 unfolding recordOk
 record-is n r e = record {
-  few = leb-true (r .rounds) 1000000 (and-split (leb (r .rounds) 1000000) (addUp (r .counts) (r .rounds) n) e .0);
-  sums = add-up-at (r .counts) (r .rounds) n (and-split (leb (r .rounds) 1000000) (addUp (r .counts) (r .rounds) n) e .1);
+  few = leb-true (r .rounds) maxRounds (and-split (leb (r .rounds) maxRounds) (addUp (r .counts) (r .rounds) n) e .0);
+  sums = add-up-at (r .counts) (r .rounds) n (and-split (leb (r .rounds) maxRounds) (addUp (r .counts) (r .rounds) n) e .1);
 }
 
 -- a count is one of its output's four
@@ -71,93 +71,65 @@ part-of counts k (suc (suc zero)) h = omega arith
 part-of counts k (suc (suc (suc zero))) h = omega arith
 part-of counts k (suc (suc (suc (suc j)))) h = absurd (omega arith)
 
-pub countable : (n : ℕ) (r : JournalRecord) (vs : List ℕ) → RecordOk n r → r .rounds < 1000000 → AreVerdicts n vs → Countable (r .counts) n vs
-countable n r vs ok h are = record {
-  are = are;
-  low = λ i l.
-      let e : i ≡ 4 * (i / 4) + (i - 4 * (i / 4)) = omega arith in
-      let k : i / 4 < n = omega arith in
-      rw e (omega (arith, part-of (r .counts) (i / 4) (i - 4 * (i / 4)) (omega arith), ok .sums (i / 4) k));
-}
+-- so it can go up by one
+pub countable : (n : ℕ) (r : JournalRecord) → RecordOk n r → r .rounds < maxRounds → (i : ℕ) → i < 4 * n → getD (r .counts) i 0 < maxRounds
+countable n r ok h i l =
+    let e : i ≡ 4 * (i / 4) + (i - 4 * (i / 4)) = omega arith in
+    let k : i / 4 < n = omega arith in
+    rw e (omega (arith, part-of (r .counts) (i / 4) (i - 4 * (i / 4)) (omega arith), ok .sums (i / 4) k))
 
 -- ---- counting
 
-pub column-lt : (v : ℕ) → v ≤ 3 → columnNo v < 4
-column-lt zero h = omega arith
-column-lt (suc zero) h = omega arith
-column-lt (suc (suc zero)) h = omega arith
-column-lt (suc (suc (suc zero))) h = omega arith
-column-lt (suc (suc (suc (suc v)))) h = absurd (omega arith)
-
-column-of : (v : Verdict) → column v < 4
-column-of True = omega arith
-column-of False = omega arith
-column-of Open = omega arith
-column-of Broken = omega arith
-
--- a number's column is a verdict's just if it is the verdict's number
-column-same : (n : ℕ) (v : Verdict) → n ≤ 3 → Dec (n ≡ verdictNo v) → one (eqb (columnNo n) (column v)) ≡ one (eqb n (verdictNo v))
-column-same zero False h d = refl
-column-same zero True h d = refl
-column-same zero Open h d = refl
-column-same zero Broken h d = refl
-column-same (suc zero) False h d = refl
-column-same (suc zero) True h d = refl
-column-same (suc zero) Open h d = refl
-column-same (suc zero) Broken h d = refl
-column-same (suc (suc zero)) False h d = refl
-column-same (suc (suc zero)) True h d = refl
-column-same (suc (suc zero)) Open h d = refl
-column-same (suc (suc zero)) Broken h d = refl
-column-same (suc (suc (suc zero))) False h d = refl
-column-same (suc (suc (suc zero))) True h d = refl
-column-same (suc (suc (suc zero))) Open h d = refl
-column-same (suc (suc (suc zero))) Broken h d = refl
-column-same (suc (suc (suc (suc n)))) v h d = absurd (omega arith)
+pub column-lt : (v : Verdict) → column v < 4
+column-lt True = omega arith
+column-lt False = omega arith
+column-lt Open = omega arith
+column-lt Broken = omega arith
 
 -- the first k outputs are counted
-pub record CountedTo (k : ℕ) (vs old new : List ℕ) : Type 0 where
+pub record CountedTo (k : ℕ) (vs : List Told) (old new : List ℕ) : Type 0 where
   pub same-length : length new ≡ length old
-  pub each : (j : ℕ) (v : Verdict) → j < k → countAt new j v ≡ one (eqb (getD vs j 0) (verdictNo v)) + countAt old j v
+  pub each : (j : ℕ) (v : Verdict) → j < k → countAt new j v ≡ one (sameVerdict (toldAt vs j) v) + countAt old j v
   pub beyond : (i : ℕ) → 4 * k ≤ i → getD new i 0 ≡ getD old i 0
 
-pub counted-none : (vs old : List ℕ) → CountedTo 0 vs old old
+pub counted-none : (vs : List Told) (old : List ℕ) → CountedTo 0 vs old old
 counted-none vs old = record { same-length = refl; each = λ j v h. absurd (omega arith); beyond = λ i h. refl }
 
-module _ (k : ℕ) (vs old new : List ℕ) (fits : 4 * k + 4 ≤ length old) (ok : getD vs k 0 ≤ 3) (x : CountedTo k vs old new) where
+module _ (k : ℕ) (vs : List Told) (old new : List ℕ) (fits : 4 * k + 4 ≤ length old) (x : CountedTo k vs old new) where
+  abbrev col : ℕ
+  col = column (toldAt vs k)
+
   abbrev at : ℕ
-  at = 4 * k + columnNo (getD vs k 0)
+  at = 4 * k + col
 
   abbrev after : List ℕ
   after = set new at (getD new at 0 + 1)
 
   inside : at < length new
-  inside = omega (arith, column-lt (getD vs k 0) ok, x .same-length)
+  inside = omega (arith, column-lt (toldAt vs k), x .same-length)
 
-  here : (v : Verdict) → Dec (columnNo (getD vs k 0) ≡ column v) → countAt after k v ≡ one (eqb (columnNo (getD vs k 0)) (column v)) + countAt old k v
+  here : (v : Verdict) → Dec (col ≡ column v) → countAt after k v ≡ one (sameVerdict (toldAt vs k) v) + countAt old k v
   here v (yes e) =
-      rw (eq-eqb (columnNo (getD vs k 0)) (column v) e, ← e)
+      rw (eq-eqb col (column v) e, ← e)
       (getD-set-same new at (getD new at 0 + 1) 0 inside ∙ omega (arith, x .beyond at (omega arith)))
   here v (no n) =
-      rw (ne-eqb (columnNo (getD vs k 0)) (column v) n)
+      rw (ne-eqb col (column v) n)
       (getD-set-other new at (4 * k + column v) (getD new at 0 + 1) 0 (λ q. n (omega arith)) ∙ x .beyond (4 * k + column v) (omega arith) ∙ omega arith)
 
   pub counted-more : CountedTo (k + 1) vs old after
   counted-more = record {
     same-length = length-set new at (getD new at 0 + 1) ∙ x .same-length;
     each = λ j v h. go j v (decLt j k) h;
-    beyond = λ i h. getD-set-other new at i (getD new at 0 + 1) 0 (omega (arith, column-lt (getD vs k 0) ok)) ∙ x .beyond i (omega arith);
+    beyond = λ i h. getD-set-other new at i (getD new at 0 + 1) 0 (omega (arith, column-lt (toldAt vs k))) ∙ x .beyond i (omega arith);
   }
     where
-      go : (j : ℕ) (v : Verdict) → Dec (j < k) → j < k + 1 → countAt after j v ≡ one (eqb (getD vs j 0) (verdictNo v)) + countAt old j v
-      go j v (yes q) h = getD-set-other new at (4 * j + column v) (getD new at 0 + 1) 0 (omega (arith, column-of v)) ∙ x .each j v q
+      go : (j : ℕ) (v : Verdict) → Dec (j < k) → j < k + 1 → countAt after j v ≡ one (sameVerdict (toldAt vs j) v) + countAt old j v
+      go j v (yes q) h = getD-set-other new at (4 * j + column v) (getD new at 0 + 1) 0 (omega (arith, column-lt v)) ∙ x .each j v q
       go j v (no q) h =
           let e : j ≡ k = omega arith in
-          subst (λ (z : ℕ). countAt after z v ≡ one (eqb (getD vs z 0) (verdictNo v)) + countAt old z v) (sym e)
-          (here v (ℕ-discrete (columnNo (getD vs k 0)) (column v))
-          ∙ ap (λ (z : ℕ). z + countAt old k v) (column-same (getD vs k 0) v ok (ℕ-discrete (getD vs k 0) (verdictNo v))))
+          subst (λ (z : ℕ). countAt after z v ≡ one (sameVerdict (toldAt vs z) v) + countAt old z v) (sym e) (here v (ℕ-discrete col (column v)))
 
-pub counted-all : (n k : ℕ) (vs old new : List ℕ) → k ≡ n → length old ≡ 28 → CountedTo k vs old new → Counted n vs old new
+pub counted-all : (n k : ℕ) (vs : List Told) (old new : List ℕ) → k ≡ n → length old ≡ 28 → CountedTo k vs old new → Counted n vs old new
 counted-all n k vs old new e l x = record {
   size = x .same-length ∙ l;
   each = λ j v h. x .each j v (omega arith);
@@ -166,26 +138,25 @@ counted-all n k vs old new e l x = record {
 
 -- ---- the share
 
-pub share-small : (a t u : ℕ) → t ≡ u → 1 ≤ t → a ≤ t → (2000 * a + t) / (2 * u) < 1001
-share-small a t u e h l = div-lt-iff-lt-mul {k = 2 * u} (omega arith) .1 (omega arith)
+pub share-small : (a b t : ℕ) → 1 ≤ t → a ≤ t → b ≤ t → (2000 * a + b) / (2 * t) < 1001
+share-small a b t h l g = div-lt-iff-lt-mul {k = 2 * t} (omega arith) .1 (omega arith)
 
 -- ---- one round more keeps rule 18
 
-verdict-counted-once : (d : ℕ) → d ≤ 3 → one (eqb d 1) + one (eqb d 0) + one (eqb d 2) + one (eqb d 3) ≡ 1
-verdict-counted-once zero h = refl
-verdict-counted-once (suc zero) h = refl
-verdict-counted-once (suc (suc zero)) h = refl
-verdict-counted-once (suc (suc (suc zero))) h = refl
-verdict-counted-once (suc (suc (suc (suc d)))) h = absurd (omega arith)
+counted-once : (u : Verdict) → one (sameVerdict u True) + one (sameVerdict u False) + one (sameVerdict u Open) + one (sameVerdict u Broken) ≡ 1
+counted-once True = refl
+counted-once False = refl
+counted-once Open = refl
+counted-once Broken = refl
 
 add-up-of : (counts : List ℕ) (t n : ℕ) → ((k : ℕ) → k < n → sumAt counts k ≡ t) → addUp counts t n ≡ true
 unfolding addUp
 add-up-of counts t zero f = refl
 add-up-of counts t (suc n) f = rw (eq-eqb (sumAt counts n) t (f n (omega arith))) (add-up-of counts t n (λ k h. f k (omega arith)))
 
-pub record-more : (n : ℕ) (r q : JournalRecord) (vs : List ℕ) → RecordOk n r → r .rounds < 1000000 → AreVerdicts n vs
+pub record-more : (n : ℕ) (r q : JournalRecord) (vs : List Told) → RecordOk n r → r .rounds < maxRounds
     → q .rounds ≡ r .rounds + 1 → Counted n vs (r .counts) (q .counts) → recordOk n q ≡ true
-record-more n r q vs ok h are e x =
+record-more n r q vs ok h e x =
     by-counts n q true (omega arith)
     (add-up-of (q .counts) (q .rounds) n
-    (λ k l. omega (arith, x .each k True l, x .each k False l, x .each k Open l, x .each k Broken l, verdict-counted-once (getD vs k 0) (are k l), ok .sums k l)))
+    (λ k l. omega (arith, x .each k True l, x .each k False l, x .each k Open l, x .each k Broken l, counted-once (toldAt vs k), ok .sums k l)))

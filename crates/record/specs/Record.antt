@@ -6,11 +6,16 @@ use mathlib.Core.List.{List}
 use Prim.Native.Nat.{ℕ, zero, suc, _+_, _*_, _/_, _<_, _≤_}
 use lib.Dec.{eqb, leb}
 use lib.ListN.{length, getD, replicate}
-use Rattle.refusal.specs.Numbers.{verdictNo}
+use Rattle.refusal.specs.Numbers.{toldAt}
 use Rattle.refusal.specs.declared.Verdict.{Verdict}
 use Rattle.refusal.specs.declared.Verdict.the-variants.{False, True, Open, Broken}
+use Rattle.refusal.specs.declared.Told.{Told}
 use Rattle.words.specs.Below.{one}
 use Rattle.record.specs.declared.JournalRecord.{JournalRecord}
+
+-- a journal holds at most so many rounds
+abbrev pub maxRounds : ℕ
+maxRounds = 1000000
 
 -- rounds 0, not closed, all tallies 0
 pub record Fresh (r : JournalRecord) : Type 0 where
@@ -40,14 +45,18 @@ addUp counts t (suc n) = eqb (sumAt counts n) t && addUp counts t n
 
 -- at most 1,000,000 rounds, and the counts of each output below n add up to them: rule 18 is broken if not
 unfoldable pub recordOk : ℕ → JournalRecord → Bool
-recordOk n r = leb (r .rounds) 1000000 && addUp (r .counts) (r .rounds) n
+recordOk n r = leb (r .rounds) maxRounds && addUp (r .counts) (r .rounds) n
 
 -- true rounds per thousand of t, nearest, halves up
 unfoldable pub share : ℕ → ℕ → ℕ
 share trues t = (2000 * trues + t) / (2 * t)
 
--- one round more: for each of the n outputs one count goes up by one, that of its verdict; the verdicts are given by their numbers
-pub record Counted (n : ℕ) (verdicts old new : List ℕ) : Type 0 where
+-- the two are one verdict: they have one place
+abbrev pub sameVerdict : Verdict → Verdict → Bool
+sameVerdict u v = eqb (column u) (column v)
+
+-- one round more: for each of the n outputs one count goes up by one, that of its verdict
+pub record Counted (n : ℕ) (verdicts : List Told) (old new : List ℕ) : Type 0 where
   pub size : length new ≡ 28
-  pub each : (k : ℕ) (v : Verdict) → k < n → countAt new k v ≡ one (eqb (getD verdicts k 0) (verdictNo v)) + countAt old k v
+  pub each : (k : ℕ) (v : Verdict) → k < n → countAt new k v ≡ one (sameVerdict (toldAt verdicts k) v) + countAt old k v
   pub beyond : (i : ℕ) → 4 * n ≤ i → getD new i 0 ≡ getD old i 0

@@ -3,8 +3,10 @@ ghost use mathlib.Core.Path.{_≡_};
 ghost use mathlib.Core.Bool.{true};
 ghost use Prim.Native.Nat.{_+_, _*_, _<_, _≤_};
 ghost use lib.ListN.{length};
-ghost use Rattle.record.specs.Record.{Fresh, recordOk, sumAt, Counted, share};
-ghost use Rattle.record.specs.Columns.{columnNo, Countable, AreVerdicts};
+ghost use Rattle.record.specs.Record.{maxRounds, Fresh, column, recordOk, sumAt, Counted, share};
+use refusal::Told;
+use refusal::Verdict;
+use sheet::OutputNo;
 
 pub struct JournalRecord {
     pub rounds: u32,
@@ -37,11 +39,11 @@ fn wide(x: u32) -> u64
 }
 
 // The four counts of output k, added up.
-fn sum_at(counts: &[u32], k: usize) -> u64
-    requires { ⌜ (k < 7) × (length (now counts) ≡ 28) ⌝ }
-    ensures { λ r. ⌜ r ≡ sumAt (now (counts .entry)) k ⌝ }
+fn sum_at(counts: &[u32], k: OutputNo) -> u64
+    requires { ⌜ (k .0 < 7) × (length (now counts) ≡ 28) ⌝ }
+    ensures { λ r. ⌜ r ≡ sumAt (now (counts .entry)) (k .0) ⌝ }
 {
-    let at = 4 * k;
+    let at = 4 * (k.0 as usize);
     wide(counts[at]) + wide(counts[at + 1]) + wide(counts[at + 2]) + wide(counts[at + 3])
 }
 
@@ -57,7 +59,7 @@ pub fn record_ok(r: JournalRecord, n: usize) -> bool
     let counts = r.counts;
     let mut k: usize = 0;
     while k < n {
-        if sum_at(&counts, k) != t {
+        if sum_at(&counts, OutputNo(k as u8)) != t {
             return false;
         }
         k += 1;
@@ -65,41 +67,40 @@ pub fn record_ok(r: JournalRecord, n: usize) -> bool
     true
 }
 
-// Where output k's count of a verdict stands; the verdict is given by its number.
-fn place_of(k: usize, verdict: u8) -> usize
-    requires { ⌜ (k < 7) × (verdict ≤ 3) ⌝ }
-    ensures { λ r. ⌜ r ≡ 4 * k + columnNo verdict ⌝ }
+// The place of a verdict among an output's four counts.
+fn column_of(verdict: Verdict) -> usize
+    ensures { λ r. ⌜ r ≡ column verdict ⌝ }
 {
-    let at = 4 * k;
-    if verdict == 0 {
-        return at + 1;
+    match verdict {
+        Verdict::True => 0,
+        Verdict::False => 1,
+        Verdict::Open => 2,
+        Verdict::Broken => 3,
     }
-    if verdict == 1 {
-        return at;
-    }
-    at + verdict as usize
 }
 
-// Counts one verdict for each of the n outputs.
-fn count_verdicts(counts: &mut [u32], n: usize, verdicts: &[u8])
-    requires { ⌜ (n ≤ 7) × (length (now counts) ≡ 28) × (length (now verdicts) ≡ 7) × Countable (now counts) n (now verdicts) ⌝ }
-    ensures { λ r. ⌜ Counted n (now (verdicts .entry)) (now (counts .entry)) (now (counts .exit)) ⌝ }
+// Where output k's count of a verdict stands.
+fn place_of(k: OutputNo, verdict: Verdict) -> usize
+    requires { ⌜ k .0 < 7 ⌝ }
+    ensures { λ r. ⌜ r ≡ 4 * k .0 + column verdict ⌝ }
 {
+    4 * (k.0 as usize) + column_of(verdict)
+}
+
+// The record after one round more: counts one verdict for each of its n outputs.
+pub fn with_round(r: JournalRecord, n: usize, verdicts: [Told; 7]) -> JournalRecord
+    requires { ⌜ (n ≤ 7) × (recordOk n r ≡ true) × (r .rounds < maxRounds) ⌝ }
+    ensures { λ x. ⌜ (x .rounds ≡ r .rounds + 1) × (x .closed ≡ r .closed) × Counted n verdicts (r .counts) (x .counts) ⌝ }
+{
+    let mut counts = r.counts;
     let mut k: usize = 0;
     while k < n {
-        let at = place_of(k, verdicts[k]);
+        let told = verdicts[k];
+        let verdict = told.verdict;
+        let at = place_of(OutputNo(k as u8), verdict);
         counts[at] = counts[at] + 1;
         k += 1;
     }
-}
-
-// The record after one round more, with the verdicts of its n outputs by their numbers.
-pub fn with_round(r: JournalRecord, n: usize, verdicts: &[u8]) -> JournalRecord
-    requires { ⌜ (n ≤ 7) × (recordOk n r ≡ true) × (r .rounds < 1000000) × (length (now verdicts) ≡ 7) × AreVerdicts n (now verdicts) ⌝ }
-    ensures { λ x. ⌜ (x .rounds ≡ r .rounds + 1) × (x .closed ≡ r .closed) × Counted n (now (verdicts .entry)) (r .counts) (x .counts) ⌝ }
-{
-    let mut counts = r.counts;
-    count_verdicts(&mut counts, n, verdicts);
     JournalRecord {
         rounds: r.rounds + 1,
         closed: r.closed,

@@ -1,95 +1,102 @@
--- Laws of `Decided`: checks may be renamed, checks behind a broken one don't matter, and exactly one outcome fits.
+-- Laws of `Decided`: of one check and of lists of them, what no broken check means, and that exactly one outcome fits.
 use mathlib.Core.Path.{_≡_, refl, sym, ap, _∙_, subst}
-use mathlib.Core.Logic.{⊎-elim}
-use mathlib.Core.List.{List, [], _∷_, _++_, map, append-assoc, List·Memᴰ, List·Memᴰ·head, List·Memᴰ·tail, List·Memᴰ·cases-cons, List·Memᴰ·append-cases, Memᴰ·append-right, List·Memᴰ·not-nil, List·Memᴰ·eq-of-singleton}
-use Rattle.refusal.specs.Decided.{Decided}
+use mathlib.Core.Logic.{_⊎_, inl, inr, ⊎-elim}
+use mathlib.Core.Bool.{Bool, true, false, cond, false≢true}
+use mathlib.Core.List.{List, [], _∷_, _++_}
+use Rattle.refusal.specs.Decided.{Check, test, Decided}
 use Rattle.refusal.specs.declared.Refusal.{Refusal}
 use Rattle.refusal.specs.declared.Outcome.{Outcome}
 use Rattle.refusal.specs.declared.Outcome.the-variants.{Accepted, Refused}
+use Rattle.refusal.proofs.NumberLaws.{not-both}
 
-module _ {C D : Type 0} (f : C → D) where
-  map-append-split : (xs : List C) (c : C) (ys : List C) → map f (xs ++ (c ∷ ys)) ≡ map f xs ++ (f c ∷ map f ys)
-  map-append-split [] c ys = refl
-  map-append-split (x ∷ xs) c ys = ap (λ (l : List D). f x ∷ l) (map-append-split xs c ys)
+-- ---- one check in front
 
-  mem-map : (P : D → Type 0) (xs : List C) → ((c : C) → List·Memᴰ c xs → P (f c)) → (d : D) → List·Memᴰ d (map f xs) → P d
-  mem-map P [] h d m = absurd (List·Memᴰ·not-nil m)
-  mem-map P (x ∷ xs) h d m =
-      ⊎-elim (λ e. subst P (sym e) (h x (List·Memᴰ·head refl))) (λ n. mem-map P xs (λ c k. h c (List·Memᴰ·tail k)) d n) (List·Memᴰ·cases-cons m)
+pub breaks : (c : Check) (cs : List Check) → c .Broken → Decided (c ∷ cs) (Refused (c .rule))
+breaks c cs b = inl (b, refl)
 
-  -- the same checks by other names
-  pub decided-map : (BC : C → Type 0) (rC : C → Refusal) (BD : D → Type 0) (rD : D → Refusal)
-      → ((c : C) → BD (f c) → BC c) → ((c : C) → BC c → BD (f c)) → ((c : C) → rD (f c) ≡ rC c)
-      → (cs : List C) (o : Outcome) → Decided BC rC cs o → Decided BD rD (map f cs) o
-  decided-map BC rC BD rD to from same cs Accepted h = mem-map (λ d. BD d → ⊥) cs (λ c m b. h c m (to c b))
-  decided-map BC rC BD rD to from same cs (Refused r) (c, x, e) = (
-    f c,
-    record {
-      before = map f (x .before);
-      others = map f (x .others);
-      split = ap (map f) (x .split) ∙ map-append-split (x .before) c (x .others);
-      hold = mem-map (λ d. BD d → ⊥) (x .before) (λ a m b. x .hold a m (to a b));
-      breaks = from c (x .breaks);
-    },
-    same c ∙ e,
-  )
+pub passes : (c : Check) (cs : List Check) (o : Outcome) → (c .Broken → ⊥) → Decided cs o → Decided (c ∷ cs) o
+passes c cs o n d = inr (n, d)
 
-module _ {C : Type 0} (B : C → Type 0) (rule : C → Refusal) where
-  -- what stands behind a broken check doesn't matter
-  pub decided-refused : (cs ds : List C) (r : Refusal) → Decided B rule cs (Refused r) → Decided B rule (cs ++ ds) (Refused r)
-  decided-refused cs ds r (c, x, e) = (
-    c,
-    record {
-      before = x .before;
-      others = x .others ++ ds;
-      split = ap (λ (l : List C). l ++ ds) (x .split) ∙ append-assoc (x .before) (c ∷ x .others) ds;
-      hold = x .hold;
-      breaks = x .breaks;
-    },
-    e,
-  )
+-- a check by a test
+pub test-decides : (r : Refusal) (t : Bool) (cs : List Check) (o : Outcome) → Decided cs o → Decided (test r t ∷ cs) (cond t (Refused r) o)
+test-decides r true cs o d = inl (refl, refl)
+test-decides r false cs o d = inr ((λ e. false≢true e), d)
 
-  -- where no check is broken, the checks behind decide
-  pub decided-accepted : (cs ds : List C) (o : Outcome) → Decided B rule cs Accepted → Decided B rule ds o → Decided B rule (cs ++ ds) o
-  decided-accepted cs ds Accepted h g = λ c m. ⊎-elim (λ k. h c k) (λ k. g c k) (List·Memᴰ·append-cases cs m)
-  decided-accepted cs ds (Refused r) h (c, x, e) = (
-    c,
-    record {
-      before = cs ++ x .before;
-      others = x .others;
-      split = ap (λ (l : List C). cs ++ l) (x .split) ∙ sym (append-assoc cs (x .before) (c ∷ x .others));
-      hold = λ d m. ⊎-elim (λ k. h d k) (λ k. x .hold d k) (List·Memᴰ·append-cases cs m);
-      breaks = x .breaks;
-    },
-    e,
-  )
+-- an accepted outcome passed the check in front
+pub passed : (c : Check) (cs : List Check) → Decided (c ∷ cs) Accepted → (c .Broken → ⊥) × Decided cs Accepted
+passed c cs (inl h) = absurd (not-both (sym (h .1)))
+passed c cs (inr h) = h
 
-  -- one check
-  pub decided-broken : (c : C) → B c → Decided B rule (c ∷ []) (Refused (rule c))
-  decided-broken c b =
-      (c, record { before = []; others = []; split = refl; hold = λ d m. absurd (List·Memᴰ·not-nil m); breaks = b }, refl)
+-- no check is broken
+abbrev pub Passed : List Check → Type 0
+Passed [] = Unit {0}
+Passed (c ∷ cs) = (c .Broken → ⊥) × Passed cs
 
-  pub decided-whole : (c : C) → (B c → ⊥) → Decided B rule (c ∷ []) Accepted
-  decided-whole c n d m b = n (subst B (List·Memᴰ·eq-of-singleton m) b)
+pub all-passed : (cs : List Check) → Decided cs Accepted → Passed cs
+all-passed [] h = tt
+all-passed (c ∷ cs) h =
+    let p = passed c cs h in
+    (p .0, all-passed cs (p .1))
 
-  -- the first broken check is one
-  first-same : (b b′ os os′ : List C) (c c′ : C) → b ++ (c ∷ os) ≡ b′ ++ (c′ ∷ os′)
-      → ((d : C) → List·Memᴰ d b → B d → ⊥) → ((d : C) → List·Memᴰ d b′ → B d → ⊥) → B c → B c′ → c ≡ c′
-  first-same [] [] os os′ c c′ e h h′ x x′ = cc
-  first-same [] (d ∷ b′) os os′ c c′ e h h′ x x′ = absurd (h′ c (List·Memᴰ·head cc) x)
-  first-same (d ∷ b) [] os os′ c c′ e h h′ x x′ = absurd (h c′ (List·Memᴰ·head cc) x′)
-  first-same (d ∷ b) (d′ ∷ b′) os os′ c c′ e h h′ x x′ =
-      first-same b b′ os os′ c c′ (cc) (λ a m. h a (List·Memᴰ·tail m)) (λ a m. h′ a (List·Memᴰ·tail m)) x x′
+pub passed-append : (cs ds : List Check) → Passed (cs ++ ds) → Passed cs × Passed ds
+passed-append [] ds h = (tt, h)
+passed-append (c ∷ cs) ds h =
+    let p = passed-append cs ds (h .1) in
+    ((h .0, p .0), p .1)
 
-  one-fits : (cs : List C) (r : Refusal) → Decided B rule cs Accepted → Decided B rule cs (Refused r) → ⊥
-  one-fits cs r h (c, x, e) =
-      h c (subst (List·Memᴰ c) (sym (x .split)) (Memᴰ·append-right (x .before) (List·Memᴰ·head refl))) (x .breaks)
+-- ---- lists one behind the other
 
-  -- exactly one outcome fits
-  pub decided-once : (cs : List C) (o o′ : Outcome) → Decided B rule cs o → Decided B rule cs o′ → o ≡ o′
-  decided-once cs Accepted Accepted h h′ = refl
-  decided-once cs Accepted (Refused r) h h′ = absurd (one-fits cs r h h′)
-  decided-once cs (Refused r) Accepted h h′ = absurd (one-fits cs r h′ h)
-  decided-once cs (Refused r) (Refused r′) (c, x, e) (c′, x′, e′) =
-      let s : c ≡ c′ = first-same (x .before) (x′ .before) (x .others) (x′ .others) c c′ (sym (x .split) ∙ x′ .split) (x .hold) (x′ .hold) (x .breaks) (x′ .breaks) in
-      ap Refused (sym e ∙ ap rule s ∙ e′)
+-- what stands behind a broken check doesn't matter
+pub decided-refused : (cs ds : List Check) (r : Refusal) → Decided cs (Refused r) → Decided (cs ++ ds) (Refused r)
+decided-refused [] ds r h = absurd (not-both h)
+decided-refused (c ∷ cs) ds r (inl h) = inl h
+decided-refused (c ∷ cs) ds r (inr h) = inr (h .0, decided-refused cs ds r (h .1))
+
+-- where no check is broken, the checks behind decide
+pub decided-accepted : (cs ds : List Check) (o : Outcome) → Decided cs Accepted → Decided ds o → Decided (cs ++ ds) o
+decided-accepted [] ds o h g = g
+decided-accepted (c ∷ cs) ds o h g =
+    let p = passed c cs h in
+    inr (p .0, decided-accepted cs ds o (p .1) g)
+
+-- what is behind may be exchanged for what decides alike
+pub decided-behind : (cs ds es : List Check) (o : Outcome) → (Decided ds o → Decided es o) → Decided (cs ++ ds) o → Decided (cs ++ es) o
+decided-behind [] ds es o f h = f h
+decided-behind (c ∷ cs) ds es o f (inl h) = inl h
+decided-behind (c ∷ cs) ds es o f (inr h) = inr (h .0, decided-behind cs ds es o f (h .1))
+
+-- an accepted outcome passed both lists
+pub passed-both : (cs ds : List Check) → Decided (cs ++ ds) Accepted → Decided cs Accepted × Decided ds Accepted
+passed-both [] ds h = (refl, h)
+passed-both (c ∷ cs) ds h =
+    let p = passed c (cs ++ ds) h in
+    let q = passed-both cs ds (p .1) in
+    (inr (p .0, q .0), q .1)
+
+-- ---- exactly one outcome fits
+
+-- no two do
+pub decided-once : (cs : List Check) (o o′ : Outcome) → Decided cs o → Decided cs o′ → o ≡ o′
+decided-once [] o o′ h h′ = h ∙ sym h′
+decided-once (c ∷ cs) o o′ (inl h) (inl h′) = h .1 ∙ sym (h′ .1)
+decided-once (c ∷ cs) o o′ (inl h) (inr h′) = absurd (h′ .0 (h .0))
+decided-once (c ∷ cs) o o′ (inr h) (inl h′) = absurd (h .0 (h′ .0))
+decided-once (c ∷ cs) o o′ (inr h) (inr h′) = decided-once cs o o′ (h .1) (h′ .1)
+
+-- each check is broken or not
+abbrev pub Decidable : List Check → Type 0
+Decidable [] = Unit {0}
+Decidable (c ∷ cs) = Dec (c .Broken) × Decidable cs
+
+pub decidable-both : (cs ds : List Check) → Decidable cs → Decidable ds → Decidable (cs ++ ds)
+decidable-both [] ds h g = g
+decidable-both (c ∷ cs) ds h g = (h .0, decidable-both cs ds (h .1) g)
+
+-- then one fits
+pub decided-some : (cs : List Check) → Decidable cs → (o : Outcome) × Decided cs o
+decided-some [] h = (Accepted, refl)
+decided-some (c ∷ cs) h = go (h .0) (decided-some cs (h .1))
+  where
+    go : Dec (c .Broken) → (o : Outcome) × Decided cs o → (o : Outcome) × Decided (c ∷ cs) o
+    go (yes b) z = (Refused (c .rule), inl (b, refl))
+    go (no n) z = (z .0, inr (n, z .1))

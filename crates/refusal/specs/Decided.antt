@@ -2,20 +2,26 @@
 -- (01, "What is turned down").
 -- Manual: "Refusals".
 use mathlib.Core.Path.{_≡_}
-use mathlib.Core.List.{List, _∷_, _++_, List·Memᴰ}
+use mathlib.Core.Bool.{Bool, true}
+use mathlib.Core.Logic.{_⊎_}
+use mathlib.Core.List.{List, [], _∷_}
 use Rattle.refusal.specs.declared.Refusal.{Refusal}
 use Rattle.refusal.specs.declared.Outcome.{Outcome}
 use Rattle.refusal.specs.declared.Outcome.the-variants.{Accepted, Refused}
 
--- c is the first of the checks cs that is broken
-pub record First {C : Type 0} (Broken : C → Type 0) (cs : List C) (c : C) : Type 0 where
-  pub before : List C
-  pub others : List C
-  pub split : cs ≡ before ++ (c ∷ others)
-  pub hold : (d : C) → List·Memᴰ d before → Broken d → ⊥
-  pub breaks : Broken c
+-- a rule, and what breaks it
+pub record Check : Type 1 where
+  pub rule : Refusal
+  pub Broken : Type 0
 
--- The outcome is accepted if no check is broken, and else the rule of the first broken check.
-abbrev pub Decided : {C : Type 0} → (C → Type 0) → (C → Refusal) → List C → Outcome → Type 0
-Decided {C} Broken rule cs Accepted = (c : C) → List·Memᴰ c cs → Broken c → ⊥
-Decided {C} Broken rule cs (Refused r) = (c : C) × First Broken cs c × (rule c ≡ r)
+abbrev pub check : Refusal → Type 0 → Check
+check r B = record { rule = r; Broken = B }
+
+-- a rule that is broken if the test passes
+abbrev pub test : Refusal → Bool → Check
+test r t = check r (t ≡ true)
+
+-- The first check that is broken refuses with its rule; where none is broken, the outcome is accepted.
+abbrev pub Decided : List Check → Outcome → Type 0
+Decided [] o = o ≡ Accepted
+Decided (c ∷ cs) o = (c .Broken × (o ≡ Refused (c .rule))) ⊎ ((c .Broken → ⊥) × Decided cs o)

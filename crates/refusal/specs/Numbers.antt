@@ -1,15 +1,16 @@
 -- The numbers of the refusals and the verdicts (01, "What is turned down", the table; "Completions and verdicts").
 -- Manual: "Refusals".
 use mathlib.Core.Path.{_≡_}
-use mathlib.Core.List.{List, [], _∷_}
-use Prim.Native.Nat.{ℕ, zero, suc, _<_, _≤_}
-use lib.ListN.{length, getD}
+use mathlib.Core.List.{List, map}
+use Prim.Native.Nat.{ℕ, _<_, _≤_}
+use lib.ListN.{length, getD, take}
 use Rattle.refusal.specs.declared.Refusal.{Refusal}
 use Rattle.refusal.specs.declared.Refusal.the-variants.{Short, Mark, Version, Counts, Assumption, Length, Byte, Values, Leftover, Circular, Letter, Closed, Full, NoRound, Storage, Extent, Line, Record}
 use Rattle.refusal.specs.declared.Outcome.{Outcome}
 use Rattle.refusal.specs.declared.Outcome.the-variants.{Accepted, Refused}
 use Rattle.refusal.specs.declared.Verdict.{Verdict}
 use Rattle.refusal.specs.declared.Verdict.the-variants.{False, True, Open, Broken}
+use Rattle.refusal.specs.declared.Told.{Told}
 
 -- The number of each rule, with what breaks it.
 abbrev pub refusalNo : Refusal → ℕ
@@ -62,19 +63,19 @@ verdictNo True = 1
 verdictNo Open = 2
 verdictNo Broken = 3
 
--- the verdict of a number, and those of the n numbers from place k on
-abbrev pub verdictAt : ℕ → Verdict
-verdictAt zero = False
-verdictAt (suc zero) = True
-verdictAt (suc (suc zero)) = Open
-verdictAt (suc (suc (suc n))) = Broken
+-- what an answer holds for an output that the sheet doesn't have, and for every output where the call is refused
+abbrev pub untold : Told
+untold = record { verdict = False }
 
-abbrev pub verdictList : List ℕ → ℕ → ℕ → List Verdict
-verdictList vs k zero = []
-verdictList vs k (suc n) = verdictAt (getD vs k 0) ∷ verdictList vs (suc k) n
+-- the verdict that an answer holds for output k, and those for the first n outputs
+abbrev pub toldAt : List Told → ℕ → Verdict
+toldAt vs k = getD vs k untold .verdict
 
--- the numbers of the verdicts on n outputs in an answer of seven, and 0 for outputs that the sheet doesn't have
-pub record Verdicts (n : ℕ) (f : ℕ → Verdict) (vs : List ℕ) : Type 0 where
+abbrev pub verdictList : List Told → ℕ → List Verdict
+verdictList vs n = map (λ t. t .verdict) (take n vs)
+
+-- the verdicts on n outputs in an answer of seven
+pub record Verdicts (n : ℕ) (f : ℕ → Verdict) (vs : List Told) : Type 0 where
   pub size : length vs ≡ 7
-  pub each : (k : ℕ) → k < n → getD vs k 0 ≡ verdictNo (f k)
-  pub beyond : (k : ℕ) → n ≤ k → getD vs k 0 ≡ 0
+  pub each : (k : ℕ) → k < n → toldAt vs k ≡ f k
+  pub beyond : (k : ℕ) → n ≤ k → toldAt vs k ≡ False

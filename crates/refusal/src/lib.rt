@@ -1,6 +1,7 @@
 // Why a call is turned down, and the verdicts: the enums that every entry answers with, and the numbers they stand for.
 ghost use mathlib.Core.Path.{_≡_};
-ghost use Rattle.refusal.specs.Numbers.{refusalNo, outcomeNo};
+ghost use lib.ListN.{replicate};
+ghost use Rattle.refusal.specs.Numbers.{refusalNo, outcomeNo, verdictNo, untold};
 
 // One case for each rule of the table, in the table's order.
 pub enum Refusal {
@@ -39,6 +40,21 @@ pub enum Verdict {
     Broken,
 }
 
+// A verdict as an answer holds it: one of an array, an entry for each output.
+pub struct Told {
+    pub verdict: Verdict,
+}
+
+// What an answer holds where its call is refused.
+pub fn untold() -> [Told; 7]
+    ensures { λ r. ⌜ r ≡ replicate 7 untold ⌝ }
+{
+    let none = Told {
+        verdict: Verdict::False,
+    };
+    [none; 7]
+}
+
 pub fn refusal_number(r: Refusal) -> u32
     ensures { λ x. ⌜ x ≡ refusalNo r ⌝ }
 {
@@ -71,5 +87,16 @@ pub fn outcome_number(o: Outcome) -> u32
     match o {
         Outcome::Accepted => 0,
         Outcome::Refused(r) => refusal_number(r),
+    }
+}
+
+pub fn verdict_number(v: Verdict) -> u32
+    ensures { λ x. ⌜ x ≡ verdictNo v ⌝ }
+{
+    match v {
+        Verdict::False => 0,
+        Verdict::True => 1,
+        Verdict::Open => 2,
+        Verdict::Broken => 3,
     }
 }

@@ -1,8 +1,8 @@
 -- A sheet is refused by the first check that is broken, and accepted where none is.
 use mathlib.Core.Path.{_≡_, refl, sym, ap, _∙_, subst}
-use mathlib.Core.Logic.{⊎-elim}
+use mathlib.Core.Logic.{inl, inr}
 use mathlib.Core.Bool.{Bool, true, false, cond, not, _&&_, _||_, false≢true}
-use mathlib.Core.List.{List, [], _∷_, _++_, append-assoc, List·Memᴰ·not-nil, List·Memᴰ·cases-cons}
+use mathlib.Core.List.{List, [], _∷_, _++_, append-assoc}
 use Prim.Native.Nat.{ℕ, zero, suc, _+_, _-_, _≤_, _<_}
 use native.Mathlib.Omega.{arith}
 use native.Mathlib.Numerals.{add-one}
@@ -10,17 +10,20 @@ use lib.ListN.{length, take, drop, getD, length-drop, drop-of-length-le}
 use lib.Seq.{drop-cons, drop-drop, take-suc, length-take-le, drop-length, take-length}
 use lib.Dec.{leb, ltb, eqb}
 use borrow.Author.Tests.{le-ltb, lt-ltb, le-leb, lt-leb, ne-eqb, ltb-true, ltb-false, leb-true, leb-false}
-use Rattle.refusal.specs.Decided.{Decided}
+use Rattle.refusal.specs.Decided.{Check, test, Decided}
+use Rattle.refusal.specs.declared.Refusal.{Refusal}
 use Rattle.refusal.specs.declared.Refusal.the-variants.{Short, Mark, Version, Counts, Assumption, Byte, Values, Length, Leftover}
 use Rattle.refusal.specs.declared.Outcome.{Outcome}
 use Rattle.refusal.specs.declared.Outcome.the-variants.{Accepted, Refused}
+use Rattle.refusal.proofs.Decisions.{test-decides}
 use Rattle.words.proofs.Bools.{and-split}
 use Rattle.sheet.specs.Bytes.{opOf}
 use Rattle.sheet.specs.Expression.{Expr, stack, Parsed, tree, broken, applyOp, final, parse}
 use Rattle.sheet.specs.Expression
 use Rattle.sheet.specs.Header.{markOk, versionOf, countsOk, assumedAt, fieldsOf, headerOf}
-use Rattle.sheet.specs.RuleSheet.{Reading, refused, accepted, Outputs, trees, breaks, lengthOk, after, andThen, readOutputs, withOutputs, withHeader, readSheet}
-use Rattle.sheet.specs.Checks.{Check, size, end, leftover, rule, inputsOf, outputsOf, placeOf, sizeOf, expressionOf, known, needs, heightFrom, broken?, Broken, byteChecks, outputChecks, checksOf}
+use Rattle.sheet.specs.RuleSheet.{Outputs, trees, breaks, lengthOk, after, andThen, readOutputs, withOutputs, withHeader, readSheet}
+use Rattle.sheet.specs.Checks.{inputsOf, outputsOf, placeOf, sizeOf, expressionOf, known, needs, heightFrom, badSize, opAt, badByte, badValues, badEnd, leftOver, byteChecks, outputChecks, readingChecks}
+use Rattle.sheet.specs.Decided.{readingOutcome, ReadingDecided}
 use Rattle.sheet.specs.declared.Op.{Op}
 use Rattle.sheet.specs.declared.Op.the-variants.{Const, Not, And, Or, Read, Rejected}
 use Rattle.sheet.specs.declared.Assumed.{Assumed}
@@ -54,10 +57,12 @@ does s (Read q o v) st ok = go (ltb (q .0) s) refl
     go false e = unknown e (rw e)
 does s (Rejected r) st ok = unknown refl (ap Expression.breaks ok)
 
--- the rule of the first broken check
-unfoldable firstBroken : List ℕ → List Check → Outcome
-firstBroken bs [] = Accepted
-firstBroken bs (c ∷ cs) = cond (broken? bs c) (Refused (rule c)) (firstBroken bs cs)
+-- a test in front of decided checks
+by-test : (r : Refusal) (t : Bool) (cs : List Check) (x o : Outcome) → Decided cs x → cond t (Refused r) x ≡ o → Decided (test r t ∷ cs) o
+by-test r t cs x o d e = subst (Decided (test r t ∷ cs)) e (test-decides r t cs x d)
+
+off : {t : Bool} → t ≡ false → t ≡ true → ⊥
+off f e = false≢true (sym f ∙ e)
 
 -- the law of an expression
 
@@ -83,35 +88,30 @@ module _ (bs : List ℕ) (k : ℕ) where
   abbrev e : List ℕ
   e = expressionOf bs k
 
-  abbrev tests : ℕ → List Check → Outcome
-  tests i more =
-      cond (not (known streams (opOf (getD e i 0)))) (Refused Byte)
-      (cond (ltb (heightFrom 0 (take i e)) (needs (opOf (getD e i 0)))) (Refused Values) (firstBroken bs more))
-
   byte-law : (i : ℕ) (st : List Expr) (more : List Check) (x : Outcome) → length st ≡ heightFrom 0 (take i e)
-      → ((st′ : List Expr) → length st′ ≡ heightFrom 0 (take i e) + 1 - needs (opOf (getD e i 0)) → firstBroken bs more ≡ afterParse (parse streams st′ (drop (suc i) e)) x)
-      → Does streams (opOf (getD e i 0)) st
-      → tests i more ≡ afterParse (parse streams st (getD e i 0 ∷ drop (suc i) e)) x
+      → ((st′ : List Expr) → length st′ ≡ heightFrom 0 (take i e) + 1 - needs (opAt bs k i) → Decided more (afterParse (parse streams st′ (drop (suc i) e)) x))
+      → Does streams (opAt bs k i) st
+      → Decided (test Byte (badByte bs k i) ∷ (test Values (badValues bs k i) ∷ more)) (afterParse (parse streams st (getD e i 0 ∷ drop (suc i) e)) x)
   unfolding parse
-  byte-law i st more x l rec (unknown q p) = rw (q, p)
-  byte-law i st more x l rec (lacks q n p) = rw (q, p, ← l) (simp (lt-ltb (length st) (needs (opOf (getD e i 0))) n))
+  byte-law i st more x l rec (unknown q p) = inl (ap not q, rw p)
+  byte-law i st more x l rec (lacks q n p) = inr (off (ap not q), inl (lt-ltb (heightFrom 0 (take i e)) (needs (opAt bs k i)) (rw l at n), rw p))
   byte-law i st more x l rec (goes q n st′ p m) =
-      rw (q, p) (simp (le-ltb (heightFrom 0 (take i e)) (needs (opOf (getD e i 0))) (rw l at n)) (rec st′ (rw l at m)))
+      inr (off (ap not q), inr (off (le-ltb (heightFrom 0 (take i e)) (needs (opAt bs k i)) (rw l at n)), rw p (rec st′ (rw l at m))))
 
-  expr-law : (rest : List Check) (r i : ℕ) (st : List Expr) → i + r ≡ length e → length st ≡ heightFrom 0 (take i e)
-      → firstBroken bs (byteChecks k i r ++ (end k ∷ rest)) ≡ afterParse (parse streams st (drop i e)) (firstBroken bs rest)
-  unfolding firstBroken byteChecks broken? parse
-  expr-law rest zero i st h l =
+  expr-law : (rest : List Check) (x : Outcome) → Decided rest x → (r i : ℕ) (st : List Expr) → i + r ≡ length e → length st ≡ heightFrom 0 (take i e)
+      → Decided (byteChecks bs k i r ++ (test Values (badEnd bs k) ∷ rest)) (afterParse (parse streams st (drop i e)) x)
+  unfolding byteChecks parse
+  expr-law rest x h zero i st g l =
       let a : i ≡ length e = omega arith in
       let d : drop i e ≡ [] = ap (λ (n : ℕ). drop n e) a ∙ drop-length e in
       let t : take i e ≡ e = ap (λ (n : ℕ). take n e) a ∙ take-length e in
-      rw d (end-law st (heightFrom 0 e) (firstBroken bs rest) (l ∙ ap (heightFrom 0) t))
-  expr-law rest (suc r) i st h l =
+      by-test Values (badEnd bs k) rest x _ h (rw d (end-law st (heightFrom 0 e) x (l ∙ ap (heightFrom 0) t)))
+  expr-law rest x h (suc r) i st g l =
       let lt : i < length e = omega arith in
       rw (drop-cons e i 0 lt)
-      (byte-law i st (byteChecks k (suc i) r ++ (end k ∷ rest)) (firstBroken bs rest) l
-      (λ st′ m. expr-law rest r (suc i) st′ (omega arith) (m ∙ sym (ap (heightFrom 0) (take-suc e i 0 lt) ∙ height-more 0 (take i e) (getD e i 0))))
-      (does streams (opOf (getD e i 0)) st (only-byte (getD e i 0))))
+      (byte-law i st (byteChecks bs k (suc i) r ++ (test Values (badEnd bs k) ∷ rest)) x l
+      (λ st′ m. expr-law rest x h r (suc i) st′ (omega arith) (m ∙ sym (ap (heightFrom 0) (take-suc e i 0 lt) ∙ height-more 0 (take i e) (getD e i 0))))
+      (does streams (opAt bs k i) st (only-byte (getD e i 0))))
 
 -- the law of the outputs
 
@@ -135,9 +135,16 @@ leb-same a b c d f g = go (leb a b) refl
     go false e = sym (lt-leb c d (g (leb-false a b e)))
 
 module _ (bs : List ℕ) where
+  -- the checks of the outputs from k on, r of them, and of the end
+  abbrev from : ℕ → ℕ → List Check
+  from k r = outputChecks bs k r ++ (test Leftover (leftOver bs) ∷ [])
+
+  -- what their reading gives
+  abbrev reads : ℕ → ℕ → Outcome
+  reads k r = outputsNo (readOutputs (streams bs k) r (drop (placeOf bs k) bs))
+
   -- the length rule, as the reading tests it
-  size-same : (k : ℕ) → placeOf bs k < length bs → broken? bs (size k) ≡ not (lengthOk (sizeOf bs k) (drop (placeOf bs k + 1) bs))
-  unfolding broken?
+  size-same : (k : ℕ) → placeOf bs k < length bs → badSize bs k ≡ not (lengthOk (sizeOf bs k) (drop (placeOf bs k + 1) bs))
   size-same k h =
       simp (
         lt-ltb (placeOf bs k) (length bs) h,
@@ -146,29 +153,28 @@ module _ (bs : List ℕ) where
             (λ q. omega (arith, length-drop (placeOf bs k + 1) bs)),
       )
 
-  one-law : (k r : ℕ) → firstBroken bs (outputChecks bs (suc k) r ++ (leftover ∷ [])) ≡ outputsNo (readOutputs (streams bs k) r (drop (placeOf bs (suc k)) bs))
-      → placeOf bs k < length bs → (t : Bool) → lengthOk (sizeOf bs k) (drop (placeOf bs k + 1) bs) ≡ t
-      → cond (not t) (Refused Length) (firstBroken bs (byteChecks k 0 (sizeOf bs k) ++ (end k ∷ (outputChecks bs (suc k) r ++ (leftover ∷ [])))))
-      ≡ outputsNo (cond t (andThen (parse (streams bs k) [] (expressionOf bs k)) (readOutputs (streams bs k) r (drop (sizeOf bs k) (drop (placeOf bs k + 1) bs)))) (breaks Length))
+  one-law : (k r : ℕ) → Decided (from (suc k) r) (reads (suc k) r) → placeOf bs k < length bs → (t : Bool) → lengthOk (sizeOf bs k) (drop (placeOf bs k + 1) bs) ≡ t
+      → Decided (test Length (badSize bs k) ∷ (byteChecks bs k 0 (sizeOf bs k) ++ (test Values (badEnd bs k) ∷ from (suc k) r)))
+      (outputsNo (cond t (andThen (parse (streams bs k) [] (expressionOf bs k)) (readOutputs (streams bs k) r (drop (sizeOf bs k) (drop (placeOf bs k + 1) bs)))) (breaks Length)))
   unfolding placeOf heightFrom
-  one-law k r rec h false q = refl
+  one-law k r rec h false q = inl (size-same k h ∙ ap not q, refl)
   one-law k r rec h true q =
       let n = sizeOf bs k in
       let ys = drop (placeOf bs k + 1) bs in
       let a = and-split (leb 1 n) (leb n 64 && leb n (length ys)) q in
       let b = and-split (leb n 64) (leb n (length ys)) (a .1) in
       let fits : n ≤ length ys = leb-true n (length ys) (b .1) in
-      expr-law bs k (outputChecks bs (suc k) r ++ (leftover ∷ [])) n 0 [] (omega (arith, length-take-le n ys fits)) refl
-      ∙ ap (afterParse (parse (streams bs k) [] (expressionOf bs k)))
-      (rec ∙ ap (λ (z : List ℕ). outputsNo (readOutputs (streams bs k) r z)) (sym (drop-drop n (placeOf bs k + 1) bs)))
-      ∙ sym (andThen-no (parse (streams bs k) [] (expressionOf bs k)) (readOutputs (streams bs k) r (drop n ys)))
+      inr (off (size-same k h ∙ ap not q),
+      subst (Decided (byteChecks bs k 0 n ++ (test Values (badEnd bs k) ∷ from (suc k) r)))
+      (ap (λ (z : List ℕ). afterParse (parse (streams bs k) [] (expressionOf bs k)) (outputsNo (readOutputs (streams bs k) r z))) (sym (drop-drop n (placeOf bs k + 1) bs))
+      ∙ sym (andThen-no (parse (streams bs k) [] (expressionOf bs k)) (readOutputs (streams bs k) r (drop n ys))))
+      (expr-law bs k (from (suc k) r) (reads (suc k) r) rec n 0 [] (omega (arith, length-take-le n ys fits)) refl))
 
-  size-missing : (k : ℕ) → length bs ≤ placeOf bs k → broken? bs (size k) ≡ true
-  unfolding broken?
+  size-missing : (k : ℕ) → length bs ≤ placeOf bs k → badSize bs k ≡ true
   size-missing k h = simp (le-ltb (placeOf bs k) (length bs) h)
 
-  last-law : (k : ℕ) → k ≡ outputsOf bs → cond (broken? bs leftover) (Refused Leftover) Accepted ≡ outputsNo (readOutputs (streams bs k) 0 (drop (placeOf bs k) bs))
-  unfolding broken? readOutputs
+  last-law : (k : ℕ) → k ≡ outputsOf bs → cond (leftOver bs) (Refused Leftover) Accepted ≡ reads k 0
+  unfolding readOutputs
   last-law k h =
       ap (λ (z : ℕ). cond {A = Outcome} (ltb (placeOf bs z) (length bs)) (Refused Leftover) Accepted) (sym h) ∙ go (ltb (placeOf bs k) (length bs)) refl
     where
@@ -176,42 +182,37 @@ module _ (bs : List ℕ) where
       go true q = rw (drop-cons bs (placeOf bs k) 0 (ltb-true _ _ q))
       go false q = rw (drop-of-length-le bs (ltb-false _ _ q))
 
-  lined : (k r : ℕ) → outputChecks bs k (suc r) ++ (leftover ∷ []) ≡ size k ∷ (byteChecks k 0 (sizeOf bs k) ++ (end k ∷ (outputChecks bs (suc k) r ++ (leftover ∷ []))))
+  lined : (k r : ℕ) → from k (suc r) ≡ test Length (badSize bs k) ∷ (byteChecks bs k 0 (sizeOf bs k) ++ (test Values (badEnd bs k) ∷ from (suc k) r))
   unfolding outputChecks
-  lined k r = ap (λ (z : List Check). size k ∷ z) (append-assoc (byteChecks k 0 (sizeOf bs k)) (end k ∷ outputChecks bs (suc k) r) (leftover ∷ []))
+  lined k r = ap (λ (z : List Check). test Length (badSize bs k) ∷ z) (append-assoc (byteChecks bs k 0 (sizeOf bs k)) (test Values (badEnd bs k) ∷ outputChecks bs (suc k) r) (test Leftover (leftOver bs) ∷ []))
 
-  next-law : (k r : ℕ) → firstBroken bs (outputChecks bs (suc k) r ++ (leftover ∷ [])) ≡ outputsNo (readOutputs (streams bs k) r (drop (placeOf bs (suc k)) bs))
-      → (t : Bool) → ltb (placeOf bs k) (length bs) ≡ t
-      → cond (broken? bs (size k)) (Refused Length) (firstBroken bs (byteChecks k 0 (sizeOf bs k) ++ (end k ∷ (outputChecks bs (suc k) r ++ (leftover ∷ []))))) ≡ outputsNo (readOutputs (streams bs k) (suc r) (drop (placeOf bs k) bs))
+  next-law : (k r : ℕ) → Decided (from (suc k) r) (reads (suc k) r) → (t : Bool) → ltb (placeOf bs k) (length bs) ≡ t
+      → Decided (test Length (badSize bs k) ∷ (byteChecks bs k 0 (sizeOf bs k) ++ (test Values (badEnd bs k) ∷ from (suc k) r))) (reads k (suc r))
   unfolding readOutputs
   next-law k r rec true q =
       let lt : placeOf bs k < length bs = ltb-true _ _ q in
       let cut : drop (placeOf bs k) bs ≡ sizeOf bs k ∷ drop (placeOf bs k + 1) bs = drop-cons bs (placeOf bs k) 0 lt ∙ ap (λ (n : ℕ). sizeOf bs k ∷ drop n bs) (sym (add-one (placeOf bs k))) in
-      rw (cut, size-same k lt) (one-law k r rec lt (lengthOk (sizeOf bs k) (drop (placeOf bs k + 1) bs)) refl)
+      rw cut (one-law k r rec lt (lengthOk (sizeOf bs k) (drop (placeOf bs k + 1) bs)) refl)
   next-law k r rec false q =
-      rw (drop-of-length-le bs (ltb-false (placeOf bs k) (length bs) q), size-missing k (ltb-false (placeOf bs k) (length bs) q))
+      inl (size-missing k (ltb-false (placeOf bs k) (length bs) q), rw (drop-of-length-le bs (ltb-false (placeOf bs k) (length bs) q)))
 
-  outputs-law : (r k : ℕ) → k + r ≡ outputsOf bs
-      → firstBroken bs (outputChecks bs k r ++ (leftover ∷ [])) ≡ outputsNo (readOutputs (streams bs k) r (drop (placeOf bs k) bs))
-  unfolding firstBroken outputChecks
-  outputs-law zero k h = last-law k (omega arith)
+  outputs-law : (r k : ℕ) → k + r ≡ outputsOf bs → Decided (from k r) (reads k r)
+  unfolding outputChecks
+  outputs-law zero k h = by-test Leftover (leftOver bs) [] Accepted _ refl (last-law k (omega arith))
   outputs-law (suc r) k h =
-      ap (firstBroken bs) (lined k r)
-      ∙ next-law k r (outputs-law r (suc k) (omega arith)) (ltb (placeOf bs k) (length bs)) refl
+      subst (λ (cs : List Check). Decided cs (reads k (suc r))) (sym (lined k r))
+      (next-law k r (outputs-law r (suc k) (omega arith)) (ltb (placeOf bs k) (length bs)) refl)
 
 -- the whole sheet
-
-abbrev pub readingOutcome : Reading → Outcome
-readingOutcome (accepted x) = Accepted
-readingOutcome (refused r) = Refused r
 
 with-no : (m n : ℕ) (a : Assumed) (o : Outputs) → readingOutcome (withOutputs m n a o) ≡ outputsNo o
 with-no m n a (trees ts) = refl
 with-no m n a (breaks r) = refl
 
-header-law : (bs : List ℕ) (x : Outcome) (t u v w y z : Bool)
-    → ((a : Assumed) → readingOutcome (withHeader bs (Fields (inputsOf bs) (outputsOf bs) a)) ≡ x)
-    → readingOutcome
+header-law : (bs : List ℕ) (cs : List Check) (t u v w y z : Bool)
+    → ((a : Assumed) → Decided cs (readingOutcome (withHeader bs (Fields (inputsOf bs) (outputsOf bs) a))))
+    → Decided (test Short t ∷ (test Mark (not u) ∷ (test Version (not v) ∷ (test Counts (not w) ∷ (test Assumption (not (y || z)) ∷ cs)))))
+    (readingOutcome
     (withHeader bs
     (cond t (header.Refused Short)
     (cond u
@@ -220,49 +221,19 @@ header-law : (bs : List ℕ) (x : Outcome) (t u v w y z : Bool)
     (fieldsOf (inputsOf bs) (outputsOf bs) (cond y (assumed.Is Nothing) (cond z (assumed.Is (Output (record { 0 = getD bs 7 0 }))) (assumed.Refused Assumption))))
     (header.Refused Counts))
     (header.Refused Version))
-    (header.Refused Mark))))
-    ≡ cond t (Refused Short) (cond (not u) (Refused Mark) (cond (not v) (Refused Version) (cond (not w) (Refused Counts) (cond (not (y || z)) (Refused Assumption) x))))
-header-law bs x true u v w y z f = refl
-header-law bs x false false v w y z f = refl
-header-law bs x false true false w y z f = refl
-header-law bs x false true true false y z f = refl
-header-law bs x false true true true true z f = f Nothing
-header-law bs x false true true true false true f = f (Output (record { 0 = getD bs 7 0 }))
-header-law bs x false true true true false false f = refl
-
-first-broken : (bs : List ℕ) → readingOutcome (readSheet bs) ≡ firstBroken bs (checksOf bs)
-unfolding readSheet headerOf assumedAt firstBroken checksOf broken? placeOf
-first-broken bs =
-    header-law bs (firstBroken bs (outputChecks bs 0 (outputsOf bs) ++ (leftover ∷ [])))
-    (ltb (length bs) 8) (markOk bs) (eqb (versionOf bs) 1) (countsOk (inputsOf bs) (outputsOf bs)) (eqb (getD bs 7 0) 255) (ltb (getD bs 7 0) (outputsOf bs))
-    (λ a. with-no (inputsOf bs) (outputsOf bs) a (readOutputs (inputsOf bs + outputsOf bs) (outputsOf bs) (drop 8 bs)) ∙ sym (outputs-law bs (outputsOf bs) 0 (omega arith)))
-
--- the same, said of the list of checks
-
-decided : (bs : List ℕ) (cs : List Check) → Decided (Broken bs) rule cs (firstBroken bs cs)
-unfolding firstBroken
-decided bs [] = λ c m e. List·Memᴰ·not-nil m
-decided bs (c ∷ cs) = go (broken? bs c) refl (firstBroken bs cs) (decided bs cs)
-  where
-    no : broken? bs c ≡ false → Broken bs c → ⊥
-    no f b = false≢true (sym f ∙ b)
-
-    go : (t : Bool) → broken? bs c ≡ t → (o : Outcome) → Decided (Broken bs) rule cs o → Decided (Broken bs) rule (c ∷ cs) (cond t (Refused (rule c)) o)
-    go true q o r = (c, record { before = []; others = cs; split = refl; hold = λ d m. absurd (List·Memᴰ·not-nil m); breaks = q }, refl)
-    go false q Accepted r = λ d m b. ⊎-elim (λ e. no q (subst (Broken bs) e b)) (λ n. r d n b) (List·Memᴰ·cases-cons m)
-    go false q (Refused x) r =
-        let f = r .1 in (
-          r .0,
-          record {
-            before = c ∷ f .before;
-            others = f .others;
-            split = ap (λ (z : List Check). c ∷ z) (f .split);
-            hold = λ d m b. ⊎-elim (λ e. no q (subst (Broken bs) e b)) (λ n. f .hold d n b) (List·Memᴰ·cases-cons m);
-            breaks = f .breaks;
-          },
-          r .2,
-        )
+    (header.Refused Mark)))))
+header-law bs cs true u v w y z f = inl (refl, refl)
+header-law bs cs false false v w y z f = inr (false≢true, inl (refl, refl))
+header-law bs cs false true false w y z f = inr (false≢true, inr (false≢true, inl (refl, refl)))
+header-law bs cs false true true false y z f = inr (false≢true, inr (false≢true, inr (false≢true, inl (refl, refl))))
+header-law bs cs false true true true true z f = inr (false≢true, inr (false≢true, inr (false≢true, inr (false≢true, inr (false≢true, f Nothing)))))
+header-law bs cs false true true true false true f = inr (false≢true, inr (false≢true, inr (false≢true, inr (false≢true, inr (false≢true, f (Output (record { 0 = getD bs 7 0 })))))))
+header-law bs cs false true true true false false f = inr (false≢true, inr (false≢true, inr (false≢true, inr (false≢true, inl (refl, refl)))))
 
 -- A sheet is refused by the first broken check in the order of the rules, and accepted where none is broken.
-pub reading-decided : (bs : List ℕ) → Decided (Broken bs) rule (checksOf bs) (readingOutcome (readSheet bs))
-reading-decided bs = rw (first-broken bs) (decided bs (checksOf bs))
+pub reading-decided : ReadingDecided
+unfolding readSheet headerOf assumedAt readingChecks placeOf
+reading-decided bs =
+    header-law bs (from bs 0 (outputsOf bs))
+    (ltb (length bs) 8) (markOk bs) (eqb (versionOf bs) 1) (countsOk (inputsOf bs) (outputsOf bs)) (eqb (getD bs 7 0) 255) (ltb (getD bs 7 0) (outputsOf bs))
+    (λ a. subst (Decided (from bs 0 (outputsOf bs))) (sym (with-no (inputsOf bs) (outputsOf bs) a (readOutputs (inputsOf bs + outputsOf bs) (outputsOf bs) (drop 8 bs)))) (outputs-law bs (outputsOf bs) 0 (omega arith)))

@@ -1,6 +1,5 @@
 -- Bytes are read as a tree exactly if they are the tree's writing, and its reads are of the sheet's streams.
 use mathlib.Core.Path.{_≡_, refl, sym, ap, _∙_, subst}
-use mathlib.Core.Logic.{_↔_}
 use mathlib.Core.Bool.{Bool, true, false, cond}
 use mathlib.Core.List.{List, [], _∷_, _++_, append-assoc, append-nil}
 use Prim.Native.Nat.{ℕ, _+_, _<_}
@@ -11,7 +10,7 @@ use borrow.Author.Tests.{lt-ltb, ltb-true}
 use Rattle.refusal.specs.declared.Refusal.the-variants.{Byte, Values}
 use Rattle.sheet.specs.Bytes.{opOf, readOf}
 use Rattle.sheet.specs.Expression.{Expr, constant, negation, conjunction, disjunction, read, stack, breaks, Parsed, tree, applyOp, final, go-on, parse}
-use Rattle.sheet.specs.Postfix.{readByte, written, DefaultFits, InSheet}
+use Rattle.sheet.specs.Postfix.{readByte, written, DefaultFits, InSheet, TreeExactly}
 use Rattle.sheet.specs.declared.StreamNo.{StreamNo}
 use Rattle.sheet.specs.declared.Offset.{Offset}
 use Rattle.sheet.specs.declared.Offset.the-variants.{Earlier, Now, Later}
@@ -139,7 +138,7 @@ was-written s t [] (x ∷ (y ∷ st)) all h = absurd (no-tree Values t h)
 was-written s t (b ∷ bs) st all h = one-byte s b bs t (opOf b) (op-means b) st all (λ st′ a k. was-written s t bs st′ a k) h
 
 -- An expression's bytes are read as the tree t exactly if they are its writing and its reads are of the sheet's streams.
-pub tree-exactly : (s : ℕ) (bs : List ℕ) (t : Expr) → (parse s [] bs ≡ tree t) ↔ ((bs ≡ written t) × InSheet s t)
+pub tree-exactly : TreeExactly
 unfolding AllIn parse final
 tree-exactly s bs t = (
   (λ h. was-written s t bs [] tt h),

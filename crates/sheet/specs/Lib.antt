@@ -6,3 +6,4 @@ pub mod Depth
 pub mod Reading
 pub mod Checks
 pub mod Postfix
+pub mod Decided

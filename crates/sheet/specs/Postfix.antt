@@ -1,12 +1,11 @@
--- How an expression is written in bytes, from the tree's side (01, "The sheet", the list of expression bytes). An expression's bytes are
--- read as a tree exactly if they are its writing and its reads are of the sheet's streams (the law `tree-exactly` of
--- proofs/Postfixes.antt).
+-- How an expression is written in bytes, from the tree's side (01, "The sheet", the list of expression bytes).
 -- Manual: "The sheet".
 use mathlib.Core.Path.{_≡_}
+use mathlib.Core.Logic.{_↔_}
 use mathlib.Core.Bool.{Bool, true, false}
 use mathlib.Core.List.{List, [], _∷_, _++_}
 use Prim.Native.Nat.{ℕ, _+_, _<_}
-use Rattle.sheet.specs.Expression.{Expr, constant, negation, conjunction, disjunction, read}
+use Rattle.sheet.specs.Expression.{Expr, constant, negation, conjunction, disjunction, read, tree, parse}
 use Rattle.sheet.specs.declared.Offset.{Offset}
 use Rattle.sheet.specs.declared.Offset.the-variants.{Earlier, Now, Later}
 
@@ -40,3 +39,7 @@ InSheet s (negation a) = InSheet s a
 InSheet s (conjunction a b) = InSheet s a × InSheet s b
 InSheet s (disjunction a b) = InSheet s a × InSheet s b
 InSheet s (read q o v) = (q < s) × (q < 8) × DefaultFits o v
+
+-- an expression's bytes are read as a tree exactly if they are its writing, and its reads are of the sheet's streams
+abbrev pub TreeExactly : Type 0
+TreeExactly = (s : ℕ) (bs : List ℕ) (t : Expr) → (parse s [] bs ≡ tree t) ↔ ((bs ≡ written t) × InSheet s t)

@@ -5,13 +5,20 @@ use mathlib.Core.List.{List, [], _∷_, append-nil}
 use Prim.Native.Nat.{ℕ, _+_, _≤_, _<_}
 use native.Mathlib.Omega.{arith}
 use native.Mathlib.Numerals.{add-one}
-use lib.Dec.{eqb, leb}
-use lib.ListN.{length, getD, set, take, drop, length-set, length-drop}
-use lib.Seq.{paste, paste-zero, paste-suc, getD-drop, ext-getD, take-all, drop-length}
-use borrow.Author.Tests.{not-false, eqb-true, leb-true, eq-eqb, le-leb}
+use lib.Dec.{eqb, leb, ltb}
+use lib.ListN.{length, getD, set, take, drop, length-set, length-drop, length-map, List·getD-map}
+use lib.Seq.{getD-take, paste, paste-zero, paste-suc, getD-drop, ext-getD, take-all, drop-length}
+use borrow.Author.Tests.{not-false, eqb-true, leb-true, leb-false, eq-eqb, le-leb, lt-ltb, le-ltb}
+use Rattle.refusal.specs.Numbers.{untold, toldAt, verdictNo, verdictList}
+use Rattle.refusal.specs.declared.Verdict.the-variants.{False}
+use Rattle.refusal.specs.declared.Told.{Told}
+use Rattle.refusal.proofs.NumberLaws.{told-size}
 use Rattle.words.proofs.Bools.{and-split}
 use Rattle.words.proofs.ListLaws.{set-more}
-use Rattle.slices.specs.Slices.{sized}
+use Rattle.record.specs.Record.{recordOk}
+use Rattle.record.proofs.Tallies.{too-many}
+use Rattle.slices.specs.Slices.{recordOf, marked, verdictNumbers, sized}
+use Rattle.slices.specs.Loaded.{loaded}
 
 -- the first k of xs stand in `new` from a place on
 pub record PutTo (k at : ℕ) (xs old new : List ℕ) : Type 0 where
@@ -26,6 +33,15 @@ put-more k at xs old new v h l e p = record {
   same-length = length-set new (at + k) v ∙ p .same-length;
   same = rw (e, p .same, add-one) (paste-suc old at xs k 0 h l);
 }
+
+-- the numbers of verdicts, one after the other
+pub numbers-size : (vs : List Told) (n : ℕ) → n ≤ length vs → length (verdictNumbers vs n) ≡ n
+numbers-size vs n h = length-map (verdictList vs n) verdictNo ∙ told-size vs n h
+
+pub numbers-at : (vs : List Told) (n k : ℕ) → k < n → getD (verdictNumbers vs n) k 0 ≡ verdictNo (toldAt vs k)
+numbers-at vs n k h =
+    List·getD-map verdictNo (verdictList vs n) k False
+    ∙ ap verdictNo (List·getD-map (λ t. t .verdict) (take n vs) k untold ∙ ap (λ (t : Told). t .verdict) (getD-take n vs k untold h))
 
 -- the first k counts are those of the slice
 pub record TakenTo (k : ℕ) (ns counts : List ℕ) : Type 0 where
@@ -61,6 +77,16 @@ stored-numbers a b ns counts new e f p =
 pub set-first : (ns : List ℕ) (v : ℕ) → 1 ≤ length ns → set ns 0 v ≡ paste ns 0 (v ∷ []) 1
 set-first [] v h = absurd (omega arith)
 set-first (x ∷ ns) v h = refl
+
+-- ---- the mark for closed
+
+pub loaded-right : (ns : List ℕ) → marked ns ≡ true → loaded ns ≡ recordOf ns
+loaded-right ns e = let f : ltb 1 (getD ns 1 0) ≡ false = le-ltb 1 (getD ns 1 0) (leb-true (getD ns 1 0) 1 e) in rw f
+
+pub loaded-wrong : (n : ℕ) (ns : List ℕ) → marked ns ≡ false → recordOk n (loaded ns) ≡ false
+loaded-wrong n ns e =
+    let f : ltb 1 (getD ns 1 0) ≡ true = lt-ltb 1 (getD ns 1 0) (leb-false (getD ns 1 0) 1 e) in
+    too-many n (loaded ns) (rw f (omega arith))
 
 -- ---- sizes
 

@@ -1,13 +1,16 @@
 // The journal record and the answers as slices of 32-bit numbers.
 ghost use mathlib.Core.Path.{_≡_};
 ghost use Prim.Native.Nat.{_+_, _≤_};
-ghost use mathlib.Core.Bool.{cond, _&&_};
-ghost use lib.Dec.{eqb, ltb, leb};
+ghost use mathlib.Core.Bool.{_&&_};
+ghost use lib.Dec.{eqb, leb};
 ghost use lib.ListN.{length};
 ghost use Rattle.words.specs.Below.{one};
 ghost use lib.Seq.{paste};
-ghost use Rattle.slices.specs.Slices.{recordOf, numbersOf};
+ghost use Rattle.slices.specs.Slices.{numbersOf, verdictNumbers};
+ghost use Rattle.slices.specs.Loaded.{roundsBy, loaded};
 use record::JournalRecord;
+use refusal::Told;
+use refusal::verdict_number;
 
 // The record has 30 numbers, and the answer room for 16.
 pub fn sized(journal: usize, answer: usize) -> bool
@@ -19,20 +22,16 @@ pub fn sized(journal: usize, answer: usize) -> bool
     16 <= answer
 }
 
-fn wide(x: u8) -> u32
-    ensures { λ r. ⌜ r ≡ x ⌝ }
-{
-    x as u32
-}
-
-// The first n bytes, as numbers from a place on.
-pub fn put_bytes(into: &mut [u32], at: usize, xs: &[u8], n: usize)
-    requires { ⌜ (n ≤ length (now xs)) × (at + n ≤ length (now into)) ⌝ }
-    ensures { λ r. ⌜ now (into .exit) ≡ paste (now (into .entry)) at (now (xs .entry)) n ⌝ }
+// The numbers of the first n verdicts, from a place on.
+pub fn put_verdicts(into: &mut [u32], at: usize, verdicts: [Told; 7], n: usize)
+    requires { ⌜ (n ≤ 7) × (at + n ≤ length (now into)) ⌝ }
+    ensures { λ r. ⌜ now (into .exit) ≡ paste (now (into .entry)) at (verdictNumbers verdicts n) n ⌝ }
 {
     let mut i: usize = 0;
     while i < n {
-        into[at + i] = wide(xs[i]);
+        let told = verdicts[i];
+        let verdict = told.verdict;
+        into[at + i] = verdict_number(verdict);
         i += 1;
     }
 }
@@ -51,7 +50,7 @@ pub fn put_numbers(into: &mut [u32], at: usize, xs: &[u32], n: usize)
 
 // A mark other than 0 and 1 makes the rounds too many.
 fn rounds_by(mark: u32, rounds: u32) -> u32
-    ensures { λ r. ⌜ r ≡ cond (ltb 1 mark) 1000001 rounds ⌝ }
+    ensures { λ r. ⌜ r ≡ roundsBy mark rounds ⌝ }
 {
     if 1 < mark {
         return JournalRecord::MAX_ROUNDS + 1;
@@ -68,10 +67,10 @@ fn mark_of(closed: bool) -> u32
     0
 }
 
-// The record that 30 numbers hold.
+// The record that 30 numbers hold; a wrong mark makes it one that rule 18 refuses.
 pub fn load(ns: &[u32]) -> JournalRecord
     requires { ⌜ length (now ns) ≡ 30 ⌝ }
-    ensures { λ r. ⌜ r ≡ recordOf (now (ns .entry)) ⌝ }
+    ensures { λ r. ⌜ r ≡ loaded (now (ns .entry)) ⌝ }
 {
     let mut counts = [0u32; 28];
     let mut i: usize = 0;

@@ -6,66 +6,71 @@ use put::bytes;
 use put::decimal;
 use put::spaced;
 use refusal::Refusal;
+use refusal::Told;
+use refusal::Verdict;
 use refusal::refusal_number;
+use sheet::OutputNo;
 ghost use mathlib.Core.Path.{_≡_};
 ghost use mathlib.Core.List.{_∷_, _++_};
 ghost use Prim.Native.Nat.{_+_, _*_, _<_, _≤_};
 ghost use lib.ListN.{length};
-ghost use Rattle.refusal.specs.Numbers.{verdictAt, verdictList, refusalNo};
+ghost use Rattle.refusal.specs.Numbers.{verdictList, refusalNo};
 ghost use Rattle.record.specs.Record.{countAt};
 ghost use Rattle.text.specs.Text.{decimal, verdictChar, verdictLine, spaced, tallyLine, tallyLines, closingText, refusedWord, lineRefusal, sheetRefusal};
 ghost use Rattle.text.specs.Wrote.{Wrote};
 
-// The character of the verdict with the number v.
-fn verdict_char(v: u8) -> u8
-    ensures { λ r. ⌜ r ≡ verdictChar (verdictAt v) ⌝ }
+fn verdict_char(v: Verdict) -> u8
+    ensures { λ r. ⌜ r ≡ verdictChar v ⌝ }
 {
     match v {
-        0 => b'0',
-        1 => b'1',
-        2 => b'?',
-        _ => b'!',
+        Verdict::False => b'0',
+        Verdict::True => b'1',
+        Verdict::Open => b'?',
+        Verdict::Broken => b'!',
     }
 }
 
 // The first n verdicts, and a line feed.
-pub fn verdict_line(out: &mut [u8], at: usize, verdicts: &[u8], n: usize) -> usize
-    requires { ⌜ (n ≤ length (now verdicts)) × (at + n + 1 ≤ length (now out)) ⌝ }
-    ensures { λ r. ⌜ Wrote (now (out .entry)) at (verdictLine (verdictList (now (verdicts .entry)) 0 n)) (now (out .exit)) r ⌝ }
+pub fn verdict_line(out: &mut [u8], at: usize, verdicts: [Told; 7], n: usize) -> usize
+    requires { ⌜ (n ≤ 7) × (at + n + 1 ≤ length (now out)) ⌝ }
+    ensures { λ r. ⌜ Wrote (now (out .entry)) at (verdictLine (verdictList verdicts n)) (now (out .exit)) r ⌝ }
     ensures { λ r. ⌜ r ≡ at + n + 1 ⌝ }
 {
     let mut to = at;
     let mut i = 0;
     while i < n {
-        to = byte(out, to, verdict_char(verdicts[i]));
+        let told = verdicts[i];
+        let verdict = told.verdict;
+        to = byte(out, to, verdict_char(verdict));
         i += 1;
     }
     byte(out, to, b'\n')
 }
 
 // `#`, a space and the number of output k, a digit.
-fn output_number(out: &mut [u8], at: usize, k: usize) -> usize
-    requires { ⌜ (k < 7) × (at + 12 ≤ length (now out)) ⌝ }
-    ensures { λ r. ⌜ Wrote (now (out .entry)) at (35 ∷ spaced k) (now (out .exit)) r ⌝ }
+fn output_number(out: &mut [u8], at: usize, k: OutputNo) -> usize
+    requires { ⌜ (k .0 < 7) × (at + 12 ≤ length (now out)) ⌝ }
+    ensures { λ r. ⌜ Wrote (now (out .entry)) at (35 ∷ spaced (k .0)) (now (out .exit)) r ⌝ }
     ensures { λ r. ⌜ r ≡ at + 3 ⌝ }
 {
     let to = byte(out, at, b'#');
-    spaced(out, to, k as u32)
+    spaced(out, to, k.0 as u32)
 }
 
 // The tally line of output k: at most 3 + 5 * 11 + 1 bytes.
-fn tally_line(out: &mut [u8], at: usize, counts: &[u32], shares: &[u32], k: usize) -> usize
-    requires { ⌜ (k < 7) × (length (now counts) ≡ 28) × (length (now shares) ≡ 7) × (at + 59 ≤ length (now out)) ⌝ }
-    ensures { λ r. ⌜ Wrote (now (out .entry)) at (tallyLine (countAt (now (counts .entry))) (now (shares .entry)) k) (now (out .exit)) r ⌝ }
+fn tally_line(out: &mut [u8], at: usize, counts: &[u32], shares: &[u32], k: OutputNo) -> usize
+    requires { ⌜ (k .0 < 7) × (length (now counts) ≡ 28) × (length (now shares) ≡ 7) × (at + 59 ≤ length (now out)) ⌝ }
+    ensures { λ r. ⌜ Wrote (now (out .entry)) at (tallyLine (countAt (now (counts .entry))) (now (shares .entry)) (k .0)) (now (out .exit)) r ⌝ }
     ensures { λ r. ⌜ r ≤ at + 59 ⌝ }
 {
-    let first = 4 * k;
+    let place = k.0 as usize;
+    let first = 4 * place;
     let output = output_number(out, at, k);
     let trues = spaced(out, output, counts[first]);
     let falses = spaced(out, trues, counts[first + 1]);
     let opens = spaced(out, falses, counts[first + 2]);
     let brokens = spaced(out, opens, counts[first + 3]);
-    let share = spaced(out, brokens, shares[k]);
+    let share = spaced(out, brokens, shares[place]);
     byte(out, share, b'\n')
 }
 
@@ -76,9 +81,9 @@ fn tally_lines(out: &mut [u8], at: usize, counts: &[u32], shares: &[u32], n: usi
     ensures { λ r. ⌜ r ≤ at + 59 * n ⌝ }
 {
     let mut to = at;
-    let mut k = 0;
+    let mut k: usize = 0;
     while k < n {
-        to = tally_line(out, to, counts, shares, k);
+        to = tally_line(out, to, counts, shares, OutputNo(k as u8));
         k += 1;
     }
     to
@@ -88,13 +93,13 @@ fn tally_lines(out: &mut [u8], at: usize, counts: &[u32], shares: &[u32], n: usi
 pub fn closing(
     out: &mut [u8],
     at: usize,
-    verdicts: &[u8],
+    verdicts: [Told; 7],
     counts: &[u32],
     shares: &[u32],
     n: usize,
 ) -> usize
-    requires { ⌜ (n ≤ 7) × (length (now verdicts) ≡ 7) × (length (now counts) ≡ 28) × (length (now shares) ≡ 7) × (at + 422 ≤ length (now out)) ⌝ }
-    ensures { λ r. ⌜ Wrote (now (out .entry)) at (closingText n (verdictList (now (verdicts .entry)) 0 n) (countAt (now (counts .entry))) (now (shares .entry))) (now (out .exit)) r ⌝ }
+    requires { ⌜ (n ≤ 7) × (length (now counts) ≡ 28) × (length (now shares) ≡ 7) × (at + 422 ≤ length (now out)) ⌝ }
+    ensures { λ r. ⌜ Wrote (now (out .entry)) at (closingText n (verdictList verdicts n) (countAt (now (counts .entry))) (now (shares .entry))) (now (out .exit)) r ⌝ }
     ensures { λ r. ⌜ r ≤ at + 422 ⌝ }
 {
     let start = byte(out, at, b'=');

@@ -11,10 +11,11 @@ use Rattle.words.specs.Bits.{bit}
 use Rattle.circular.specs.Places.{Assignment, Place, Reads, Solves, RightAt, Right}
 use Rattle.circular.proofs.Sweep.{fresh-right}
 use Rattle.trace.specs.Passes.{valuesOf, RoundBytes, BitPut, SameShape, Renewed, Passed}
+use Rattle.trace.specs.declared.place.Counts.{Counts}
 
 -- ---- buffers that are kept
 
-pub bytes-kept : {m n : ℕ} {letters old new : List ℕ} → SameShape n old new → RoundBytes m n letters old → RoundBytes m n letters new
+pub bytes-kept : {counts : Counts} {letters old new : List ℕ} → SameShape (counts .outputs) old new → RoundBytes counts letters old → RoundBytes counts letters new
 bytes-kept p x =
     record {
       streams = x .streams;

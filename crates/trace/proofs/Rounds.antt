@@ -21,7 +21,8 @@ use Rattle.lola.specs.Value.{value}
 use Rattle.lola.specs.Slots.{readNo, slots}
 use Rattle.lola.proofs.ValueLaws.{value-of-bytes}
 use Rattle.circular.specs.Places.{joint, lookAt, right}
-use Rattle.trace.specs.Passes.{valuesOf, seen, treeIn, sides, Setting, RoundBytes, SeenRound, Environment}
+use Rattle.trace.specs.Passes.{valuesOf, seen, streamsOf, treeIn, sides, Setting, RoundBytes, SeenRound, Environment}
+use Rattle.trace.specs.declared.place.Counts.{Counts}
 
 -- the bits of a round's valuation
 stream-of-round : (m : ℕ) (letters buf : List ℕ) (at q : ℕ) → 2 ≤ at → getD letters (at - 2) 0 < 2 ^ m
@@ -45,36 +46,35 @@ module _ (letters : List ℕ) (at : ℕ) where
   inside : 2 ≤ at → at ≤ length letters + 1 → (leb 2 at && leb at (suc (length letters))) ≡ true
   inside h g = simp (le-leb 2 at h, le-leb at (suc (length letters)) (omega arith))
 
-module _ (m : ℕ) (letters buf : List ℕ) (at : ℕ) where
-  -- no such round
-  pub beside-none : (leb 2 at && leb at (suc (length letters))) ≡ false → SeenRound m letters buf at 0xff00
+-- no such round
+pub beside-none : (m : ℕ) (letters buf : List ℕ) (at : ℕ) → (leb 2 at && leb at (suc (length letters))) ≡ false → SeenRound m letters buf at 0xff00
+unfolding seen
+beside-none m letters buf at e =
+    record {
+      small = omega arith;
+      low = λ q h. rw e (bit-low 8 q 0 255 h (omega arith) ∙ bit-none q);
+      high = λ q h. rw e (bit-above 8 q 0 255 (omega arith) ∙ bit-all 8 q h);
+    }
+
+-- the round's valuation
+module _ (counts : Counts) (letters buf : List ℕ) (at : ℕ) (filled : RoundBytes counts letters buf) (lo : 2 ≤ at) (hi : at ≤ length letters + 1) (v : ℕ)
+    (e : v ≡ getD letters (at - 2) 0 + 2 ^ counts .inputs * getD buf (at - 2) 0) where
+  below : getD letters (at - 2) 0 < 2 ^ counts .inputs
+  below = filled .letters-below (at - 2) (omega arith)
+
+  pub valuation-small : v < 256
+  valuation-small =
+      let g : 2 ^ streamsOf counts ≤ 2 ^ 8 = pow-mono {i = streamsOf counts} {j = 8} (filled .streams) in
+      omega (arith, join-lt (counts .inputs) (counts .outputs) (getD letters (at - 2) 0) (getD buf (at - 2) 0) below (filled .bytes-below (at - 2) (omega (arith, filled .same))))
+
+  pub beside-some : SeenRound (counts .inputs) letters buf at (v + 256 * v)
   unfolding seen
-  beside-none e =
+  beside-some =
       record {
-        small = omega arith;
-        low = λ q h. rw e (bit-low 8 q 0 255 h (omega arith) ∙ bit-none q);
-        high = λ q h. rw e (bit-above 8 q 0 255 (omega arith) ∙ bit-all 8 q h);
+        small = omega (arith, valuation-small);
+        low = λ q k. rw (inside letters at lo hi) (bit-low 8 q v v k valuation-small ∙ ap (bit q) e ∙ stream-of-round (counts .inputs) letters buf at q lo below);
+        high = λ q k. rw (inside letters at lo hi) (bit-above 8 q v v valuation-small ∙ ap (bit q) e ∙ stream-of-round (counts .inputs) letters buf at q lo below);
       }
-
-  -- the round's valuation
-  module _ (n : ℕ) (filled : RoundBytes m n letters buf) (lo : 2 ≤ at) (hi : at ≤ length letters + 1) (v : ℕ)
-      (e : v ≡ getD letters (at - 2) 0 + 2 ^ m * getD buf (at - 2) 0) where
-    below : getD letters (at - 2) 0 < 2 ^ m
-    below = filled .letters-below (at - 2) (omega arith)
-
-    pub valuation-small : v < 256
-    valuation-small =
-        let g : 2 ^ (m + n) ≤ 2 ^ 8 = pow-mono {i = m + n} {j = 8} (filled .streams) in
-        omega (arith, join-lt m n (getD letters (at - 2) 0) (getD buf (at - 2) 0) below (filled .bytes-below (at - 2) (omega (arith, filled .same))))
-
-    pub beside-some : SeenRound m letters buf at (v + 256 * v)
-    unfolding seen
-    beside-some =
-        record {
-          small = omega (arith, valuation-small);
-          low = λ q k. rw (inside letters at lo hi) (bit-low 8 q v v k valuation-small ∙ ap (bit q) e ∙ stream-of-round m letters buf at q lo below);
-          high = λ q k. rw (inside letters at lo hi) (bit-above 8 q v v valuation-small ∙ ap (bit q) e ∙ stream-of-round m letters buf at q lo below);
-        }
 
 -- the three rounds in their order
 module _ (c e l : ℕ) (cl : c < 2 ^ 16) (el : e < 2 ^ 16) where
@@ -134,14 +134,14 @@ part-code code len s = ap (λ (k : ℕ). take k (drop (64 * s) code)) (add-sub-c
 pub part-short : (code len : List ℕ) (s : ℕ) → getD len s 0 ≤ 64 → length (take (64 * s + getD len s 0 - 64 * s) (drop (64 * s) code)) ≤ 64
 part-short code len s h = rw part-code (omega (arith, length-take (getD len s 0) (drop (64 * s) code)))
 
-pub place-value : (m n : ℕ) (code len letters buf : List ℕ) (s t env : ℕ) (v : Bool) → Setting m n code len → s < n → Environment m letters buf t env
+pub place-value : (counts : Counts) (code len letters buf : List ℕ) (s t env : ℕ) (v : Bool) → Setting counts code len → s < counts .outputs → Environment (counts .inputs) letters buf t env
     → ((w : ℕ) (x : Expr) → parse w [] (take (64 * s + getD len s 0 - 64 * s) (drop (64 * s) code)) ≡ tree x → v ≡ value (slots env) x)
-    → v ≡ sides m n code len letters (valuesOf buf) s t
+    → v ≡ sides counts code len letters (valuesOf buf) s t
 unfolding sides right
-place-value m n code len letters buf s t env v x h e f =
+place-value counts code len letters buf s t env v x h e f =
     let p = x .parses s h in
-    f (m + n) (treeIn (m + n) code len s) (ap (parse (m + n) []) (part-code code len s) ∙ p)
-    ∙ value-of-bytes (slots env) (lookAt m (length letters) (valuesOf letters) (valuesOf buf) t) (e .reads) (m + n) (codeAt code len s) (treeIn (m + n) code len s) p
+    f (streamsOf counts) (treeIn (streamsOf counts) code len s) (ap (parse (streamsOf counts) []) (part-code code len s) ∙ p)
+    ∙ value-of-bytes (slots env) (lookAt (counts .inputs) (length letters) (valuesOf letters) (valuesOf buf) t) (e .reads) (streamsOf counts) (codeAt code len s) (treeIn (streamsOf counts) code len s) p
 
 -- ---- letters
 

@@ -27,8 +27,12 @@ use Rattle.circular.proofs.Sides.{rightOf, right-reads}
 use Rattle.circular.proofs.Lists.{inputsBy, outputsBy, joined-trace}
 use Rattle.trace.specs.Evaluated.{OutputsWritten, Evaluated}
 use Rattle.trace.specs.Passes.{valuesOf, sides, Setting, RoundBytes, Solved, Ready, Left}
+use Rattle.trace.specs.declared.place.Counts.{Counts}
 
-pub setting-of : (x : Sheet) → Usable x → Setting (x .inputs) (x .outputs) (x .code) (x .len)
+abbrev countsOf : Sheet → Counts
+countsOf x = record { inputs = x .inputs; outputs = x .outputs }
+
+pub setting-of : (x : Sheet) → Usable x → Setting (countsOf x) (x .code) (x .len)
 setting-of x u =
     record {
       outputs = u .ranges .outputs;
@@ -47,7 +51,7 @@ module _ (x : Sheet) (u : Usable x) (letters : List ℕ) where
   n = x .outputs
 
   abbrev f : Assignment → Assignment
-  f = sides (x .inputs) (x .outputs) (x .code) (x .len) letters
+  f = sides (countsOf x) (x .code) (x .len) letters
 
   abbrev g : Assignment → Assignment
   g = rightOf (ruleSheet x) (length letters) (inputsBy letters)
@@ -93,7 +97,7 @@ module _ (x : Sheet) (u : Usable x) (letters : List ℕ) where
   pub told-reads : (masks : List ℕ) → Tells (ruleSheet x) masks → Reads n (readsOf masks) (length letters) f
   told-reads masks tells = record { only = λ v w s t pl a. side-reads .only v w s t pl (λ q z r. a q z (told tells r)) }
 
-  pub not-circular : (CircularSheet (ruleSheet x) → ⊥) → Circular n (edges (ruleSheet x)) → ⊥
+  not-circular : (CircularSheet (ruleSheet x) → ⊥) → Circular n (edges (ruleSheet x)) → ⊥
   not-circular h c = h (subst (λ (k : ℕ). Circular k (edges (ruleSheet x))) (sym count) c)
 
   bytes-as : (os : List ℕ) → valuesOf os ≡ outputsBy 0 os
@@ -139,7 +143,7 @@ module _ (N : ℕ) (out c : List ℕ) (h : N ≤ length out) (e : length c ≡ l
 
 module _ (x : Sheet) (u : Usable x) (letters out c : List ℕ) (ready : Ready (x .inputs) letters (length out))
     (e : length c ≡ length (take (length letters) out)) (zeros : (i : ℕ) → i < length c → getD c i 0 ≡ 0) where
-  pub bytes-start : RoundBytes (x .inputs) (x .outputs) letters (take (length letters) (c ++ drop (length letters) out))
+  pub bytes-start : RoundBytes (countsOf x) letters (take (length letters) (c ++ drop (length letters) out))
   bytes-start =
       record {
         streams = u .ranges .streams;
@@ -150,7 +154,7 @@ module _ (x : Sheet) (u : Usable x) (letters out c : List ℕ) (ready : Ready (x
       }
 
   module _ (level : CircularSheet (ruleSheet x) → ⊥) (a : List ℕ)
-      (solved : Solved (x .outputs) (length letters) (sides (x .inputs) (x .outputs) (x .code) (x .len) letters) (take (length letters) (c ++ drop (length letters) out)) a) where
+      (solved : Solved (x .outputs) (length letters) (sides (countsOf x) (x .code) (x .len) letters) (take (length letters) (c ++ drop (length letters) out)) a) where
     whole : length a ≡ length letters
     whole = solved .kept .same-length ∙ bytes-start .same
 

@@ -5,10 +5,13 @@ use mathlib.Core.List.{List}
 use mathlib.Core.Option.{none}
 use Prim.Native.Nat.{ℕ, _^_, _<_}
 use lib.ListN.{length, getD, take, drop}
+use Rattle.refusal.specs.Decided.{Decided}
 use Rattle.refusal.specs.declared.Outcome.{Outcome}
 use Rattle.refusal.specs.declared.Outcome.the-variants.{Accepted, Refused}
-use Rattle.sheet.specs.RuleSheet.{RuleSheet, outputs, accepted, readSheet}
+use Rattle.sheet.specs.RuleSheet.{RuleSheet, outputs}
 use Rattle.lola.specs.Equations.{Satisfies, joined}
+use Rattle.circular.specs.Checks.{OfSheet}
+use Rattle.trace.specs.Checks.{evaluationChecks}
 
 -- For each of the N letters the byte whose bit k is output k: no bit beyond the outputs is set, and the valuations that letters and
 -- bytes make satisfy all equations, nothing before the first and nothing after the last. Bytes after the first N keep their contents.
@@ -20,5 +23,10 @@ pub record OutputsWritten (x : RuleSheet) (letters old new : List ℕ) : Type 0 
 
 -- accepted: the bytes by the sheet that was read; a refusal leaves the buffer that was handed in
 abbrev pub Evaluated : List ℕ → List ℕ → List ℕ → List ℕ → Outcome → Type 0
-Evaluated bs letters old new Accepted = (x : RuleSheet) × (readSheet bs ≡ accepted x) × OutputsWritten x letters old new
+Evaluated bs letters old new Accepted = OfSheet bs (λ x. OutputsWritten x letters old new)
 Evaluated bs letters old new (Refused r) = new ≡ old
+
+-- what a call of evaluation means: its outcome, and the buffer before and after it
+pub record EvaluateCall (bs letters old new : List ℕ) (o : Outcome) : Type 0 where
+  pub decided : Decided (evaluationChecks bs letters (length old)) o
+  pub result : Evaluated bs letters old new o

@@ -18,34 +18,38 @@ use Rattle.circular.specs.Circular.{Circular}
 use Rattle.circular.specs.Places.{Assignment, joint, lookAt, right, Place, Reads, Solves, RightAt, Right}
 use Rattle.trace.specs.Evaluated.{OutputsWritten}
 use Rattle.trace.specs.Order.{Steady}
+use Rattle.trace.specs.declared.place.Counts.{Counts}
 
 -- bit s of the byte of round t
 unfoldable pub valuesOf : List ℕ → Assignment
 valuesOf l s t = bit s (getD l (t - 1) 0)
+
+abbrev pub streamsOf : Counts → ℕ
+streamsOf counts = counts .inputs + counts .outputs
 
 -- the expression of output k, in a sheet of s streams
 abbrev pub treeIn : ℕ → List ℕ → List ℕ → ℕ → Expr
 treeIn s code len k = treeOf (parse s [] (codeAt code len k))
 
 -- the right sides of the equations over the letters
-unfoldable pub sides : ℕ → ℕ → List ℕ → List ℕ → List ℕ → Assignment → Assignment
-sides m n code len letters = right m (treeIn (m + n) code len) (length letters) (valuesOf letters)
+unfoldable pub sides : Counts → List ℕ → List ℕ → List ℕ → Assignment → Assignment
+sides counts code len letters = right (counts .inputs) (treeIn (streamsOf counts) code len) (length letters) (valuesOf letters)
 
--- a sheet of m inputs and n outputs that was read
-pub record Setting (m n : ℕ) (code len : List ℕ) : Type 0 where
-  pub outputs : n ≤ 7
+-- a sheet of so many inputs and outputs that was read
+pub record Setting (counts : Counts) (code len : List ℕ) : Type 0 where
+  pub outputs : counts .outputs ≤ 7
   pub room : length code ≡ 448
   pub sizes : length len ≡ 7
-  pub small : (k : ℕ) → k < n → getD len k 0 ≤ 64
-  pub parses : (k : ℕ) → k < n → parse (m + n) [] (codeAt code len k) ≡ tree (treeIn (m + n) code len k)
+  pub small : (k : ℕ) → k < counts .outputs → getD len k 0 ≤ 64
+  pub parses : (k : ℕ) → k < counts .outputs → parse (streamsOf counts) [] (codeAt code len k) ≡ tree (treeIn (streamsOf counts) code len k)
 
--- a letter of m bits and a byte of n bits for each round
-pub record RoundBytes (m n : ℕ) (letters buf : List ℕ) : Type 0 where
-  pub streams : m + n ≤ 8
+-- a letter of the inputs and a byte of the outputs for each round
+pub record RoundBytes (counts : Counts) (letters buf : List ℕ) : Type 0 where
+  pub streams : streamsOf counts ≤ 8
   pub rounds : length letters ≤ 4096
   pub same : length buf ≡ length letters
-  pub letters-below : (i : ℕ) → i < length letters → getD letters i 0 < 2 ^ m
-  pub bytes-below : (i : ℕ) → i < length buf → getD buf i 0 < 2 ^ n
+  pub letters-below : (i : ℕ) → i < length letters → getD letters i 0 < 2 ^ counts .inputs
+  pub bytes-below : (i : ℕ) → i < length buf → getD buf i 0 < 2 ^ counts .outputs
 
 -- the stream q in the round u, where u + 1 = at, or d where there is no such round
 unfoldable pub seen : ℕ → List ℕ → List ℕ → ℕ → ℕ → Bool → Bool
@@ -97,8 +101,8 @@ pub record Passed (n N : ℕ) (f : Assignment → Assignment) (P : ℕ → ℕ �
   pub quiet : changed ≡ false → (s t : ℕ) → Place n N s t → P s t → valuesOf old s t ≡ f (valuesOf old) s t
 
 -- the same for the equations of a sheet over the letters
-abbrev pub Refreshed : ℕ → ℕ → List ℕ → List ℕ → List ℕ → (ℕ → ℕ → Type 0) → List ℕ → List ℕ → Bool → Type 0
-Refreshed m n code len letters P old new changed = Passed n (length letters) (sides m n code len letters) P old new changed
+abbrev pub Refreshed : Counts → List ℕ → List ℕ → List ℕ → (ℕ → ℕ → Type 0) → List ℕ → List ℕ → Bool → Type 0
+Refreshed counts code len letters P old new changed = Passed (counts .outputs) (length letters) (sides counts code len letters) P old new changed
 
 -- the values at the places of P are those of a solution
 abbrev pub RightOn : ℕ → ℕ → Assignment → (ℕ → ℕ → Type 0) → Assignment → Type 0

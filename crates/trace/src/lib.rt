@@ -1,14 +1,14 @@
 // Whole-trace evaluation: the bytes of the outputs, round by round, are refreshed in place until they satisfy all equations.
 ghost use mathlib.Core.Path.{_≡_};
-ghost use mathlib.Core.List.{List, _∷_};
 ghost use Prim.Native.Nat.{ℕ, _<_, _≤_};
 ghost use lib.ListN.{length, getD};
 ghost use Rattle.refusal.specs.Decided.{Decided};
 ghost use Rattle.sheet.specs.Reading.{ruleSheet, Usable, whenAccepted};
 ghost use Rattle.circular.specs.Circular.{CircularSheet};
-ghost use Rattle.trace.specs.Checks.{rule, Broken, extent, letterChecks, checksOf};
-ghost use Rattle.trace.specs.Evaluated.{OutputsWritten, Evaluated};
+ghost use Rattle.trace.specs.Checks.{runChecks};
+ghost use Rattle.trace.specs.Evaluated.{OutputsWritten, EvaluateCall};
 ghost use Rattle.trace.specs.Passes.{FirstBad, Ready, Left};
+use place::Counts;
 use refusal::Outcome;
 use refusal::Refusal;
 use sheet::Sheet;
@@ -47,7 +47,7 @@ fn first_bad(letters: &[u8], m: usize) -> usize
 // Rules 16 and 11, for m inputs and a buffer of `room` bytes.
 fn check_run(m: usize, letters: &[u8], room: usize) -> Outcome
     requires { ⌜ m ≤ 6 ⌝ }
-    ensures decided { λ r. ⌜ ((bs : List ℕ) → getD bs 5 0 ≡ m → Decided (Broken bs (now (letters .entry)) room) rule (extent ∷ letterChecks 0 (length (now (letters .entry)))) r) ⌝ }
+    ensures decided { λ r. ⌜ Decided (runChecks m (now (letters .entry)) room) r ⌝ }
     ensures ready { λ r. ⌜ whenAccepted r (Ready m (now (letters .entry)) room) ⌝ }
 {
     let rounds = letters.len();
@@ -73,17 +73,18 @@ fn fill(x: Sheet, letters: &[u8], out: &mut [u8])
 {
     let code = x.code;
     let len = x.len;
-    let m = x.inputs as usize;
-    let n = x.outputs as usize;
+    let inputs = x.inputs as usize;
+    let outputs = x.outputs as usize;
+    let counts = Counts { inputs, outputs };
     let masks = circular::reads::sheet_masks(x);
     let rounds = letters.len();
     clear(&mut out[..rounds]);
-    sweep::solve(&code, &len, m, n, letters, &mut out[..rounds], &masks);
+    sweep::solve(&code, &len, counts, letters, &mut out[..rounds], &masks);
 }
 
 fn run(x: Sheet, letters: &[u8], out: &mut [u8]) -> Outcome
     requires { ⌜ Usable x × (CircularSheet (ruleSheet x) → ⊥) ⌝ }
-    ensures decided { λ r. ⌜ ((bs : List ℕ) → getD bs 5 0 ≡ x .inputs → Decided (Broken bs (now (letters .entry)) (length (now (out .entry)))) rule (extent ∷ letterChecks 0 (length (now (letters .entry)))) r) ⌝ }
+    ensures decided { λ r. ⌜ Decided (runChecks (x .inputs) (now (letters .entry)) (length (now (out .entry)))) r ⌝ }
     ensures left { λ r. ⌜ Left (ruleSheet x) (now (letters .entry)) (now (out .entry)) (now (out .exit)) r ⌝ }
 {
     let outcome = check_run(x.inputs as usize, letters, out.len());
@@ -98,8 +99,7 @@ fn run(x: Sheet, letters: &[u8], out: &mut [u8]) -> Outcome
 
 // Evaluates a sheet over letters: for each letter the byte whose bit k is output k.
 pub fn evaluate(sheet: &[u8], letters: &[u8], out: &mut [u8]) -> Outcome
-    ensures decided { λ r. ⌜ Decided (Broken (now (sheet .entry)) (now (letters .entry)) (length (now (out .entry)))) rule (checksOf (now (sheet .entry)) (now (letters .entry))) r ⌝ }
-    ensures evaluated { λ r. ⌜ Evaluated (now (sheet .entry)) (now (letters .entry)) (now (out .entry)) (now (out .exit)) r ⌝ }
+    ensures { λ r. ⌜ EvaluateCall (now (sheet .entry)) (now (letters .entry)) (now (out .entry)) (now (out .exit)) r ⌝ }
 {
     let got = circular::accept_sheet(sheet);
     let outcome = got.outcome;

@@ -5,6 +5,12 @@ ghost use Prim.Native.Nat.{_+_, _*_, _<_, _≤_, _^_};
 ghost use lib.ListN.{length, getD};
 ghost use Rattle.trace.specs.Passes.{Setting, RoundBytes, SeenRound, Environment, BitPut, sides, Renewed};
 
+// How many inputs and outputs a sheet has.
+pub struct Counts {
+    pub inputs: usize,
+    pub outputs: usize,
+}
+
 pub fn wide(x: u8) -> u64
     ensures { λ r. ⌜ r ≡ x ⌝ }
 {
@@ -20,9 +26,9 @@ fn valuation(m: usize, letters: &[u8], buf: &[u8], i: usize) -> u64
 }
 
 // The streams of round at - 1 twice, or false and true where there is no such round.
-fn beside(m: usize, n: usize, letters: &[u8], buf: &[u8], at: usize) -> u64
-    requires { ⌜ RoundBytes m n (now letters) (now buf) ⌝ }
-    ensures { λ r. ⌜ SeenRound m (now (letters .entry)) (now (buf .entry)) at r ⌝ }
+fn beside(counts: Counts, letters: &[u8], buf: &[u8], at: usize) -> u64
+    requires { ⌜ RoundBytes counts (now letters) (now buf) ⌝ }
+    ensures { λ r. ⌜ SeenRound (counts .inputs) (now (letters .entry)) (now (buf .entry)) at r ⌝ }
 {
     if at < 2 {
         return 0xff00;
@@ -30,18 +36,18 @@ fn beside(m: usize, n: usize, letters: &[u8], buf: &[u8], at: usize) -> u64
     if letters.len() + 1 < at {
         return 0xff00;
     }
-    let v = valuation(m, letters, buf, at - 2);
+    let v = valuation(counts.inputs, letters, buf, at - 2);
     v + 256 * v
 }
 
 // The reads of round t in one word: two bytes each for now, earlier and later.
-fn environment(m: usize, n: usize, letters: &[u8], buf: &[u8], t: usize) -> u64
-    requires { ⌜ RoundBytes m n (now letters) (now buf) × (1 ≤ t) × (t ≤ length (now letters)) ⌝ }
-    ensures { λ r. ⌜ Environment m (now (letters .entry)) (now (buf .entry)) t r ⌝ }
+fn environment(counts: Counts, letters: &[u8], buf: &[u8], t: usize) -> u64
+    requires { ⌜ RoundBytes counts (now letters) (now buf) × (1 ≤ t) × (t ≤ length (now letters)) ⌝ }
+    ensures { λ r. ⌜ Environment (counts .inputs) (now (letters .entry)) (now (buf .entry)) t r ⌝ }
 {
-    let current = beside(m, n, letters, buf, t + 1);
-    let earlier = beside(m, n, letters, buf, t);
-    let later = beside(m, n, letters, buf, t + 2);
+    let current = beside(counts, letters, buf, t + 1);
+    let earlier = beside(counts, letters, buf, t);
+    let later = beside(counts, letters, buf, t + 2);
     current + 65536 * (earlier + 65536 * later)
 }
 
@@ -61,17 +67,16 @@ fn put_bit(buf: &mut [u8], i: usize, s: usize, v: bool) -> bool
 pub fn refresh(
     code: &[u8],
     len: &[usize],
-    m: usize,
-    n: usize,
+    counts: Counts,
     letters: &[u8],
     buf: &mut [u8],
     s: usize,
     t: usize,
 ) -> bool
-    requires { ⌜ Setting m n (now code) (now len) × RoundBytes m n (now letters) (now buf) × (s < n) × (1 ≤ t) × (t ≤ length (now letters)) ⌝ }
-    ensures { λ r. ⌜ Renewed n (sides m n (now (code .entry)) (now (len .entry)) (now (letters .entry))) s t (now (buf .entry)) (now (buf .exit)) × (r ≡ false → now (buf .exit) ≡ now (buf .entry)) ⌝ }
+    requires { ⌜ Setting counts (now code) (now len) × RoundBytes counts (now letters) (now buf) × (s < counts .outputs) × (1 ≤ t) × (t ≤ length (now letters)) ⌝ }
+    ensures { λ r. ⌜ Renewed (counts .outputs) (sides counts (now (code .entry)) (now (len .entry)) (now (letters .entry))) s t (now (buf .entry)) (now (buf .exit)) × (r ≡ false → now (buf .exit) ≡ now (buf .entry)) ⌝ }
 {
-    let env = environment(m, n, letters, &buf[..], t);
+    let env = environment(counts, letters, &buf[..], t);
     let from = 64 * s;
     let to = from + len[s];
     let v = lola::value_bit(env, &code[from..to]);

@@ -11,6 +11,7 @@ use super::order::leads;
 use super::order::order_of;
 use super::order::round_in;
 use super::order::settle;
+use super::place::Counts;
 use super::place::refresh;
 
 // The set of all seven outputs. Those that a sheet lacks read nothing, and are settled by the first sweep.
@@ -20,19 +21,19 @@ const ALL: u8 = 127;
 fn refresh_round(
     code: &[u8],
     len: &[usize],
-    m: usize,
-    n: usize,
+    counts: Counts,
     letters: &[u8],
     buf: &mut [u8],
     t: usize,
 ) -> bool
-    requires { ⌜ Setting m n (now code) (now len) × RoundBytes m n (now letters) (now buf) × (1 ≤ t) × (t ≤ length (now letters)) ⌝ }
-    ensures { λ r. ⌜ Refreshed m n (now (code .entry)) (now (len .entry)) (now (letters .entry)) (λ q u. u ≡ t) (now (buf .entry)) (now (buf .exit)) r ⌝ }
+    requires { ⌜ Setting counts (now code) (now len) × RoundBytes counts (now letters) (now buf) × (1 ≤ t) × (t ≤ length (now letters)) ⌝ }
+    ensures { λ r. ⌜ Refreshed counts (now (code .entry)) (now (len .entry)) (now (letters .entry)) (λ q u. u ≡ t) (now (buf .entry)) (now (buf .exit)) r ⌝ }
 {
+    let n = counts.outputs;
     let mut changed = false;
     let mut s: usize = 0;
     while s < n {
-        if refresh(code, len, m, n, letters, &mut buf[..], s, t) {
+        if refresh(code, len, counts, letters, &mut buf[..], s, t) {
             changed = true;
         }
         s += 1;
@@ -41,14 +42,14 @@ fn refresh_round(
 }
 
 // Refreshes every place once; whether anything changed.
-fn pass(code: &[u8], len: &[usize], m: usize, n: usize, letters: &[u8], buf: &mut [u8]) -> bool
-    requires { ⌜ Setting m n (now code) (now len) × RoundBytes m n (now letters) (now buf) ⌝ }
-    ensures { λ r. ⌜ Refreshed m n (now (code .entry)) (now (len .entry)) (now (letters .entry)) (λ q u. Unit {0}) (now (buf .entry)) (now (buf .exit)) r ⌝ }
+fn pass(code: &[u8], len: &[usize], counts: Counts, letters: &[u8], buf: &mut [u8]) -> bool
+    requires { ⌜ Setting counts (now code) (now len) × RoundBytes counts (now letters) (now buf) ⌝ }
+    ensures { λ r. ⌜ Refreshed counts (now (code .entry)) (now (len .entry)) (now (letters .entry)) (λ q u. Unit {0}) (now (buf .entry)) (now (buf .exit)) r ⌝ }
 {
     let mut changed = false;
     let mut t: usize = 1;
     while t <= letters.len() {
-        if refresh_round(code, len, m, n, letters, &mut buf[..], t) {
+        if refresh_round(code, len, counts, letters, &mut buf[..], t) {
             changed = true;
         }
         t += 1;
@@ -57,14 +58,14 @@ fn pass(code: &[u8], len: &[usize], m: usize, n: usize, letters: &[u8], buf: &mu
 }
 
 // Refreshes until a pass changes nothing.
-fn passes(code: &[u8], len: &[usize], m: usize, n: usize, letters: &[u8], buf: &mut [u8])
-    requires { ⌜ Setting m n (now code) (now len) × RoundBytes m n (now letters) (now buf) ⌝ }
-    ensures { λ r. ⌜ Solved n (length (now (letters .entry))) (sides m n (now (code .entry)) (now (len .entry)) (now (letters .entry))) (now (buf .entry)) (now (buf .exit)) ⌝ }
+fn passes(code: &[u8], len: &[usize], counts: Counts, letters: &[u8], buf: &mut [u8])
+    requires { ⌜ Setting counts (now code) (now len) × RoundBytes counts (now letters) (now buf) ⌝ }
+    ensures { λ r. ⌜ Solved (counts .outputs) (length (now (letters .entry))) (sides counts (now (code .entry)) (now (len .entry)) (now (letters .entry))) (now (buf .entry)) (now (buf .exit)) ⌝ }
 {
-    let most = n * letters.len();
+    let most = counts.outputs * letters.len();
     let mut k: usize = 0;
     while k < most {
-        if !pass(code, len, m, n, letters, &mut buf[..]) {
+        if !pass(code, len, counts, letters, &mut buf[..]) {
             return;
         }
         k += 1;
@@ -75,28 +76,26 @@ fn passes(code: &[u8], len: &[usize], m: usize, n: usize, letters: &[u8], buf: &
 fn try_refresh(
     code: &[u8],
     len: &[usize],
-    m: usize,
-    n: usize,
+    counts: Counts,
     letters: &[u8],
     buf: &mut [u8],
     s: usize,
     t: usize,
 )
-    requires { ⌜ Setting m n (now code) (now len) × RoundBytes m n (now letters) (now buf) × (s < n) × (t ≤ length (now letters)) ⌝ }
-    ensures { λ r. ⌜ (t ≡ 0 → now (buf .exit) ≡ now (buf .entry)) × (1 ≤ t → Renewed n (sides m n (now (code .entry)) (now (len .entry)) (now (letters .entry))) s t (now (buf .entry)) (now (buf .exit))) ⌝ }
+    requires { ⌜ Setting counts (now code) (now len) × RoundBytes counts (now letters) (now buf) × (s < counts .outputs) × (t ≤ length (now letters)) ⌝ }
+    ensures { λ r. ⌜ (t ≡ 0 → now (buf .exit) ≡ now (buf .entry)) × (1 ≤ t → Renewed (counts .outputs) (sides counts (now (code .entry)) (now (len .entry)) (now (letters .entry))) s t (now (buf .entry)) (now (buf .exit))) ⌝ }
 {
     if t == 0 {
         return;
     }
-    let changed = refresh(code, len, m, n, letters, &mut buf[..], s, t);
+    refresh(code, len, counts, letters, &mut buf[..], s, t);
 }
 
 // Refreshes the places of one block.
 fn refresh_block(
     code: &[u8],
     len: &[usize],
-    m: usize,
-    n: usize,
+    counts: Counts,
     letters: &[u8],
     buf: &mut [u8],
     lead: &[u8; 7],
@@ -105,14 +104,14 @@ fn refresh_block(
     up: bool,
     block: usize,
 )
-    requires { ⌜ Setting m n (now code) (now len) × RoundBytes m n (now letters) (now buf) × Ordered (now lead) n (now outputs) count ⌝ }
-    ensures { λ r. ⌜ Sweeps n (length (now (letters .entry))) (sides m n (now (code .entry)) (now (len .entry)) (now (letters .entry))) (now (lead .entry)) up (Done (now (lead .entry)) up (length (now (letters .entry))) (now (outputs .entry)) block 0) (Done (now (lead .entry)) up (length (now (letters .entry))) (now (outputs .entry)) block count) (now (buf .entry)) (now (buf .exit)) ⌝ }
+    requires { ⌜ Setting counts (now code) (now len) × RoundBytes counts (now letters) (now buf) × Ordered (now lead) (counts .outputs) (now outputs) count ⌝ }
+    ensures { λ r. ⌜ Sweeps (counts .outputs) (length (now (letters .entry))) (sides counts (now (code .entry)) (now (len .entry)) (now (letters .entry))) (now (lead .entry)) up (Done (now (lead .entry)) up (length (now (letters .entry))) (now (outputs .entry)) block 0) (Done (now (lead .entry)) up (length (now (letters .entry))) (now (outputs .entry)) block count) (now (buf .entry)) (now (buf .exit)) ⌝ }
 {
     let mut p: usize = 0;
     while p < count {
         let s = outputs[p];
         let t = round_in(block, lead[s], letters.len(), up);
-        try_refresh(code, len, m, n, letters, &mut buf[..], s, t);
+        try_refresh(code, len, counts, letters, &mut buf[..], s, t);
         p += 1;
     }
 }
@@ -121,17 +120,16 @@ fn refresh_block(
 fn sweep(
     code: &[u8],
     len: &[usize],
-    m: usize,
-    n: usize,
+    counts: Counts,
     letters: &[u8],
     buf: &mut [u8],
     lead: &[u8; 7],
     up: bool,
 )
-    requires { ⌜ Setting m n (now code) (now len) × RoundBytes m n (now letters) (now buf) ⌝ }
-    ensures { λ r. ⌜ Sweeps n (length (now (letters .entry))) (sides m n (now (code .entry)) (now (len .entry)) (now (letters .entry))) (now (lead .entry)) up InSet (Known (now (lead .entry))) (now (buf .entry)) (now (buf .exit)) ⌝ }
+    requires { ⌜ Setting counts (now code) (now len) × RoundBytes counts (now letters) (now buf) ⌝ }
+    ensures { λ r. ⌜ Sweeps (counts .outputs) (length (now (letters .entry))) (sides counts (now (code .entry)) (now (len .entry)) (now (letters .entry))) (now (lead .entry)) up InSet (Known (now (lead .entry))) (now (buf .entry)) (now (buf .exit)) ⌝ }
 {
-    let order = order_of(lead, n);
+    let order = order_of(lead, counts.outputs);
     let outputs = order.outputs;
     let count = order.count;
     if count == 0 {
@@ -143,8 +141,7 @@ fn sweep(
         refresh_block(
             code,
             len,
-            m,
-            n,
+            counts,
             letters,
             &mut buf[..],
             lead,
@@ -161,19 +158,18 @@ fn sweep(
 fn settle_more(
     code: &[u8],
     len: &[usize],
-    m: usize,
-    n: usize,
+    counts: Counts,
     letters: &[u8],
     buf: &mut [u8],
     masks: &[u8; 49],
     up: bool,
     settled: u8,
 ) -> u8
-    requires { ⌜ Setting m n (now code) (now len) × RoundBytes m n (now letters) (now buf) ⌝ }
-    ensures { λ r. ⌜ Extends n (length (now (letters .entry))) (sides m n (now (code .entry)) (now (len .entry)) (now (letters .entry))) (now (masks .entry)) (InSet settled) (InSet r) (now (buf .entry)) (now (buf .exit)) ⌝ }
+    requires { ⌜ Setting counts (now code) (now len) × RoundBytes counts (now letters) (now buf) ⌝ }
+    ensures { λ r. ⌜ Extends (counts .outputs) (length (now (letters .entry))) (sides counts (now (code .entry)) (now (len .entry)) (now (letters .entry))) (now (masks .entry)) (InSet settled) (InSet r) (now (buf .entry)) (now (buf .exit)) ⌝ }
 {
-    let lead = leads(masks, n, up, settled);
-    sweep(code, len, m, n, letters, &mut buf[..], &lead, up);
+    let lead = leads(masks, counts.outputs, up, settled);
+    sweep(code, len, counts, letters, &mut buf[..], &lead, up);
     settle(&lead, settled)
 }
 
@@ -181,14 +177,13 @@ fn settle_more(
 fn sweeps(
     code: &[u8],
     len: &[usize],
-    m: usize,
-    n: usize,
+    counts: Counts,
     letters: &[u8],
     buf: &mut [u8],
     masks: &[u8; 49],
 ) -> bool
-    requires { ⌜ Setting m n (now code) (now len) × RoundBytes m n (now letters) (now buf) ⌝ }
-    ensures { λ r. ⌜ Extends n (length (now (letters .entry))) (sides m n (now (code .entry)) (now (len .entry)) (now (letters .entry))) (now (masks .entry)) (λ q u. ⊥) (λ q u. r ≡ true) (now (buf .entry)) (now (buf .exit)) ⌝ }
+    requires { ⌜ Setting counts (now code) (now len) × RoundBytes counts (now letters) (now buf) ⌝ }
+    ensures { λ r. ⌜ Extends (counts .outputs) (length (now (letters .entry))) (sides counts (now (code .entry)) (now (len .entry)) (now (letters .entry))) (now (masks .entry)) (λ q u. ⊥) (λ q u. r ≡ true) (now (buf .entry)) (now (buf .exit)) ⌝ }
 {
     let mut settled: u8 = 0;
     let mut k: usize = 0;
@@ -199,8 +194,7 @@ fn sweeps(
         settled = settle_more(
             code,
             len,
-            m,
-            n,
+            counts,
             letters,
             &mut buf[..],
             masks,
@@ -217,17 +211,16 @@ fn sweeps(
 pub fn solve(
     code: &[u8],
     len: &[usize],
-    m: usize,
-    n: usize,
+    counts: Counts,
     letters: &[u8],
     buf: &mut [u8],
     masks: &[u8; 49],
 )
-    requires { ⌜ Setting m n (now code) (now len) × RoundBytes m n (now letters) (now buf) × Reads n (readsOf (now masks)) (length (now letters)) (sides m n (now code) (now len) (now letters)) ⌝ }
-    ensures { λ r. ⌜ Solved n (length (now (letters .entry))) (sides m n (now (code .entry)) (now (len .entry)) (now (letters .entry))) (now (buf .entry)) (now (buf .exit)) ⌝ }
+    requires { ⌜ Setting counts (now code) (now len) × RoundBytes counts (now letters) (now buf) × Reads (counts .outputs) (readsOf (now masks)) (length (now letters)) (sides counts (now code) (now len) (now letters)) ⌝ }
+    ensures { λ r. ⌜ Solved (counts .outputs) (length (now (letters .entry))) (sides counts (now (code .entry)) (now (len .entry)) (now (letters .entry))) (now (buf .entry)) (now (buf .exit)) ⌝ }
 {
-    if sweeps(code, len, m, n, letters, &mut buf[..], masks) {
+    if sweeps(code, len, counts, letters, &mut buf[..], masks) {
         return;
     }
-    passes(code, len, m, n, letters, &mut buf[..]);
+    passes(code, len, counts, letters, &mut buf[..]);
 }

@@ -5,7 +5,8 @@
 // line `--`. The first case that is cut short or too long ends the run, and nothing is written for it.
 ghost use Prim.Native.Nat.{_+_, _≤_, _<_};
 ghost use lib.ListN.{length};
-ghost use Rattle.sheet.specs.Reading.{Usable};
+ghost use Rattle.circular.specs.Checks.{IsAccepted};
+ghost use Rattle.pairs.specs.Storage.{storageWords};
 use libc::STDIN_FILENO;
 use libc::STDOUT_FILENO;
 use lines::Progress;
@@ -77,7 +78,7 @@ fn chunk_size(at: usize, left: usize) -> usize
 
 // Feeds a session in small chunks. A run that is over is fed on and writes nothing more.
 fn play(x: Sheet, s: Progress, storage: &mut [u64], session: &[u8], out: &mut [u8])
-    requires { ⌜ Usable x × (600 ≤ length (now out)) ⌝ }
+    requires { ⌜ IsAccepted x × (600 ≤ length (now out)) ⌝ }
 {
     let mut state = s;
     let mut at = 0;
@@ -96,7 +97,7 @@ fn play(x: Sheet, s: Progress, storage: &mut [u64], session: &[u8], out: &mut [u
 
 // What the journal program writes for a sheet's file and a session. The storage is as the case before left it.
 fn answer(sheet: &[u8], session: &[u8], storage: &mut [u64], out: &mut [u8])
-    requires { ⌜ (3084 ≤ length (now storage)) × (600 ≤ length (now out)) ⌝ }
+    requires { ⌜ (storageWords ≤ length (now storage)) × (600 ≤ length (now out)) ⌝ }
 {
     let begun = lines::start(sheet, storage, out);
     let outcome = begun.outcome;
@@ -115,7 +116,7 @@ fn answer(sheet: &[u8], session: &[u8], storage: &mut [u64], out: &mut [u8])
 
 // Reads a case and answers it, or tells that there is none.
 fn case(sheet: &mut [u8], session: &mut [u8], storage: &mut [u64], out: &mut [u8]) -> bool
-    requires { ⌜ (3084 ≤ length (now storage)) × (600 ≤ length (now out)) ⌝ }
+    requires { ⌜ (storageWords ≤ length (now storage)) × (600 ≤ length (now out)) ⌝ }
 {
     let first = read_sheet(sheet);
     if !first.whole {

@@ -1,29 +1,32 @@
 -- Valuations as the bits of words, and the verdicts read off them.
 use mathlib.Core.Path.{_≡_, refl, sym, ap, ap₂, _∙_, subst}
 use mathlib.Core.Bool.{Bool, true, false, not, _&&_, _||_, Bool·beq, and-true, and-false, or-false, and-assoc, and-comm, true≢false}
-use mathlib.Core.List.{List}
+use mathlib.Core.List.{List, [], _∷_}
 use mathlib.Core.Option.{Option, none, some}
-use Prim.Native.Nat.{ℕ, _+_, _-_, _*_, _/_, _%_, _^_, _≤_, _<_}
+use Prim.Native.Nat.{ℕ, zero, suc, _+_, _-_, _*_, _/_, _%_, _^_, _≤_, _<_}
 use native.Mathlib.Omega.{arith}
 use native.Mathlib.Decide.{ℕ-discrete, decLt}
 use lib.Dec.{eqb, ltb}
 use lib.Count.{trailingZeros}
 use lib.Bits.{bitAnd, bitOr, and-lt}
 use lib.ListN.{length, getD, set, length-set, replicate}
-use lib.Seq.{getD-set-other}
+use lib.Seq.{getD-set-same, getD-set-other}
+use borrow.Author.Count.{below-more}
 use borrow.Author.Tests.{le-ltb, lt-ltb, ltb-true, eq-eqb, ne-eqb}
-use Rattle.refusal.specs.Numbers.{verdictNo, Verdicts}
+use Rattle.refusal.specs.Numbers.{untold, toldAt, Verdicts}
 use Rattle.refusal.specs.declared.Verdict.{Verdict}
+use Rattle.refusal.specs.declared.Verdict.the-variants.{False}
+use Rattle.refusal.specs.declared.Told.{Told}
 use Rattle.words.specs.Bits.{bit}
 use Rattle.words.specs.Below.{anyBelow}
 use Rattle.words.proofs.BitLaws.{bit-and, bit-or, bit-shl, bit-none, Lowest, lowest, without, lane-off, lane-less}
 use Rattle.words.proofs.AnyLaws.{any-cong, any-add, any-groups, any-word, none-any, some-any, any-some}
 use Rattle.words.proofs.LaneLaws.{beq-true, beq-false}
 use Rattle.words.proofs.Bools.{iff, and-split}
-use Rattle.words.proofs.ListLaws.{zeros, set-more}
+use Rattle.words.proofs.ListLaws.{set-more}
 use Rattle.completions.specs.Live.{Pairs}
 use Rattle.completions.specs.Steps.{anyNext, anyPair, verdictOf, pairsVerdict, endsVerdict}
-use Rattle.pairs.specs.Storage.{stored}
+use Rattle.pairs.specs.Storage.{reached, reachedAt}
 use Rattle.pairs.specs.Changes.{rowBit}
 use Rattle.pairs.proofs.Sets.{lane-end}
 use Rattle.rounds.specs.Rows.{among, Wide}
@@ -32,15 +35,15 @@ use Rattle.verdicts.specs.Firsts.{Passing, Words, shows}
 
 -- ---- whether a row has a member
 
-pub first-end : (s : List ℕ) (v a : ℕ) → stored s 1028 a none ≡ true → true ≡ anyNext v (stored s 1028 a)
+pub first-end : (s : List ℕ) (v a : ℕ) → reached s a none ≡ true → true ≡ anyNext v (reached s a)
 unfolding anyNext
-first-end s v a e = sym (ap (λ (u : Bool). u || anyBelow v (λ b. stored s 1028 a (some b))) e)
+first-end s v a e = sym (ap (λ (u : Bool). u || anyBelow v (λ b. reached s a (some b))) e)
 
 -- the lanes of its words, those below v, show whether it has one
-module _ (s : List ℕ) (v w a x mask : ℕ) (wide : Wide v w) (lx : (i : ℕ) → i < 64 → bit i x ≡ anyBelow w (λ j. stored s 1028 a (some (64 * j + i))))
+module _ (s : List ℕ) (v w a x mask : ℕ) (wide : Wide v w) (lx : (i : ℕ) → i < 64 → bit i x ≡ anyBelow w (λ j. reached s a (some (64 * j + i))))
     (lm : (i : ℕ) → i < 64 → bit i mask ≡ ltb (64 * 0 + i) v) where
   abbrev member : ℕ → Bool
-  member b = stored s 1028 a (some b)
+  member b = reached s a (some b)
 
   within : (i j : ℕ) → i < 64 → i < v → j < w → 64 * j + i < v
   within i j h l g = go (decLt 1 w)
@@ -71,7 +74,7 @@ module _ (s : List ℕ) (v w a x mask : ℕ) (wide : Wide v w) (lx : (i : ℕ) �
       (bit-and (b % 64) x mask
       ∙ ap₂ _&&_ (lx (b % 64) h ∙ some-any w (λ j. member (64 * j + b % 64)) (b / 64) l (ap member q ∙ z .2)) (lm (b % 64) h ∙ lt-ltb (64 * 0 + b % 64) v (omega arith)))
 
-  pub first-rest : x < 2 ^ 64 → mask < 2 ^ 64 → stored s 1028 a none ≡ false → not (eqb (bitAnd x mask) 0) ≡ anyNext v (stored s 1028 a)
+  pub first-rest : x < 2 ^ 64 → mask < 2 ^ 64 → reached s a none ≡ false → not (eqb (bitAnd x mask) 0) ≡ anyNext v (reached s a)
   unfolding anyNext
   first-rest hx hm e =
       sym (any-word 64 (bitAnd x mask) (and-lt 64 x mask hx hm))
@@ -156,35 +159,64 @@ filling-all w g f j h p = record { size = p .size; bits = λ b l. at b l }
 
 -- a word of the end row
 pub ends-lane : (s : List ℕ) (j v mask : ℕ) → ((i : ℕ) → i < 64 → bit i mask ≡ ltb (64 * j + i) v) → (i : ℕ) → i < 64
-    → bit i (bitAnd (getD s (1028 + (1024 + j)) 0) mask) ≡ (ltb (64 * j + i) v && stored s 1028 (64 * j + i) none)
+    → bit i (bitAnd (getD s (reachedAt + (1024 + j)) 0) mask) ≡ (ltb (64 * j + i) v && reached s (64 * j + i) none)
 ends-lane s j v mask f i h =
-    bit-and i (getD s (1028 + (1024 + j)) 0) mask ∙ ap₂ _&&_ (lane-end s 1028 j i h) (f i h) ∙ and-comm (stored s 1028 (64 * j + i) none) (ltb (64 * j + i) v)
+    bit-and i (getD s (reachedAt + (1024 + j)) 0) mask ∙ ap₂ _&&_ (lane-end s reachedAt j i h) (f i h) ∙ and-comm (reached s (64 * j + i) none) (ltb (64 * j + i) v)
 
--- ---- whether some valuation shows a bit, word by word
+-- ---- the test as a row of words
 
-module _ (f : List ℕ) (q : ℕ) (v : Bool) where
+pub row-lane : (t : List ℕ) (j i : ℕ) → i < 64 → rowBit t 0 (64 * j + i) ≡ bit i (getD t j 0)
+unfolding rowBit
+row-lane t j i h =
+    let e₁ : (64 * j + i) % 64 ≡ i = omega arith in
+    let e₂ : 0 + (64 * j + i) / 64 ≡ j = omega arith in
+    ap₂ (λ (x y : ℕ). bit x (getD t y 0)) e₁ e₂
+
+-- four words, each with its valuations
+pub four-words : (a b c d : ℕ) (g : ℕ → Bool) → ((i : ℕ) → i < 64 → bit i a ≡ g (64 * 0 + i)) → ((i : ℕ) → i < 64 → bit i b ≡ g (64 * 1 + i))
+    → ((i : ℕ) → i < 64 → bit i c ≡ g (64 * 2 + i)) → ((i : ℕ) → i < 64 → bit i d ≡ g (64 * 3 + i)) → Words 4 (a ∷ (b ∷ (c ∷ (d ∷ [])))) g
+four-words a b c d g ha hb hc hd = filling-all 4 g (a ∷ (b ∷ (c ∷ (d ∷ [])))) 4 (omega arith) (record { within = omega arith; size = refl; done = at })
+  where
+    at : (k i : ℕ) → k < 4 → i < 64 → bit i (getD (a ∷ (b ∷ (c ∷ (d ∷ [])))) k 0) ≡ g (64 * k + i)
+    at zero i h l = ha i l
+    at (suc zero) i h l = hb i l
+    at (suc (suc zero)) i h l = hc i l
+    at (suc (suc (suc zero))) i h l = hd i l
+    at (suc (suc (suc (suc k)))) i h l = absurd (omega arith)
+
+pub words-less : (w n : ℕ) (t : List ℕ) (g : ℕ → Bool) → w ≤ n → Words n t g → Words w t g
+words-less w n t g h x = record { size = x .size; bits = λ b l. x .bits b (omega arith) }
+
+-- ---- whether the test gives v for some valuation, word by word
+
+module _ (f : List ℕ) (g : ℕ → Bool) (v : Bool) where
   unfoldable pub shownIn : ℕ → Bool
-  shownIn j = anyBelow 64 (λ i. rowBit f 0 (j * 64 + i) && Bool·beq (bit q (j * 64 + i)) v)
+  shownIn j = anyBelow 64 (λ i. rowBit f 0 (j * 64 + i) && Bool·beq (g (j * 64 + i)) v)
 
-  pub shows-words : (w : ℕ) → shows w f q v ≡ anyBelow w shownIn
+  pub shows-words : (w : ℕ) → shows w f g v ≡ anyBelow w shownIn
   unfolding shows shownIn
-  shows-words w = let e : 64 * w ≡ w * 64 = omega arith in ap (λ (k : ℕ). anyBelow k (λ b. rowBit f 0 b && Bool·beq (bit q b) v)) e ∙ any-groups w 64 (λ b. rowBit f 0 b && Bool·beq (bit q b) v)
+  shows-words w = let e : 64 * w ≡ w * 64 = omega arith in ap (λ (k : ℕ). anyBelow k (λ b. rowBit f 0 b && Bool·beq (g b) v)) e ∙ any-groups w 64 (λ b. rowBit f 0 b && Bool·beq (g b) v)
 
-  pub shown-word : (j p : ℕ) → getD f j 0 < 2 ^ 64 → p < 2 ^ 64 → ((i : ℕ) → i < 64 → bit i p ≡ Bool·beq (bit q (64 * j + i)) v) → shownIn j ≡ not (eqb (bitAnd (getD f j 0) p) 0)
-  unfolding shownIn rowBit
+  pub shown-word : (j p : ℕ) → getD f j 0 < 2 ^ 64 → p < 2 ^ 64 → ((i : ℕ) → i < 64 → bit i p ≡ Bool·beq (g (64 * j + i)) v) → shownIn j ≡ not (eqb (bitAnd (getD f j 0) p) 0)
+  unfolding shownIn
   shown-word j p hw hp h =
-      any-cong 64 (λ i. rowBit f 0 (j * 64 + i) && Bool·beq (bit q (j * 64 + i)) v) (λ i. bit i (bitAnd (getD f j 0) p))
+      any-cong 64 (λ i. rowBit f 0 (j * 64 + i) && Bool·beq (g (j * 64 + i)) v) (λ i. bit i (bitAnd (getD f j 0) p))
       (λ i l.
-      let e₁ : (j * 64 + i) % 64 ≡ i = omega arith in
-      let e₂ : 0 + (j * 64 + i) / 64 ≡ j = omega arith in
-      let e₃ : j * 64 + i ≡ 64 * j + i = omega arith in
-      ap₂ _&&_ (ap₂ (λ (x y : ℕ). bit x (getD f y 0)) e₁ e₂) (ap (λ (k : ℕ). Bool·beq (bit q k) v) e₃ ∙ sym (h i l)) ∙ sym (bit-and i (getD f j 0) p))
+      let e : j * 64 + i ≡ 64 * j + i = omega arith in
+      ap₂ _&&_ (ap (rowBit f 0) e ∙ row-lane f j i l) (ap (λ (k : ℕ). Bool·beq (g k) v) e ∙ sym (h i l)) ∙ sym (bit-and i (getD f j 0) p))
       ∙ any-word 64 (bitAnd (getD f j 0) p) (and-lt 64 (getD f j 0) p hw hp)
+
+-- a row of words stands for every test that it has the valuations of
+pub shows-test : (w : ℕ) (f t : List ℕ) (g : ℕ → Bool) (v : Bool) → Words w t g → shows w f (rowBit t 0) v ≡ shows w f g v
+unfolding shows
+shows-test w f t g v x = any-cong (64 * w) _ _ (λ b h. ap (λ (u : Bool). rowBit f 0 b && Bool·beq u v) (x .bits b h))
 
 -- ---- verdicts
 
-pub verdict-is : (y n u v : Bool) → y ≡ u → n ≡ v → verdictNo (verdictOf u v) ≡ verdictNo (verdictOf y n)
-verdict-is y n u v e f = sym (ap₂ (λ (a b : Bool). verdictNo (verdictOf a b)) e f)
+-- what was found of the row's test, of every test that it stands for
+pub verdict-of : (w : ℕ) (f t : List ℕ) (y n u v : Bool) → y ≡ shows w f (rowBit t 0) true → n ≡ shows w f (rowBit t 0) false → y ≡ u → n ≡ v
+    → (g : ℕ → Bool) → Words w t g → verdictOf u v ≡ verdictOf (shows w f g true) (shows w f g false)
+verdict-of w f t y n u v a b e₁ e₂ g x = ap₂ verdictOf (sym e₁ ∙ a ∙ shows-test w f t g true x) (sym e₂ ∙ b ∙ shows-test w f t g false x)
 
 -- the numbers below w of a wider search
 any-below : (w n : ℕ) (p : ℕ → Bool) → w ≤ n → anyBelow n (λ b. ltb b w && p b) ≡ anyBelow w p
@@ -194,18 +226,18 @@ any-below w n p h =
     ∙ ap₂ _||_ (none-any (n - w) (λ i. ltb (w + i) w && p (w + i)) (λ i l. ap (λ (u : Bool). u && p (w + i)) (le-ltb (w + i) w (omega arith))))
     (any-cong w (λ b. ltb b w && p b) p (λ b l. ap (λ (u : Bool). u && p b) (lt-ltb b w l)))
 
-module _ (w : ℕ) (f : List ℕ) (v q : ℕ) (P : ℕ → Bool) (hv : v ≤ 64 * w) (words : Words w f (λ b. ltb b v && P b)) where
-  shows-is : (u : Bool) → shows w f q u ≡ anyBelow v (λ b. P b && Bool·beq (bit q b) u)
+module _ (w : ℕ) (f : List ℕ) (v : ℕ) (g P : ℕ → Bool) (hv : v ≤ 64 * w) (words : Words w f (λ b. ltb b v && P b)) where
+  shows-is : (u : Bool) → shows w f g u ≡ anyBelow v (λ b. P b && Bool·beq (g b) u)
   unfolding shows
   shows-is u =
-      any-cong (64 * w) _ (λ b. ltb b v && (P b && Bool·beq (bit q b) u)) (λ b h. ap (λ (t : Bool). t && Bool·beq (bit q b) u) (words .bits b h) ∙ and-assoc (ltb b v) (P b) (Bool·beq (bit q b) u))
-      ∙ any-below v (64 * w) (λ b. P b && Bool·beq (bit q b) u) hv
+      any-cong (64 * w) _ (λ b. ltb b v && (P b && Bool·beq (g b) u)) (λ b h. ap (λ (t : Bool). t && Bool·beq (g b) u) (words .bits b h) ∙ and-assoc (ltb b v) (P b) (Bool·beq (g b) u))
+      ∙ any-below v (64 * w) (λ b. P b && Bool·beq (g b) u) hv
 
-  shows-true : shows w f q true ≡ anyBelow v (λ b. P b && bit q b)
-  shows-true = shows-is true ∙ any-cong v _ _ (λ b h. ap (λ (u : Bool). P b && u) (sym (beq-true (bit q b))))
+  shows-true : shows w f g true ≡ anyBelow v (λ b. P b && g b)
+  shows-true = shows-is true ∙ any-cong v _ _ (λ b h. ap (λ (u : Bool). P b && u) (sym (beq-true (g b))))
 
-  shows-false : shows w f q false ≡ anyBelow v (λ b. P b && not (bit q b))
-  shows-false = shows-is false ∙ any-cong v _ _ (λ b h. ap (λ (u : Bool). P b && u) (sym (beq-false (bit q b))))
+  shows-false : shows w f g false ≡ anyBelow v (λ b. P b && not (g b))
+  shows-false = shows-is false ∙ any-cong v _ _ (λ b h. ap (λ (u : Bool). P b && u) (sym (beq-false (g b))))
 
 next-and : (w : ℕ) (f : Option ℕ → Bool) (k : Bool) → (anyNext w f && k) ≡ anyNext w (λ c. f c && k)
 unfolding anyNext
@@ -229,42 +261,51 @@ all-firsts w f v r S p h = record { size = h .size; bits = λ b l. h .bits b l �
     at b (yes l) false e = ap (λ (u : Bool). (ltb b v && r b) && u) (none-at b l e) ∙ and-false (ltb b v && r b) ∙ sym (ap (λ (u : Bool). ltb b v && u) (none-at b l e) ∙ and-false (ltb b v))
     at b (no n) u e = let g : v ≤ b = omega arith in rw (le-ltb b v g)
 
-pub firsts-verdict : (w : ℕ) (f : List ℕ) (v v′ q : ℕ) (r : ℕ → Bool) (S : Pairs) → v ≡ v′ → v ≤ 64 * w → Passing v′ r S → Words w f (λ b. (ltb b v && r b) && anyNext v (S b))
-    → verdictOf (shows w f q true) (shows w f q false) ≡ pairsVerdict v′ S (bit q)
+pub firsts-verdict : (w : ℕ) (f : List ℕ) (v v′ : ℕ) (g r : ℕ → Bool) (S : Pairs) → v ≡ v′ → v ≤ 64 * w → Passing v′ r S → Words w f (λ b. (ltb b v && r b) && anyNext v (S b))
+    → verdictOf (shows w f g true) (shows w f g false) ≡ pairsVerdict v′ S g
 unfolding pairsVerdict anyPair
-firsts-verdict w f v v′ q r S e hv p h =
+firsts-verdict w f v v′ g r S e hv p h =
     let h′ = all-firsts w f v r S (subst (λ (k : ℕ). Passing k r S) (sym e) p) h in
     ap₂ verdictOf
-    (shows-true w f v q (λ b. anyNext v (S b)) hv h′ ∙ any-cong v _ _ (λ b l. next-and v (S b) (bit q b)))
-    (shows-false w f v q (λ b. anyNext v (S b)) hv h′ ∙ any-cong v _ _ (λ b l. next-and v (S b) (not (bit q b))))
-    ∙ ap (λ (k : ℕ). pairsVerdict k S (bit q)) e
+    (shows-true w f v g (λ b. anyNext v (S b)) hv h′ ∙ any-cong v _ _ (λ b l. next-and v (S b) (g b)))
+    (shows-false w f v g (λ b. anyNext v (S b)) hv h′ ∙ any-cong v _ _ (λ b l. next-and v (S b) (not (g b))))
+    ∙ ap (λ (k : ℕ). pairsVerdict k S g) e
 
-pub ends-verdict : (w : ℕ) (f : List ℕ) (v v′ q : ℕ) (S : Pairs) → v ≡ v′ → v ≤ 64 * w → Words w f (λ b. ltb b v && S b none) → verdictOf (shows w f q true) (shows w f q false) ≡ endsVerdict v′ S (bit q)
+pub ends-verdict : (w : ℕ) (f : List ℕ) (v v′ : ℕ) (g : ℕ → Bool) (S : Pairs) → v ≡ v′ → v ≤ 64 * w → Words w f (λ b. ltb b v && S b none)
+    → verdictOf (shows w f g true) (shows w f g false) ≡ endsVerdict v′ S g
 unfolding endsVerdict
-ends-verdict w f v v′ q S e hv h =
-    ap₂ verdictOf (shows-true w f v q (λ b. S b none) hv h) (shows-false w f v q (λ b. S b none) hv h) ∙ ap (λ (k : ℕ). endsVerdict k S (bit q)) e
+ends-verdict w f v v′ g S e hv h =
+    ap₂ verdictOf (shows-true w f v g (λ b. S b none) hv h) (shows-false w f v g (λ b. S b none) hv h) ∙ ap (λ (k : ℕ). endsVerdict k S g) e
 
 -- ---- the outputs, one after the other
 
-pub record Telling (n : ℕ) (f : ℕ → Verdict) (vs : List ℕ) (k : ℕ) : Type 0 where
+pub record Telling (n : ℕ) (f : ℕ → Verdict) (vs : List Told) (k : ℕ) : Type 0 where
   pub within : k ≤ n
   pub size : length vs ≡ 7
-  pub each : (j : ℕ) → j < k → getD vs j 0 ≡ verdictNo (f j)
-  pub beyond : (j : ℕ) → k ≤ j → getD vs j 0 ≡ 0
+  pub each : (j : ℕ) → j < k → toldAt vs j ≡ f j
+  pub beyond : (j : ℕ) → k ≤ j → toldAt vs j ≡ False
 
-pub telling-none : (n : ℕ) (f : ℕ → Verdict) → Telling n f (replicate 7 0) 0
-telling-none n f = record { within = omega arith; size = refl; each = λ j h. absurd (omega arith); beyond = λ j h. zeros 7 j }
+untold-at : (n k : ℕ) → toldAt (replicate n untold) k ≡ False
+untold-at zero k = refl
+untold-at (suc n) zero = refl
+untold-at (suc n) (suc k) = untold-at n k
 
-pub telling-more : (n : ℕ) (f : ℕ → Verdict) (vs : List ℕ) (k x : ℕ) → k < n → n ≤ 7 → Telling n f vs k → x ≡ verdictNo (f k) → Telling n f (set vs k x) (k + 1)
-telling-more n f vs k x h l p e = record {
+pub telling-none : (n : ℕ) (f : ℕ → Verdict) (vs : List Told) → vs ≡ replicate 7 untold → Telling n f vs 0
+telling-none n f vs e = rw e (record { within = omega arith; size = refl; each = λ j h. absurd (omega arith); beyond = λ j h. untold-at 7 j })
+
+pub telling-more : (n : ℕ) (f : ℕ → Verdict) (vs : List Told) (k : ℕ) (t : Told) → k < n → n ≤ 7 → Telling n f vs k → t .verdict ≡ f k → Telling n f (set vs k t) (k + 1)
+telling-more n f vs k t h l p e = record {
   within = omega arith;
-  size = length-set vs k x ∙ p .size;
-  each = set-more (λ j v. v ≡ verdictNo (f j)) vs k x (omega (arith, p .size)) e (p .each);
-  beyond = λ j g. getD-set-other vs k j x 0 (omega arith) ∙ p .beyond j (omega arith);
+  size = length-set vs k t ∙ p .size;
+  each = below-more (λ (j : ℕ). toldAt (set vs k t) j ≡ f j) k (λ j g. other j (omega arith) ∙ p .each j g) (ap (λ (u : Told). u .verdict) (getD-set-same vs k t untold (omega (arith, p .size))) ∙ e);
+  beyond = λ j g. other j (omega arith) ∙ p .beyond j (omega arith);
 }
+  where
+    other : (j : ℕ) → (j ≡ k → ⊥) → toldAt (set vs k t) j ≡ toldAt vs j
+    other j q = ap (λ (u : Told). u .verdict) (getD-set-other vs k j t untold q)
 
-pub telling-all : (n : ℕ) (f : ℕ → Verdict) (vs : List ℕ) (k : ℕ) → n ≤ k → Telling n f vs k → Verdicts n f vs
+pub telling-all : (n : ℕ) (f : ℕ → Verdict) (vs : List Told) (k : ℕ) → n ≤ k → Telling n f vs k → Verdicts n f vs
 telling-all n f vs k h p = record { size = p .size; each = λ j g. p .each j (omega arith); beyond = λ j g. p .beyond j (omega (arith, p .within)) }
 
-pub verdicts-as : (n : ℕ) (f g : ℕ → Verdict) (vs : List ℕ) → ((k : ℕ) → k < n → f k ≡ g k) → Verdicts n f vs → Verdicts n g vs
-verdicts-as n f g vs e t = record { size = t .size; each = λ k h. t .each k h ∙ ap verdictNo (e k h); beyond = t .beyond }
+pub verdicts-as : (n : ℕ) (f g : ℕ → Verdict) (vs : List Told) → ((k : ℕ) → k < n → f k ≡ g k) → Verdicts n f vs → Verdicts n g vs
+verdicts-as n f g vs e t = record { size = t .size; each = λ k h. t .each k h ∙ e k h; beyond = t .beyond }

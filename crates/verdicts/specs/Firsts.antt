@@ -5,7 +5,6 @@ use mathlib.Core.List.{List}
 use mathlib.Core.Option.{Option}
 use Prim.Native.Nat.{ℕ, _*_, _<_}
 use lib.ListN.{length}
-use Rattle.words.specs.Bits.{bit}
 use Rattle.words.specs.Below.{anyBelow}
 use Rattle.completions.specs.Live.{Pairs}
 use Rattle.completions.specs.Steps.{Within}
@@ -20,6 +19,6 @@ pub record Words (w : ℕ) (f : List ℕ) (g : ℕ → Bool) : Type 0 where
   pub size : length f ≡ 4
   pub bits : (b : ℕ) → b < 64 * w → rowBit f 0 b ≡ g b
 
--- some valuation of the first w words has v in stream q
-unfoldable pub shows : ℕ → List ℕ → ℕ → Bool → Bool
-shows w f q v = anyBelow (64 * w) (λ b. rowBit f 0 b && Bool·beq (bit q b) v)
+-- the test g gives v for some valuation of the first w words
+unfoldable pub shows : ℕ → List ℕ → (ℕ → Bool) → Bool → Bool
+shows w f g v = anyBelow (64 * w) (λ b. rowBit f 0 b && Bool·beq (g b) v)

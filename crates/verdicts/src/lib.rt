@@ -1,27 +1,31 @@
-// Verdicts read off the reached set, the set at word 1,028 of the storage: of a round over the first parts of its pairs, of a closing over those
+// Verdicts read off the reached set: of a round over the first parts of its pairs, of a closing over those
 // that the end mark follows.
 ghost use mathlib.Core.Path.{_≡_};
-ghost use mathlib.Core.Bool.{true, false, _&&_, _||_};
+ghost use mathlib.Core.Bool.{Bool, true, false, _&&_, _||_};
 ghost use mathlib.Core.Option.{none};
 ghost use Prim.Native.Nat.{ℕ, _+_, _*_, _^_, _<_, _≤_};
 ghost use lib.Dec.{eqb, ltb};
 ghost use lib.ListN.{length};
 ghost use Rattle.words.specs.Bits.{bit};
 ghost use Rattle.completions.specs.Steps.{anyNext, verdictOf, pairsVerdict, endsVerdict};
-ghost use Rattle.pairs.specs.Storage.{stored};
-ghost use Rattle.refusal.specs.Numbers.{verdictNo, Verdicts};
+ghost use Rattle.pairs.specs.Storage.{storageWords, reached};
+ghost use Rattle.pairs.specs.Changes.{rowBit};
+ghost use Rattle.refusal.specs.Numbers.{Verdicts};
 ghost use Rattle.rounds.specs.Rows.{among, Wide};
 ghost use Rattle.verdicts.specs.Firsts.{Passing, Words, shows};
+use refusal::Told;
+use refusal::Verdict;
+use sheet::OutputNo;
 
 // Whether some pair of the reached set has the first part a; v valuations, w words to a row.
 fn is_first(s: &[u64], v: usize, w: usize, a: usize) -> bool
-    requires { ⌜ Wide v w × (a < 256) × (3084 ≤ length (now s)) ⌝ }
-    ensures { λ r. ⌜ r ≡ anyNext v (stored (now (s .entry)) 1028 a) ⌝ }
+    requires { ⌜ Wide v w × (a < 256) × (storageWords ≤ length (now s)) ⌝ }
+    ensures { λ r. ⌜ r ≡ anyNext v (reached (now (s .entry)) a) ⌝ }
 {
-    if pairs::has_end(s, 1028, a) {
+    if pairs::has_end(s, pairs::REACHED, a) {
         return true;
     }
-    rounds::row_lanes(s, 1028, w, a) & words::lanes_below(v, 0) != 0
+    rounds::row_lanes(s, pairs::REACHED, w, a) & words::lanes_below(v, 0) != 0
 }
 
 // x with lane i set as well, where b.
@@ -34,8 +38,8 @@ fn with_lane(x: u64, i: usize, b: bool) -> u64
 
 // The lanes i for which 64 * j + i was heard and is a first part of the reached set.
 fn firsts_word(s: &[u64], v: usize, w: usize, letters: u64, j: usize) -> u64
-    requires { ⌜ Wide v w × (j < 4) × (3084 ≤ length (now s)) ⌝ }
-    ensures { λ r. ⌜ ((i : ℕ) → i < 64 → bit i r ≡ ((ltb (64 * j + i) v && among letters (64 * j + i)) && anyNext v (stored (now (s .entry)) 1028 (64 * j + i)))) ⌝ }
+    requires { ⌜ Wide v w × (j < 4) × (storageWords ≤ length (now s)) ⌝ }
+    ensures { λ r. ⌜ ((i : ℕ) → i < 64 → bit i r ≡ ((ltb (64 * j + i) v && among letters (64 * j + i)) && anyNext v (reached (now (s .entry)) (64 * j + i)))) ⌝ }
 {
     let mut word: u64 = 0;
     let mut rest = words::lanes_below(v, j) & letters;
@@ -50,8 +54,8 @@ fn firsts_word(s: &[u64], v: usize, w: usize, letters: u64, j: usize) -> u64
 
 // The first parts of the reached set that were heard, in w words.
 fn firsts(s: &[u64], v: usize, w: usize, letters: u64) -> [u64; 4]
-    requires { ⌜ Wide v w × (3084 ≤ length (now s)) ⌝ }
-    ensures { λ r. ⌜ Words w r (λ b. (ltb b v && among letters b) && anyNext v (stored (now (s .entry)) 1028 b)) ⌝ }
+    requires { ⌜ Wide v w × (storageWords ≤ length (now s)) ⌝ }
+    ensures { λ r. ⌜ Words w r (λ b. (ltb b v && among letters b) && anyNext v (reached (now (s .entry)) b)) ⌝ }
 {
     let mut f = [0u64; 4];
     let mut j: usize = 0;
@@ -64,26 +68,26 @@ fn firsts(s: &[u64], v: usize, w: usize, letters: u64) -> [u64; 4]
 
 // The valuations that the end mark follows in the reached set, in w words.
 fn ends(s: &[u64], v: usize, w: usize) -> [u64; 4]
-    requires { ⌜ (v ≤ 256) × (w ≤ 4) × (3084 ≤ length (now s)) ⌝ }
-    ensures { λ r. ⌜ Words w r (λ b. ltb b v && stored (now (s .entry)) 1028 b none) ⌝ }
+    requires { ⌜ (v ≤ 256) × (w ≤ 4) × (storageWords ≤ length (now s)) ⌝ }
+    ensures { λ r. ⌜ Words w r (λ b. ltb b v && reached (now (s .entry)) b none) ⌝ }
 {
     let mut f = [0u64; 4];
     let mut j: usize = 0;
     while j < w {
-        f[j] = s[1028 + (1024 + j)] & words::lanes_below(v, j);
+        f[j] = s[pairs::REACHED + (1024 + j)] & words::lanes_below(v, j);
         j += 1;
     }
     f
 }
 
-// Whether some valuation of the w words has b in stream q.
-fn shown(f: &[u64], w: usize, q: usize, b: bool) -> bool
-    requires { ⌜ (w ≤ 4) × (q < 8) × (length (now f) ≡ 4) ⌝ }
-    ensures { λ r. ⌜ r ≡ shows w (now (f .entry)) q b ⌝ }
+// Whether the test gives b for some valuation of the w words; it is a row of words too, with the valuations that pass it.
+fn shown(f: &[u64], w: usize, test: &[u64], b: bool) -> bool
+    requires { ⌜ (w ≤ 4) × (length (now f) ≡ 4) × (length (now test) ≡ 4) ⌝ }
+    ensures { λ r. ⌜ r ≡ shows w (now (f .entry)) (rowBit (now (test .entry)) 0) b ⌝ }
 {
     let mut j: usize = 0;
     while j < w {
-        let p = words::agree(words::stream_word(q, j), b);
+        let p = words::agree(test[j], b);
         if f[j] & p != 0 {
             return true;
         }
@@ -92,43 +96,57 @@ fn shown(f: &[u64], w: usize, q: usize, b: bool) -> bool
     false
 }
 
-// The number of the verdict on stream q over the valuations of the w words.
-fn verdict(f: &[u64], w: usize, q: usize) -> u8
-    requires { ⌜ (w ≤ 4) × (q < 8) × (length (now f) ≡ 4) ⌝ }
-    ensures { λ r. ⌜ r ≡ verdictNo (verdictOf (shows w (now (f .entry)) q true) (shows w (now (f .entry)) q false)) ⌝ }
+// The verdict on any test of a valuation, over those of the w words.
+fn verdict(f: &[u64], w: usize, test: &[u64]) -> Verdict
+    requires { ⌜ (w ≤ 4) × (length (now f) ≡ 4) × (length (now test) ≡ 4) ⌝ }
+    ensures { λ r. ⌜ ((g : ℕ → Bool) → Words w (now (test .entry)) g → r ≡ verdictOf (shows w (now (f .entry)) g true) (shows w (now (f .entry)) g false)) ⌝ }
 {
-    let yes = shown(f, w, q, true);
-    let no = shown(f, w, q, false);
-    if yes {
-        if no {
-            return 2;
+    if shown(f, w, test, true) {
+        if shown(f, w, test, false) {
+            return Verdict::Open;
         }
-        return 1;
+        return Verdict::True;
     }
-    if no {
-        return 0;
+    if shown(f, w, test, false) {
+        return Verdict::False;
     }
-    3
+    Verdict::Broken
 }
 
-// The verdicts on the n outputs, streams m on.
-fn verdicts(f: &[u64], w: usize, m: usize, n: usize) -> [u8; 7]
-    requires { ⌜ (w ≤ 4) × (m + n ≤ 8) × (n ≤ 7) × (length (now f) ≡ 4) ⌝ }
-    ensures { λ r. ⌜ Verdicts n (λ k. verdictOf (shows w (now (f .entry)) (m + k) true) (shows w (now (f .entry)) (m + k) false)) r ⌝ }
+// The test that an output is: the valuations that have a 1 in its stream.
+fn output_test(m: usize, k: OutputNo) -> [u64; 4]
+    requires { ⌜ m + k .0 < 8 ⌝ }
+    ensures { λ r. ⌜ Words 4 r (bit (m + k .0)) ⌝ }
 {
-    let mut vs = [0u8; 7];
+    let stream = sheet::stream_of(m as u8, k);
+    let q = stream.0 as usize;
+    let w0 = words::stream_word(q, 0);
+    let w1 = words::stream_word(q, 1);
+    let w2 = words::stream_word(q, 2);
+    let w3 = words::stream_word(q, 3);
+    [w0, w1, w2, w3]
+}
+
+// The verdicts on the n outputs.
+fn verdicts(f: &[u64], w: usize, m: usize, n: usize) -> [Told; 7]
+    requires { ⌜ (w ≤ 4) × (m + n ≤ 8) × (n ≤ 7) × (length (now f) ≡ 4) ⌝ }
+    ensures { λ r. ⌜ Verdicts n (λ k. verdictOf (shows w (now (f .entry)) (bit (m + k)) true) (shows w (now (f .entry)) (bit (m + k)) false)) r ⌝ }
+{
+    let mut vs = refusal::untold();
     let mut k: usize = 0;
     while k < n {
-        vs[k] = verdict(f, w, lanes::output_stream(m, k));
+        let test = output_test(m, OutputNo(k as u8));
+        let found = verdict(f, w, &test);
+        vs[k] = Told { verdict: found };
         k += 1;
     }
     vs
 }
 
 // Each output's verdict over the reached set, where only valuations that were heard are first parts.
-pub fn round_verdicts(s: &[u64], m: usize, n: usize, letters: u64) -> [u8; 7]
-    requires { ⌜ (m + n ≤ 8) × (n ≤ 7) × (3084 ≤ length (now s)) ⌝ }
-    ensures { λ r. ⌜ (Passing (2 ^ (m + n)) (among letters) (stored (now (s .entry)) 1028) → Verdicts n (λ k. pairsVerdict (2 ^ (m + n)) (stored (now (s .entry)) 1028) (bit (m + k))) r) ⌝ }
+pub fn round_verdicts(s: &[u64], m: usize, n: usize, letters: u64) -> [Told; 7]
+    requires { ⌜ (m + n ≤ 8) × (n ≤ 7) × (storageWords ≤ length (now s)) ⌝ }
+    ensures { λ r. ⌜ (Passing (2 ^ (m + n)) (among letters) (reached (now (s .entry))) → Verdicts n (λ k. pairsVerdict (2 ^ (m + n)) (reached (now (s .entry))) (bit (m + k))) r) ⌝ }
 {
     let v = rounds::valuations(m, n);
     let w = rounds::row_words(m, n);
@@ -137,9 +155,9 @@ pub fn round_verdicts(s: &[u64], m: usize, n: usize, letters: u64) -> [u8; 7]
 }
 
 // Each output's verdict over the pairs of the reached set with the end mark.
-pub fn closing_verdicts(s: &[u64], m: usize, n: usize) -> [u8; 7]
-    requires { ⌜ (m + n ≤ 8) × (n ≤ 7) × (3084 ≤ length (now s)) ⌝ }
-    ensures { λ r. ⌜ Verdicts n (λ k. endsVerdict (2 ^ (m + n)) (stored (now (s .entry)) 1028) (bit (m + k))) r ⌝ }
+pub fn closing_verdicts(s: &[u64], m: usize, n: usize) -> [Told; 7]
+    requires { ⌜ (m + n ≤ 8) × (n ≤ 7) × (storageWords ≤ length (now s)) ⌝ }
+    ensures { λ r. ⌜ Verdicts n (λ k. endsVerdict (2 ^ (m + n)) (reached (now (s .entry))) (bit (m + k))) r ⌝ }
 {
     let v = rounds::valuations(m, n);
     let w = rounds::row_words(m, n);

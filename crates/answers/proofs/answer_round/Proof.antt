@@ -1,9 +1,8 @@
 -- `answers::answer_round` meets its contract.
-use borrow.Author.Needs.{needs}
 use denote.Ref.{now}
 use Rattle.sheet.specs.Reading.{ruleSheet}
-use Rattle.claims.specs.ReadSheet.{RoundRead}
-use Rattle.answers.proofs.Serving.{serves-step, round-step, round-kept, after-form}
+use Rattle.answers.proofs.Serving.{serves-step, round-step, round-kept}
+use borrow.Author.Needs.{needs}
 use Rattle.answers.proofs.answer_round.Statement.{statement}
 use Rattle.answers.proofs.answer_round.Tie as tie
 use Rattle.answers.proofs.answer_round.Reads as reads
@@ -17,15 +16,15 @@ same-length : tie.Need-same-length
 same-length c = search needs
 
 returns : tie.Need-returns
-returns c =
-    let a = c .before .before .before .before .before .args in
+returns c = 
+    let start = c .before .before .before .before .before in
+    let a = start .args in
     let s = now (a .storage) in
-    let p = c .before .before .round-on .result in
-    let t = c .before .before .round-on .last .1 .0 in
-    let e = c .before .before .round-on .ensures in
-    let g : RoundRead (a .x) s t (a .r) (a .known) (a .value) p = (after-form (a .x) (c .before .before .before .before .before .pre) _ _ (e .0), e .1) in (
-      λ sheet b o sv. serves-step sheet (ruleSheet (a .x)) b _ sv _ _ _ (round-step sheet (a .x) o s t (a .r) (a .known) (a .value) p g),
-      round-kept (a .x) s t (a .r) (a .known) (a .value) p g,
+    let call = c .before .before .round-on in
+    let t = call .last .1 .0 in
+    let p = call .result in (
+      λ sheet b o sv. serves-step sheet (ruleSheet (a .x)) b _ sv _ _ _ (round-step sheet (a .x) o s t (a .r) (a .known) (a .value) p (call .ensures sheet o)),
+      round-kept (start .pre .0) s t (a .r) (a .known) (a .value) p (call .ensures (start .pre .0) (start .pre .1)),
     )
 
 pub answer-round-spec : {M : Type 1} → statement M

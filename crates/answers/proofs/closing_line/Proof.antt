@@ -1,9 +1,9 @@
 -- `answers::closing_line` meets its contract.
 use mathlib.Core.Path.{refl, sym}
 use native.Mathlib.Omega.{arith}
-use borrow.Author.Needs.{needs}
 use Rattle.accepted.proofs.Rounding.{sheet-outputs}
 use Rattle.answers.proofs.LineEnds.{refused-ends, closing-ends, room-least, over-bound}
+use borrow.Author.Needs.{needs}
 use Rattle.answers.proofs.closing_line.Statement.{statement}
 use Rattle.answers.proofs.closing_line.Tie as tie
 use Rattle.answers.proofs.closing_line.Reads as reads
@@ -31,16 +31,14 @@ slice-aggregate-closing c = search needs
 slice-aggregate-closing-2 : tie.Need-slice-aggregate-closing-2
 slice-aggregate-closing-2 c = search needs
 
-slice-aggregate-closing-3 : tie.Need-slice-aggregate-closing-3
-slice-aggregate-closing-3 c = search needs
-
 cast-closing : tie.Need-cast-closing
 cast-closing c = search needs
 
 closing-requires : tie.Need-closing-requires
-closing-requires c κs =
-    let k = rw (c .before .before .before .before .before .before .before .before .before .enum-told .given .1) at (c .before .before .before .before .before .before .before .before .before .before .before .answer-closing .ensures .1) in
-    (c .before .before .before .before .before .before .before .before .before .before .before .before .before .before .pre .0 .ranges .outputs, k .3, search (needs, c .before .before .before .before .before .before .before .before .before .before .before .before .before .before .good .1 .1 .0), k .4, omega (arith, rw (k .0) at (c .before .before .before .before .before .before .before .before .before .before .before .before .before .before .pre .1)))
+closing-requires c κs = 
+    let start = c .before .before .before .before .before .before .before .before .before .before .before .before .before in
+    let k = rw (c .before .before .before .before .before .before .before .before .enum-told .given .1) at (c .before .before .before .before .before .before .before .before .before .before .answer-closing .ensures .1) in
+    (start .pre .0 .1 .usable .ranges .outputs, search (needs, start .good .1 .1 .0), k .3, omega (arith, rw (k .0) at (start .pre .1)))
 
 next-line-requires : tie.Need-next-line-requires
 next-line-requires c κs = search needs
@@ -49,7 +47,7 @@ same-length : tie.Need-same-length
 same-length c = search needs
 
 returns : tie.Need-returns
-returns c =
+returns c = 
     let after-outcome = c .before .before .before .before .before in
     let after-answer-closing = after-outcome .before .before in
     let r = c .before .before .refused-line .result in
@@ -63,9 +61,9 @@ same-length-2 : tie.Need-same-length-2
 same-length-2 c = search needs
 
 returns-2 : tie.Need-returns-2
-returns-2 c =
+returns-2 c = 
     let after-closing = c .before .before .before in
-    let after-enum-told = after-closing .before .before .before .before .before .before .before .before .before .before in
+    let after-enum-told = after-closing .before .before .before .before .before .before .before .before .before in
     let after-answer-closing = after-enum-told .before .before in
     let start = after-answer-closing .before .before .before in
     let k = rw (after-enum-told .enum-told .given .1) at (after-answer-closing .answer-closing .ensures .1) in (
@@ -83,7 +81,6 @@ closing-line-spec =
     enum-told
     slice-aggregate-closing
     slice-aggregate-closing-2
-    slice-aggregate-closing-3
     cast-closing
     closing-requires
     next-line-requires

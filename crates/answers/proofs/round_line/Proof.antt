@@ -1,8 +1,8 @@
 -- `answers::round_line` meets its contract.
 use mathlib.Core.Path.{refl}
 use native.Mathlib.Omega.{arith}
-use borrow.Author.Needs.{needs}
 use Rattle.answers.proofs.LineEnds.{refused-ends, round-ends, room-least, over-bound}
+use borrow.Author.Needs.{needs}
 use Rattle.answers.proofs.round_line.Statement.{statement}
 use Rattle.answers.proofs.round_line.Tie as tie
 use Rattle.answers.proofs.round_line.Reads as reads
@@ -24,19 +24,11 @@ refused-line-requires c κs = omega (arith, room-least (c .before .before .befor
 enum-told : tie.Need-enum-told
 enum-told c = search needs
 
-slice-aggregate-verdict-line : tie.Need-slice-aggregate-verdict-line
-slice-aggregate-verdict-line c = search needs
-
 cast-verdict-line : tie.Need-cast-verdict-line
 cast-verdict-line c = search needs
 
 verdict-line-requires : tie.Need-verdict-line-requires
-verdict-line-requires c κs =
-    let after-enum-told = c .before .before .before .before .before in
-    let after-answer-round = after-enum-told .before .before .before .before in
-    let k = rw (after-enum-told .enum-told .given .1) at (after-answer-round .answer-round .ensures .1) in
-    let n = after-answer-round .before .before .before .before .pre .0 .ranges .outputs in
-    (omega (arith, k .1), omega arith)
+verdict-line-requires c κs = search needs
 
 next-line-requires : tie.Need-next-line-requires
 next-line-requires c κs = search needs
@@ -48,7 +40,7 @@ same-length-2 : tie.Need-same-length-2
 same-length-2 c = search needs
 
 returns : tie.Need-returns
-returns c =
+returns c = 
     let after-outcome = c .before .before .before .before .before in
     let after-answer-round = after-outcome .before .before .before .before in
     let r = c .before .before .refused-line .result in
@@ -65,14 +57,14 @@ same-length-4 : tie.Need-same-length-4
 same-length-4 c = search needs
 
 returns-2 : tie.Need-returns-2
-returns-2 c =
+returns-2 c = 
     let after-verdict-line = c .before .before .before in
-    let after-enum-told = after-verdict-line .before .before .before .before .before .before in
+    let after-enum-told = after-verdict-line .before .before .before .before .before in
     let after-answer-round = after-enum-told .before .before .before .before in
     let k = rw (after-enum-told .enum-told .given .1) at (after-answer-round .answer-round .ensures .1) in
-    let n = after-answer-round .before .before .before .before .pre .0 .ranges .outputs in (
+    let n = after-answer-round .before .before .before .before .pre .0 .1 .usable .ranges .outputs in (
       λ sheet b part o sv l. round-ends sheet _ b _ part _ _ _ _ _ refl (c .next-line .ensures) _ _ l (rw (after-enum-told .enum-told .given .1) at (after-answer-round .answer-round .ensures .0 sheet b o sv)) (after-verdict-line .verdict-line .ensures .0),
-      rw (k .0) (omega (arith, after-verdict-line .verdict-line .ensures .1)),
+      rw k (omega (arith, after-verdict-line .verdict-line .ensures .1)),
     )
 
 pub round-line-spec : {M : Type 1} → statement M
@@ -83,7 +75,6 @@ round-line-spec =
     enum-known-outcome
     refused-line-requires
     enum-told
-    slice-aggregate-verdict-line
     cast-verdict-line
     verdict-line-requires
     next-line-requires

@@ -45,7 +45,8 @@ returns-2 c =
     let e = sym (rw t at (r .ensures .0)) in
     let u = rw t at (r .ensures .1 .0) in
     let n : CircularSheet (ruleSheet x) → ⊥ = λ k. c .before .is-circular .ensures .1 (c .if1 .left) (circular-sheet x u k) in
-    rw t (level _ (ruleSheet x) e n, (record { reads = e; usable = u; level = n }, tt))
+    let d = level _ (ruleSheet x) e n in
+    rw t (d, (record { decided = d; reads = e; usable = u; level = n }, tt))
 
 returns-3 : tie.Need-returns-3
 returns-3 c =

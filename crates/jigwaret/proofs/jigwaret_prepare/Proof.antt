@@ -24,8 +24,8 @@ use Rattle.refusal.proofs.refusal_number.Reads as refusal-number-reads
 abbrev entry : tie.Else1 → tie.Start
 entry c = c .before .before .before .before .before .before
 
-fits : (c : tie.Else1) → Sizes (now (entry c .args .journal)) (now (entry c .args .answer))
-fits c = sizes-tested (now (entry c .args .journal)) (now (entry c .args .answer)) (c .before .sized .result) (c .before .sized .ensures) (c .if1 .left)
+fits : (c : tie.Else1) → Sizes (now (entry c .args .record)) (now (entry c .args .answer))
+fits c = sizes-tested (now (entry c .args .record)) (now (entry c .args .answer)) (c .before .sized .result) (c .before .sized .ensures) (c .if1 .left)
 
 sized-requires : tie.Need-sized-requires
 sized-requires c κs = search needs
@@ -33,7 +33,7 @@ sized-requires c κs = search needs
 returns : tie.Need-returns
 returns c =
     let a = c .before .before .before .before .before .before .args in
-    sizes-wrong (PreparationNumbered (now (a .sheet)) (now (a .storage)) (now (a .storage)) (slices (now (a .journal)) (now (a .journal)) (now (a .answer)) (now (a .answer))) 255) (now (a .storage)) (now (a .journal)) (now (a .answer)) (c .before .sized .result) (c .before .sized .ensures) (c .if1 .taken)
+    sizes-wrong (PreparationNumbered (now (a .sheet)) (now (a .storage)) (now (a .storage)) (slices (now (a .record)) (now (a .record)) (now (a .answer)) (now (a .answer))) 255) (now (a .storage)) (now (a .record)) (now (a .answer)) (c .before .sized .result) (c .before .sized .ensures) (c .if1 .taken)
 
 prepare-requires : tie.Need-prepare-requires
 prepare-requires c κs = search needs
@@ -61,7 +61,7 @@ returns-2 c =
     let d = c .before .before .before .before .before .before .before .before in
     let a = entry d .args in
     let p = c .before .before .before .before .before .before .prepare in
-    let z = slices (now (a .journal)) (now (a .journal)) (now (a .answer)) (now (a .answer)) in
+    let z = slices (now (a .record)) (now (a .record)) (now (a .answer)) (now (a .answer)) in
     let e = c .before .before .outcome .given .1 in
     sizes-right (PreparationNumbered (now (a .sheet)) (now (a .storage)) (p .last .1 .0) z (c .refusal-number .result)) (now (a .storage)) (p .last .1 .0) z (c .refusal-number .result) (fits d)
     (record {
@@ -88,7 +88,7 @@ returns-3 c =
     let a = entry d .args in
     let p = after-prepare .prepare in
     let n = c .before .before .store .last .0 in
-    let z = slices (now (a .journal)) n (now (a .answer)) (set (now (a .answer)) 0 (p .result .live)) in
+    let z = slices (now (a .record)) n (now (a .answer)) (set (now (a .answer)) 0 (p .result .live)) in
     let e = after-enum-told .enum-told .given .1 in
     sizes-right (PreparationNumbered (now (a .sheet)) (now (a .storage)) (p .last .1 .0) z 0) (now (a .storage)) (p .last .1 .0) z 0 (fits d)
     (record {

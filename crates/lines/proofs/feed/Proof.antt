@@ -7,7 +7,8 @@ use lib.ListN.{length, take}
 use lib.Seq.{take-all}
 use borrow.Author.Needs.{needs}
 use denote.Ref.{now}
-use Rattle.answers.specs.LineEnd.{held, room}
+use Rattle.claims.specs.Session.{held}
+use Rattle.answers.specs.LineEnd.{room}
 use Rattle.lines.proofs.Feeding.{Way, seen-more, wrote-more, byte-more, line-more, line-over, over-all, stands-over, stands-midway, room-most}
 use Rattle.lines.proofs.feed.Statement.{statement}
 use Rattle.lines.proofs.feed.Tie as tie
@@ -29,7 +30,7 @@ returns : tie.Need-returns Inv-loop μ-loop
 returns c = (λ sheet seen wrote st. stands-over sheet _ _ _ seen wrote st _ (c .if1 .taken), omega arith)
 
 loop-holds : tie.Need-loop-holds Inv-loop μ-loop
-loop-holds c = (omega arith, refl, omega (arith, room-most (c .before .before .before .before .before .before .args .s .record .closed)), refl, refl, λ sheet seen wrote o m. rw (append-nil seen, append-nil wrote) m)
+loop-holds c = (omega arith, refl, omega (arith, room-most (c .before .before .before .before .before .args .s .record .closed)), refl, refl, λ sheet seen wrote o m. rw (append-nil seen, append-nil wrote) m)
 
 shared-slice-read-b : tie.Need-shared-slice-read-b Inv-loop μ-loop
 shared-slice-read-b c = search needs
@@ -38,7 +39,7 @@ add-i : tie.Need-add-i Inv-loop μ-loop
 add-i c = search needs
 
 scan-requires : tie.Need-scan-requires Inv-loop μ-loop
-scan-requires c κs = omega (arith, c .before .before .before .loop .inv .1, c .before .before .before .before .before .before .before .before .before .before .pre .0 .ranges .inputs)
+scan-requires c κs = omega (arith, c .before .before .before .loop .inv .1, c .before .before .before .before .before .before .before .before .before .pre .0 .1 .usable .ranges .inputs)
 
 loop-less : tie.Need-loop-less Inv-loop μ-loop
 loop-less c = search needs
@@ -52,14 +53,14 @@ loop-again c =
       l .inv .3,
       l .inv .4,
       λ sheet seen wrote o m.
-          rw (seen-more seen (now (c .before .before .before .before .before .before .before .before .before .before .before .args .chunk)) (l .i) (c .before .before .before .loop-test .taken))
+          rw (seen-more seen (now (c .before .before .before .before .before .before .before .before .before .before .args .chunk)) (l .i) (c .before .before .before .loop-test .taken))
           (byte-more sheet _ _ _ _ _ _ (l .inv .5 sheet seen wrote o m) _ _ (c .before .if2 .taken) (rw (l .inv .1) at (c .scan .ensures))),
     )
 
 line-end-requires : tie.Need-line-end-requires Inv-loop μ-loop
 line-end-requires c κs =
     let tested = c .before .before .before .before in
-    let start = tested .before .before .before .before .before .before .before .before in
+    let start = tested .before .before .before .before .before .before .before in
     let l = tested .before .loop in (start .pre .0, omega (arith, l .inv .2, l .inv .3, tested .loop-test .taken, start .pre .1))
 
 empty-requires : tie.Need-empty-requires Inv-loop μ-loop
@@ -76,7 +77,7 @@ returns-2 c =
     let after-if2 = c .before .before .before .before .before .before .before .before .before .before in
     let tested = after-if2 .before .before in
     let after-if1 = tested .before .before in
-    let start = after-if1 .before .before .before .before .before .before in
+    let start = after-if1 .before .before .before .before .before in
     let l = tested .before .loop in
     let e = c .before .before .before .before .before .before .before .line-end in (
       λ sheet seen wrote st.
@@ -98,7 +99,7 @@ loop-again-2 : tie.Need-loop-again-2 Inv-loop μ-loop
 loop-again-2 c =
     let after-if2 = c .before .before .before .before .before .before .before .before .before .before in
     let tested = after-if2 .before .before in
-    let start = tested .before .before .before .before .before .before .before .before in
+    let start = tested .before .before .before .before .before .before .before in
     let l = tested .before .loop in
     let e = c .before .before .before .before .before .before .before .line-end in (
       omega arith,
@@ -121,7 +122,7 @@ same-length-4 c = search needs
 
 returns-3 : tie.Need-returns-3 Inv-loop μ-loop
 returns-3 c =
-    let start = c .before .before .before .before .before .before .before .before in
+    let start = c .before .before .before .before .before .before .before in
     let l = c .before .loop in (
       λ sheet seen wrote st.
           record {

@@ -22,14 +22,14 @@ is-blank-requires c κs = search needs
 returns-2 : tie.Need-returns-2
 returns-2 c = (
   λ sheet seen wrote st.
-      let m = stands-midway sheet _ _ _ seen wrote st (c .before .before .before .before .if1 .left) in
+      let m = stands-midway sheet _ _ _ seen wrote st (c .before .before .before .if1 .left) in
       none-last sheet _ _ _ _ seen wrote m (c .before .is-blank .ensures .0 (c .if2 .taken) _ (m .part) (m .scanned)),
   omega arith,
 )
 
 line-end-requires : tie.Need-line-end-requires
 line-end-requires c κs =
-    let start = c .before .before .before .before .before .before .before .before .before in
+    let start = c .before .before .before .before .before .before .before .before in
     (start .pre .0, omega (arith, room-most (start .args .s .record .closed), start .pre .1))
 
 same-length : tie.Need-same-length
@@ -42,7 +42,7 @@ returns-3 : tie.Need-returns-3
 returns-3 c =
     let after-if2 = c .before .before .before .before .before .before .before in
     let after-is-blank = after-if2 .before in
-    let after-if1 = after-is-blank .before .before .before in
+    let after-if1 = after-is-blank .before .before in
     let start = after-if1 .before .before .before in
     let e = c .before .before .before .before .line-end in (
       λ sheet seen wrote st.

@@ -3,7 +3,6 @@ use mathlib.Core.Path.{refl}
 use native.Mathlib.Omega.{arith}
 use borrow.Author.Needs.{needs}
 use denote.Ref.{now}
-use Rattle.claims.specs.ReadSheet.{Accepts}
 use Rattle.answers.proofs.Serving.{serves-prepared}
 use Rattle.lines.proofs.Feeding.{refused-start, midway-start}
 use Rattle.lines.proofs.start.Statement.{statement}
@@ -12,7 +11,7 @@ use Rattle.lines.proofs.start.Reads as reads
 use Rattle.lines.proofs.start.Lts as lts
 use Rattle.circular.proofs.accept_sheet.Reads as accept-sheet-reads
 use Rattle.pending.proofs.Pending.empty.Reads as empty-reads
-use Rattle.monitor.proofs.prepare_read.Reads as prepare-read-reads
+use Rattle.monitor.proofs.prepare_on.Reads as prepare-on-reads
 use Rattle.record.proofs.JournalRecord.fresh.Reads as fresh-reads
 use Rattle.text.proofs.sheet_refusal.Reads as sheet-refusal-reads
 
@@ -34,8 +33,8 @@ fresh-requires c κs = search needs
 enum-told : tie.Need-enum-told
 enum-told c = search needs
 
-prepare-read-requires : tie.Need-prepare-read-requires
-prepare-read-requires c κs = search needs
+prepare-on-requires : tie.Need-prepare-on-requires
+prepare-on-requires c κs = (_, rw (c .before .enum-told .given .1) at (c .before .before .before .before .before .accept-sheet .ensures .1 .0))
 
 same-length : tie.Need-same-length
 same-length c = search needs
@@ -60,9 +59,8 @@ returns-2 c =
     let acc = rw e at (after-accept-sheet .accept-sheet .ensures .1 .0) in
     let bs = now (start .args .sheet) in
     let x = after-accept-sheet .accept-sheet .result .sheet in
-    let o : Accepts bs x = record { decided = rw e at (after-accept-sheet .accept-sheet .ensures .0); read = acc } in
-    let p = c .before .before .before .prepare-read in
-    (rw e (acc .usable, refl, record { accepts = o; place = midway-start bs x _ _ o (serves-prepared bs x o _ _ (p .result) (start .pre .0) (p .ensures)) (after-empty .empty .ensures _) }), omega arith)
+    let p = c .before .before .before .prepare-on in
+    (rw e ((bs, acc), refl, record { accepts = acc; place = midway-start bs x _ _ acc (serves-prepared bs x acc _ _ (p .result) (start .pre .0) (p .ensures bs acc)) (after-empty .empty .ensures _) }), omega arith)
 
 pub start-spec : {M : Type 1} → statement M
 start-spec =
@@ -74,7 +72,7 @@ start-spec =
     sheet-refusal-requires
     fresh-requires
     enum-told
-    prepare-read-requires
+    prepare-on-requires
     same-length
     returns
     same-length-2

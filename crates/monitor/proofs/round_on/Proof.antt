@@ -1,17 +1,16 @@
 -- `monitor::round_on` meets its contract.
-use mathlib.Core.Path.{refl}
-use borrow.Author.Needs.{needs}
 use denote.Ref.{now}
-use Rattle.sheet.specs.Reading.{ruleSheet}
-use Rattle.checks.specs.Checks.{given}
-use Rattle.accepted.specs.Results.{RoundDone}
-use Rattle.monitor.proofs.Entries.{round-accepted}
+use Rattle.checks.proofs.Checking.{round-ready}
+use Rattle.monitor.proofs.Entries.{round-turned-down, round-done}
+use lib.ListN.{length}
+use borrow.Author.Needs.{needs}
 use Rattle.monitor.proofs.round_on.Statement.{statement}
 use Rattle.monitor.proofs.round_on.Tie as tie
 use Rattle.monitor.proofs.round_on.Reads as reads
 use Rattle.monitor.proofs.round_on.Lts as lts
 use Rattle.accepted.proofs.round.Reads as round-reads
 use Rattle.checks.proofs.check_round.Reads as check-round-reads
+use Rattle.letters.proofs.letters_of.Reads as letters-of-reads
 use Rattle.monitor.proofs.refused_round.Reads as refused-round-reads
 
 check-round-requires : tie.Need-check-round-requires
@@ -26,29 +25,33 @@ refused-round-requires c κs = search needs
 enum-told : tie.Need-enum-told
 enum-told c = search needs
 
+letters-of-requires : tie.Need-letters-of-requires
+letters-of-requires c κs = search needs
+
 round-requires : tie.Need-round-requires
-round-requires c κs = (c .before .before .before .before .before .pre, rw (c .before .enum-told .given .1) at (c .before .before .before .check-round .ensures .1))
+round-requires c κs = 
+    let start = c .before .before .before .before .before .before in
+    let a = start .args in
+    let d = rw (c .before .before .enum-told .given .1) at (c .before .before .before .before .check-round .ensures) in
+    let y = round-ready (a .x .inputs) (a .x .outputs) (length (now (a .storage))) (a .r) (a .known) (a .value) d in
+    (start .pre .1 .usable, y .long, y .right, y .room)
 
 returns : tie.Need-returns
-returns c =
-    let a = c .refused-round .ensures in
-    (rw (a .0) (rw (c .before .before .outcome .given .1) at (c .before .before .before .before .check-round .ensures .0)), rw (a .0) (refl, a .1, a .2))
+returns c = 
+    let a = c .before .before .before .before .before .before .args in
+    let d = rw (c .before .before .outcome .given .1) at (c .before .before .before .before .check-round .ensures) in
+    λ bs ok. round-turned-down bs (a .x) ok (a .r) (a .known) (a .value) (now (a .storage)) _ _ (c .refused-round .ensures) d
 
 same-length : tie.Need-same-length
 same-length c = search needs
 
 returns-2 : tie.Need-returns-2
-returns-2 c =
-    let after-enum-told = c .before .before .before .before in
-    let after-check-round = after-enum-told .before .before in
-    let start = after-check-round .before .before in
-    let a = c .before .before .round .ensures in
-    let p = c .before .before .round .result in
-    let s = now (start .args .storage) in
-    let t = c .before .before .round .last .1 .0 in (
-      rw (a .0) (rw (after-enum-told .enum-told .given .1) at (after-check-round .check-round .ensures .0)),
-      round-accepted (RoundDone (ruleSheet (start .args .x)) s t (start .args .r) (start .args .known) (start .args .value) p) s t (start .args .r) p (p .outcome) (a .0) (a .1),
-    )
+returns-2 c = 
+    let a = c .before .before .before .before .before .before .before .before .before .args in
+    let p = c .before .before .round in
+    let d = rw (c .before .before .before .before .before .enum-told .given .1) at (c .before .before .before .before .before .before .before .check-round .ensures) in
+    let y = round-ready (a .x .inputs) (a .x .outputs) (length (now (a .storage))) (a .r) (a .known) (a .value) d in
+    λ bs ok. round-done bs (a .x) ok (a .r) (a .known) (a .value) (now (a .storage)) (p .last .1 .0) (p .result) _ (p .ensures .0) d (y .masks) (c .before .before .before .letters-of .ensures) (p .ensures .1)
 
 pub round-on-spec : {M : Type 1} → statement M
 round-on-spec =
@@ -58,6 +61,7 @@ round-on-spec =
     enum-known-outcome
     refused-round-requires
     enum-told
+    letters-of-requires
     round-requires
     returns
     same-length

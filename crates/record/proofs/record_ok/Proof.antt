@@ -32,6 +32,9 @@ loop-holds c = (omega arith, refl)
 slice-aggregate-sum-at : tie.Need-slice-aggregate-sum-at Inv-loop μ-loop
 slice-aggregate-sum-at c = search needs
 
+cast-t11 : tie.Need-cast-t11 Inv-loop μ-loop
+cast-t11 c = omega arith
+
 sum-at-requires : tie.Need-sum-at-requires Inv-loop μ-loop
 sum-at-requires c κs = (omega arith, search needs)
 
@@ -74,6 +77,7 @@ record-ok-spec =
     wide-requires
     loop-holds
     slice-aggregate-sum-at
+    cast-t11
     sum-at-requires
     returns-2
     add-k

@@ -26,10 +26,10 @@ same-length c = search needs
 
 returns : tie.Need-returns
 returns c =
-    let after-byte = c .before .before .before .before .before .before in
+    let after-byte = c .before .before .before .before .before .before .before in
     let start = after-byte .before .before .before in
     let w = wrote-then (after-byte .byte .ensures) (c .before .before .spaced .ensures .0) in
-    (w, omega (arith, w .end, ap length (decimal-small (start .args .k) (omega arith))))
+    (w, omega (arith, w .end, ap length (decimal-small (start .args .k .0) (omega arith))))
 
 pub output-number-spec : {M : Type 1} → statement M
 output-number-spec =

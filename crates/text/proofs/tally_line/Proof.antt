@@ -13,6 +13,9 @@ use Rattle.text.proofs.output_number.Reads as output-number-reads
 use Rattle.text.proofs.put.byte.Reads as byte-reads
 use Rattle.text.proofs.put.spaced.Reads as spaced-reads
 
+cast-place : tie.Need-cast-place
+cast-place c = search needs
+
 mul-first : tie.Need-mul-first
 mul-first c = search needs
 
@@ -74,7 +77,15 @@ spaced-requires-5 : tie.Need-spaced-requires-5
 spaced-requires-5 c κs = search needs
 
 byte-requires : tie.Need-byte-requires
-byte-requires c κs = search needs
+byte-requires c κs =
+    let p5 = c .before .before .before in
+    let p4 = p5 .before .before .before .before .before in
+    let p3 = p4 .before .before .before .before .before in
+    let p2 = p3 .before .before .before .before .before in
+    let p1 = p2 .before .before .before .before .before in
+    let p0 = p1 .before .before .before .before .before in
+    let start = p0 .before .before .before .before .before .before in
+    omega (arith, p0 .output-number .ensures .0 .size, p0 .output-number .ensures .1, p1 .spaced .ensures .0 .size, p1 .spaced .ensures .1, p2 .spaced2 .ensures .0 .size, p2 .spaced2 .ensures .1, p3 .spaced3 .ensures .0 .size, p3 .spaced3 .ensures .1, p4 .spaced4 .ensures .0 .size, p4 .spaced4 .ensures .1, p5 .spaced5 .ensures .0 .size, p5 .spaced5 .ensures .1, start .pre .3)
 
 same-length : tie.Need-same-length
 same-length c = search needs
@@ -89,10 +100,10 @@ returns c =
     let p2 = p3 .before .before .before .before .before in
     let p1 = p2 .before .before .before .before .before in
     let p0 = p1 .before .before .before .before .before in
-    let a = p0 .before .before .before .before .before in
+    let a = p0 .before .before .before .before .before .before in
     let w = b .byte .ensures in (
       wrote-then (p0 .output-number .ensures .0)
-          (wrote-then (wrote-trues (now (a .args .counts)) (a .args .k) (p1 .spaced .ensures .0))
+          (wrote-then (wrote-trues (now (a .args .counts)) (a .args .k .0) (p1 .spaced .ensures .0))
           (wrote-then (p2 .spaced2 .ensures .0)
           (wrote-then (p3 .spaced3 .ensures .0)
           (wrote-then (p4 .spaced4 .ensures .0) (wrote-then (p5 .spaced5 .ensures .0) w))))),
@@ -103,6 +114,7 @@ pub tally-line-spec : {M : Type 1} → statement M
 tally-line-spec =
     tie.close
     (tie.spec
+    cast-place
     mul-first
     output-number-requires
     mul-spaced

@@ -22,6 +22,9 @@ abbrev μ-loop : tie.MeasureT-loop
 loop-holds : tie.Need-loop-holds Inv-loop μ-loop
 loop-holds c = (omega arith, omega arith, wrote-no-tally _ _ _ _)
 
+cast-t11 : tie.Need-cast-t11 Inv-loop μ-loop
+cast-t11 c = omega arith
+
 tally-line-requires : tie.Need-tally-line-requires Inv-loop μ-loop
 tally-line-requires c κs = (omega arith, omega arith, omega arith, omega arith)
 
@@ -50,6 +53,7 @@ tally-lines-spec =
     Inv-loop
     μ-loop
     loop-holds
+    cast-t11
     tally-line-requires
     add-k
     loop-less

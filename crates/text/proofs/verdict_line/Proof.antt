@@ -4,6 +4,7 @@ use mathlib.Core.List.{map}
 use Prim.Native.Nat.{_≤_, _+_, _-_}
 use native.Mathlib.Omega.{arith}
 use native.Mathlib.Nat.{le-antisymm}
+use lib.ListN.{length}
 use borrow.Author.Needs.{needs}
 use Rattle.refusal.specs.Numbers.{verdictList}
 use Rattle.text.specs.Text.{verdictChar}
@@ -18,16 +19,16 @@ use Rattle.text.proofs.put.byte.Reads as byte-reads
 use Rattle.text.proofs.verdict_char.Reads as verdict-char-reads
 
 abbrev Inv-loop : tie.InvT-loop
-Inv-loop out₀ at verdicts n to₀ i₀ out to i = (i ≤ n) × (to ≡ at + i) × Wrote out₀ at (map verdictChar (verdictList verdicts 0 i)) out to
+Inv-loop out₀ at n verdicts to₀ i₀ out to i = (i ≤ n) × (to ≡ at + i) × Wrote out₀ at (map verdictChar (verdictList verdicts i)) out to
 
 abbrev μ-loop : tie.MeasureT-loop
-μ-loop out₀ at verdicts n to₀ i₀ out to i = n - i
+μ-loop out₀ at n verdicts to₀ i₀ out to i = n - i
 
 loop-holds : tie.Need-loop-holds Inv-loop μ-loop
 loop-holds c = (omega arith, omega arith, wrote-none _ _)
 
-shared-slice-read-verdict-char : tie.Need-shared-slice-read-verdict-char Inv-loop μ-loop
-shared-slice-read-verdict-char c = search needs
+array-copy-out-told : tie.Need-array-copy-out-told Inv-loop μ-loop
+array-copy-out-told c = omega arith
 
 verdict-char-requires : tie.Need-verdict-char-requires Inv-loop μ-loop
 verdict-char-requires c κs = search needs
@@ -43,9 +44,11 @@ loop-less c = search needs
 
 loop-again : tie.Need-loop-again Inv-loop μ-loop
 loop-again c =
-    let b = c .before .before .before .before .before .before .before in
+    let turn = c .before .before .before .before .before .before .before in
+    let a = turn .before .before .args in
+    let l : length (a .t3) ≡ 7 = search needs in
     let w = c .before .before .byte .ensures in
-    (omega arith, omega (arith, w .end), wrote-verdict _ (b .loop .i) (b .loop .inv .2) (rw (← c .before .before .before .verdict-char .ensures) w))
+    (omega arith, omega (arith, w .end), wrote-verdict (a .t3) (turn .loop .i) (omega (arith, l)) (turn .loop .inv .2) (rw (← c .before .before .before .verdict-char .ensures) w))
 
 byte-requires-2 : tie.Need-byte-requires-2 Inv-loop μ-loop
 byte-requires-2 c κs = omega arith
@@ -66,7 +69,7 @@ verdict-line-spec =
     Inv-loop
     μ-loop
     loop-holds
-    shared-slice-read-verdict-char
+    array-copy-out-told
     verdict-char-requires
     byte-requires
     add-i

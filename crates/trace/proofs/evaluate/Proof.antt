@@ -3,7 +3,8 @@ use mathlib.Core.Path.{refl}
 use lib.ListN.{length}
 use borrow.Author.Needs.{needs}
 use Rattle.sheet.specs.Reading.{ruleSheet}
-use Rattle.trace.proofs.Decided.{inputs-byte, sheet-refused, run-decided}
+use Rattle.sheet.proofs.Formed.{counts-of}
+use Rattle.trace.proofs.Decided.{sheet-refused, run-decided}
 use Rattle.trace.proofs.Whole.{evaluated-of, left-length}
 use Rattle.trace.proofs.evaluate.Statement.{statement}
 use Rattle.trace.proofs.evaluate.Tie as tie
@@ -23,7 +24,12 @@ run-requires c κs =
     (s .usable, s .level)
 
 returns : tie.Need-returns
-returns c = (sheet-refused _ _ _ _ (rw (c .before .outcome .given .1) at (c .before .before .before .accept-sheet .ensures .0)), refl)
+returns c =
+    let a = c .before .before .before .before .before .before .before .args in
+    record {
+      decided = sheet-refused (a .sheet .now) (a .letters .now) (length (a .out .now)) _ (rw (c .before .outcome .given .1) at (c .before .before .before .accept-sheet .ensures .0));
+      result = refl;
+    }
 
 same-length : tie.Need-same-length
 same-length c =
@@ -39,10 +45,11 @@ returns-2 c =
     let s = (rw told at (got .ensures .1 .0)) in
     let bs = a .sheet .now in
     let letters = a .letters .now in
-    let x = ruleSheet (got .result .sheet) in (
-      run-decided bs letters (length (a .out .now)) (ran .result) (rw told at (got .ensures .0)) (ran .ensures .0 bs (inputs-byte bs x (s .reads))),
-      evaluated-of bs letters (a .out .now) (ran .last .1 .1 .0) x (s .reads) (ran .result) (ran .ensures .1),
-    )
+    let x = ruleSheet (got .result .sheet) in
+    record {
+      decided = run-decided bs letters (length (a .out .now)) _ (counts-of bs x (s .reads) .0) (ran .result) (s .decided) (ran .ensures .0);
+      result = evaluated-of bs letters (a .out .now) (ran .last .1 .1 .0) x (s .reads) (ran .result) (ran .ensures .1);
+    }
 
 pub evaluate-spec : {M : Type 1} → statement M
 evaluate-spec =

@@ -4,11 +4,11 @@ use Rattle.trace.proofs.Whole.{setting-of, told-reads, part-length, cle
 use Rattle.trace.proofs.fill.Statement.{statement}
 use Rattle.trace.proofs.fill.Tie as tie
 
-cast-m : tie.Need-cast-m
-cast-m c = search needs
+cast-inputs : tie.Need-cast-inputs
+cast-inputs c = search needs
 
-cast-n : tie.Need-cast-n
-cast-n c = search needs
+cast-outputs : tie.Need-cast-outputs
+cast-outputs c = search needs
 
 sheet-masks-requires : tie.Need-sheet-masks-requires
 sheet-masks-requires c κs = search needs
@@ -33,41 +33,41 @@ slice-relend-prefix-solve c = search needs
 
 slice-aggregate-solve-3 : tie.Need-slice-aggregate-solve-3
 slice-aggregate-solve-3 c =
-    let st = c .before .before .before .before .before .before .before .before .before .before .before .before .before .before in
-    let cleared = c .before .before .before .before .before .clear in
-    cleared-room _ (st .args .out .now) (cleared .last .0) (st .pre .2 .fits) (cleared .ensures .0)
+    let after-clear = c .before .before .before .before .before in
+    let start = after-clear .before .before .before .before .before .before .before .before .before in
+    let cleared = after-clear .clear in
+    cleared-room _ (start .args .out .now) (cleared .last .0) (start .pre .2 .fits) (cleared .ensures .0)
 
 solve-requires : tie.Need-solve-requires
 solve-requires c κs =
-    let st = c .before .before .before .before .before .before .before .before .before .before .before .before .before .before .before in
-    let a = st .args in
-    let cleared = c .before .before .before .before .before .before .clear in (
-      setting-of (a .x) (st .pre .0),
-      bytes-start (a .x) (st .pre .0) _ (a .out .now) (cleared .last .0) (st .pre .2) (cleared .ensures .0) (cleared .ensures .1),
-      told-reads (a .x) (st .pre .0) _ _ (c .before .before .before .before .before .before .before .before .sheet-masks .ensures),
+    let after-clear = c .before .before .before .before .before .before in
+    let after-sheet-masks = after-clear .before .before in
+    let start = after-sheet-masks .before .before .before .before .before .before .before in
+    let a = start .args in
+    let cleared = after-clear .clear in (
+      setting-of (a .x) (start .pre .0),
+      bytes-start (a .x) (start .pre .0) _ (a .out .now) (cleared .last .0) (start .pre .2) (cleared .ensures .0) (cleared .ensures .1),
+      told-reads (a .x) (start .pre .0) _ _ (after-sheet-masks .sheet-masks .ensures),
     )
-
-same-length : tie.Need-same-length
-same-length c =
-    let st = c .before .before .before .before .before .before .before .before .before .before .before .before .before .before .before .before .before .before in
-    let a = st .args in
-    let cleared = c .before .before .before .before .before .before .before .before .before .clear in
-    written-of (a .x) (st .pre .0) _ (a .out .now) (cleared .last .0) (st .pre .2) (cleared .ensures .0) (cleared .ensures .1) (st .pre .1) _ (c .before .before .solve .ensures)
-    .same-length
 
 returns : tie.Need-returns
 returns c =
-    let st = c .before .before .before .before .before .before .before .before .before .before .before .before .before .before .before .before .before .before in
-    let a = st .args in
-    let cleared = c .before .before .before .before .before .before .before .before .before .clear in
-    written-of (a .x) (st .pre .0) _ (a .out .now) (cleared .last .0) (st .pre .2) (cleared .ensures .0) (cleared .ensures .1) (st .pre .1) _ (c .before .before .solve .ensures)
+    let after-solve = c .before .before in
+    let after-clear = after-solve .before .before .before .before .before .before .before in
+    let start = after-clear .before .before .before .before .before .before .before .before .before in
+    let a = start .args in
+    let cleared = after-clear .clear in
+    written-of (a .x) (start .pre .0) _ (a .out .now) (cleared .last .0) (start .pre .2) (cleared .ensures .0) (cleared .ensures .1) (start .pre .1) _ (after-solve .solve .ensures)
+
+same-length : tie.Need-same-length
+same-length c = returns c .same-length
 
 pub fill-spec : {M : Type 1} → statement M
 fill-spec =
     tie.close
     (tie.spec
-    cast-m
-    cast-n
+    cast-inputs
+    cast-outputs
     sheet-masks-requires
     slice-relend-prefix-clear
     slice-aggregate-clear

@@ -17,10 +17,10 @@ enum-told : tie.Need-enum-told
 enum-told c = search needs
 
 fill-requires : tie.Need-fill-requires
-fill-requires c κs = let st = c .before .before .before .before .before .before .before in (st .pre .0, st .pre .1, rw (c .before .enum-told .given .1) at (c .before .before .before .check-run .ensures .1))
+fill-requires c κs = let start = c .before .before .before .before .before .before .before in (start .pre .0, start .pre .1, rw (c .before .enum-told .given .1) at (c .before .before .before .check-run .ensures .1))
 
 returns : tie.Need-returns
-returns c = (λ bs e. rw (c .before .outcome .given .1) at (c .before .before .before .check-run .ensures .0 bs e), refl)
+returns c = (rw (c .before .outcome .given .1) at (c .before .before .before .check-run .ensures .0), refl)
 
 same-length : tie.Need-same-length
 same-length c = c .before .before .fill .ensures .same-length
@@ -29,7 +29,7 @@ returns-2 : tie.Need-returns-2
 returns-2 c =
     let after-enum-told = c .before .before .before .before in
     let after-check-run = after-enum-told .before .before in
-    (λ bs e. rw (after-enum-told .enum-told .given .1) at (after-check-run .check-run .ensures .0 bs e), c .before .before .fill .ensures)
+    (rw (after-enum-told .enum-told .given .1) at (after-check-run .check-run .ensures .0), c .before .before .fill .ensures)
 
 pub run-spec : {M : Type 1} → statement M
 run-spec =

@@ -5,13 +5,13 @@ use mathlib.Core.Bool.{_&&_}
 use Prim.Native.Nat.{_-_}
 use lib.Dec.{ltb}
 use borrow.Author.Needs.{needs}
-use Rattle.pairs.specs.Storage.{stored}
+use Rattle.pairs.specs.Storage.{reached}
 use Rattle.verdicts.proofs.VerdictLaws.{Filling, filling-none, filling-more, filling-all, ends-lane}
 use Rattle.verdicts.proofs.ends.Statement.{statement}
 use Rattle.verdicts.proofs.ends.Tie as tie
 
 abbrev Inv-loop : tie.InvT-loop
-Inv-loop s v w f₀ j₀ f j = Filling w (λ b. ltb b v && stored s 1028 b none) f j
+Inv-loop s v w f₀ j₀ f j = Filling w (λ b. ltb b v && reached s b none) f j
 
 abbrev μ-loop : tie.MeasureT-loop
 μ-loop s v w f₀ j₀ f j = w - j

@@ -6,14 +6,14 @@ use native.Mathlib.Omega.{arith}
 use lib.Dec.{ltb}
 use borrow.Author.Needs.{needs}
 use Rattle.completions.specs.Steps.{anyNext}
-use Rattle.pairs.specs.Storage.{stored}
+use Rattle.pairs.specs.Storage.{reached}
 use Rattle.rounds.specs.Rows.{among}
 use Rattle.verdicts.proofs.VerdictLaws.{Filling, filling-none, filling-more, filling-all}
 use Rattle.verdicts.proofs.firsts.Statement.{statement}
 use Rattle.verdicts.proofs.firsts.Tie as tie
 
 abbrev Inv-loop : tie.InvT-loop
-Inv-loop s v w letters f₀ j₀ f j = Filling w (λ b. (ltb b v && among letters b) && anyNext v (stored s 1028 b)) f j
+Inv-loop s v w letters f₀ j₀ f j = Filling w (λ b. (ltb b v && among letters b) && anyNext v (reached s b)) f j
 
 abbrev μ-loop : tie.MeasureT-loop
 μ-loop s v w letters f₀ j₀ f j = w - j

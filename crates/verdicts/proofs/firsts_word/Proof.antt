@@ -7,13 +7,13 @@ use lib.Bits.{and-le-l}
 use lib.Count.{trailing-le}
 use Rattle.words.proofs.BitLaws.{lane-less}
 use Rattle.completions.specs.Steps.{anyNext}
-use Rattle.pairs.specs.Storage.{stored}
+use Rattle.pairs.specs.Storage.{reached}
 use Rattle.verdicts.proofs.VerdictLaws.{Looking, looking-start, looking-next, looking-more, looking-done, heard-below}
 use Rattle.verdicts.proofs.firsts_word.Statement.{statement}
 use Rattle.verdicts.proofs.firsts_word.Tie as tie
 
 abbrev Inv-loop : tie.InvT-loop
-Inv-loop s v w letters j word₀ rest₀ word rest = Looking (λ k. anyNext v (stored s 1028 (64 * j + k))) rest₀ word rest
+Inv-loop s v w letters j word₀ rest₀ word rest = Looking (λ k. anyNext v (reached s (64 * j + k))) rest₀ word rest
 
 abbrev μ-loop : tie.MeasureT-loop
 μ-loop s v w letters j word₀ rest₀ word rest = rest
@@ -54,7 +54,7 @@ returns : tie.Need-returns Inv-loop μ-loop
 returns c = λ i h.
     let a = c .before .before .before .before .args in
     looking-done _ _ _ _ (c .loop-test .left) (c .before .loop .inv) i h
-    ∙ ap (λ (u : Bool). u && anyNext (a .v) (stored (a .s .now) 1028 (64 * a .j + i))) (heard-below _ _ _ _ (c .before .before .lanes-below .ensures) i h)
+    ∙ ap (λ (u : Bool). u && anyNext (a .v) (reached (a .s .now) (64 * a .j + i))) (heard-below _ _ _ _ (c .before .before .lanes-below .ensures) i h)
 
 pub firsts-word-spec : {M : Type 1} → statement M
 firsts-word-spec =

@@ -7,22 +7,29 @@ use borrow.Author.Needs.{needs}
 use borrow.Author.Tests.{ne-eqb, eq-eqb}
 use Rattle.words.specs.Below.{anyBelow}
 use Rattle.words.proofs.AnyLaws.{some-any, any-one}
-use Rattle.verdicts.proofs.VerdictLaws.{shownIn, shows-words, shown-word}
+use Rattle.pairs.specs.Changes.{rowBit}
+use Rattle.verdicts.proofs.VerdictLaws.{row-lane, shownIn, shows-words, shown-word}
 use Rattle.verdicts.proofs.shown.Statement.{statement}
 use Rattle.verdicts.proofs.shown.Tie as tie
+use Rattle.verdicts.proofs.shown.Reads as reads
+use Rattle.verdicts.proofs.shown.Lts as lts
+use Rattle.words.proofs.agree.Reads as agree-reads
 
 abbrev Inv-loop : tie.InvT-loop
-Inv-loop f w q b j₀ j = (j ≤ w) × (anyBelow j (shownIn f q b) ≡ false)
+Inv-loop f w test b j₀ j = (j ≤ w) × (anyBelow j (shownIn f (rowBit test 0) b) ≡ false)
 
 abbrev μ-loop : tie.MeasureT-loop
-μ-loop f w q b j₀ j = w - j
+μ-loop f w test b j₀ j = w - j
 
 loop-holds : tie.Need-loop-holds Inv-loop μ-loop
 unfolding anyBelow
 loop-holds c = (omega arith, refl)
 
-stream-word-requires : tie.Need-stream-word-requires Inv-loop μ-loop
-stream-word-requires c κs = search needs
+mul-agree : tie.Need-mul-agree Inv-loop μ-loop
+mul-agree c = search needs
+
+shared-slice-read-agree : tie.Need-shared-slice-read-agree Inv-loop μ-loop
+shared-slice-read-agree c = search needs
 
 agree-requires : tie.Need-agree-requires Inv-loop μ-loop
 agree-requires c κs = search needs
@@ -35,11 +42,13 @@ shared-slice-read-if1 c = search needs
 
 returns : tie.Need-returns Inv-loop μ-loop
 returns c =
-    let a = c .before .before .before .before .before .before .before .args in
-    let j = c .before .before .before .before .before .loop .j in
-    sym (shows-words (a .f .now) (a .q) (a .b) (a .w) ∙ some-any (a .w) (shownIn (a .f .now) (a .q) (a .b)) j (c .before .before .before .before .loop-test .taken)
-    (shown-word (a .f .now) (a .q) (a .b) j (c .before .before .agree .result) (c .before .shared-slice-known2 .given j .fits) (c .before .before .agree .ok)
-    (λ i h. c .before .before .agree .ensures i h ∙ ap (λ (u : Bool). Bool·beq u (a .b)) (c .before .before .before .stream-word .ensures i h)) ∙ ap not (ne-eqb _ _ (c .if1 .taken))))
+    let turn = c .before .before .before .before .before in
+    let a = turn .before .before .before .args in
+    let j = turn .loop .j in
+    let G = rowBit (a .test .now) 0 in
+    sym (shows-words (a .f .now) G (a .b) (a .w) ∙ some-any (a .w) (shownIn (a .f .now) G (a .b)) j (c .before .before .before .before .loop-test .taken)
+    (shown-word (a .f .now) G (a .b) j (c .before .before .agree .result) (c .before .shared-slice-known4 .given j .fits) (c .before .before .agree .ok)
+    (λ i h. c .before .before .agree .ensures i h ∙ ap (λ (u : Bool). Bool·beq u (a .b)) (sym (row-lane (a .test .now) j i h))) ∙ ap not (ne-eqb _ _ (c .if1 .taken))))
 
 add-j : tie.Need-add-j Inv-loop μ-loop
 add-j c = search needs
@@ -49,20 +58,23 @@ loop-less c = search needs
 
 loop-again : tie.Need-loop-again Inv-loop μ-loop
 loop-again c =
-    let a = c .before .before .before .before .before .before .before .args in
-    let j = c .before .before .before .before .before .loop .j in (
+    let turn = c .before .before .before .before .before in
+    let a = turn .before .before .before .args in
+    let j = turn .loop .j in
+    let G = rowBit (a .test .now) 0 in (
       omega arith,
-      any-one j (shownIn (a .f .now) (a .q) (a .b)) ∙ ap₂ _||_
-          (shown-word (a .f .now) (a .q) (a .b) j (c .before .before .agree .result) (c .before .shared-slice-known2 .given j .fits) (c .before .before .agree .ok)
-          (λ i h. c .before .before .agree .ensures i h ∙ ap (λ (u : Bool). Bool·beq u (a .b)) (c .before .before .before .stream-word .ensures i h)) ∙ ap not (eq-eqb _ _ (c .if1 .left)))
-          (c .before .before .before .before .before .loop .inv .1),
+      any-one j (shownIn (a .f .now) G (a .b)) ∙ ap₂ _||_
+          (shown-word (a .f .now) G (a .b) j (c .before .before .agree .result) (c .before .shared-slice-known4 .given j .fits) (c .before .before .agree .ok)
+          (λ i h. c .before .before .agree .ensures i h ∙ ap (λ (u : Bool). Bool·beq u (a .b)) (sym (row-lane (a .test .now) j i h))) ∙ ap not (eq-eqb _ _ (c .if1 .left)))
+          (turn .loop .inv .1),
     )
 
 returns-2 : tie.Need-returns-2 Inv-loop μ-loop
 returns-2 c =
-    let a = c .before .before .before .args in
+    let a = c .before .before .before .before .args in
+    let G = rowBit (a .test .now) 0 in
     let e : c .before .loop .j ≡ a .w = omega arith in
-    sym (shows-words (a .f .now) (a .q) (a .b) (a .w) ∙ ap (λ (k : ℕ). anyBelow k (shownIn (a .f .now) (a .q) (a .b))) (sym e) ∙ c .before .loop .inv .1)
+    sym (shows-words (a .f .now) G (a .b) (a .w) ∙ ap (λ (k : ℕ). anyBelow k (shownIn (a .f .now) G (a .b))) (sym e) ∙ c .before .loop .inv .1)
 
 pub shown-spec : {M : Type 1} → statement M
 shown-spec =
@@ -71,7 +83,8 @@ shown-spec =
     Inv-loop
     μ-loop
     loop-holds
-    stream-word-requires
+    mul-agree
+    shared-slice-read-agree
     agree-requires
     mul-if1
     shared-slice-read-if1

@@ -1,32 +1,45 @@
 -- `verdicts::verdicts` meets its contract: the outputs below k are done.
-use mathlib.Core.Path.{ap, _∙_}
 use mathlib.Core.Bool.{true, false}
-use Prim.Native.Nat.{ℕ, _+_, _-_}
+use Prim.Native.Nat.{_+_, _-_}
 use borrow.Author.Needs.{needs}
-use Rattle.refusal.specs.Numbers.{verdictNo}
+use Rattle.words.specs.Bits.{bit}
 use Rattle.completions.specs.Steps.{verdictOf}
 use Rattle.verdicts.specs.Firsts.{shows}
-use Rattle.verdicts.proofs.VerdictLaws.{Telling, telling-none, telling-more, telling-all}
+use Rattle.verdicts.proofs.VerdictLaws.{words-less, Telling, telling-none, telling-more, telling-all}
 use Rattle.verdicts.proofs.verdicts.Statement.{statement}
 use Rattle.verdicts.proofs.verdicts.Tie as tie
+use Rattle.verdicts.proofs.verdicts.Reads as reads
+use Rattle.verdicts.proofs.verdicts.Lts as lts
+use Rattle.refusal.proofs.untold.Reads as untold-reads
+use Rattle.verdicts.proofs.output_test.Reads as output-test-reads
+use Rattle.verdicts.proofs.verdict.Reads as verdict-reads
 
 abbrev Inv-loop : tie.InvT-loop
-Inv-loop f w m n vs₀ k₀ vs k = Telling n (λ k. verdictOf (shows w f (m + k) true) (shows w f (m + k) false)) vs k
+Inv-loop f w m n vs₀ k₀ vs k = Telling n (λ k. verdictOf (shows w f (bit (m + k)) true) (shows w f (bit (m + k)) false)) vs k
 
 abbrev μ-loop : tie.MeasureT-loop
 μ-loop f w m n vs₀ k₀ vs k = n - k
 
-loop-holds : tie.Need-loop-holds Inv-loop μ-loop
-loop-holds c = telling-none _ _
+untold-requires : tie.Need-untold-requires Inv-loop μ-loop
+untold-requires c κs = search needs
 
-output-stream-requires : tie.Need-output-stream-requires Inv-loop μ-loop
-output-stream-requires c κs = search needs
+loop-holds : tie.Need-loop-holds Inv-loop μ-loop
+loop-holds c = telling-none _ _ _ (c .untold .ensures)
+
+cast-t12 : tie.Need-cast-t12 Inv-loop μ-loop
+cast-t12 c = search needs
+
+output-test-requires : tie.Need-output-test-requires Inv-loop μ-loop
+output-test-requires c κs = search needs
+
+slice-aggregate-verdict : tie.Need-slice-aggregate-verdict Inv-loop μ-loop
+slice-aggregate-verdict c = search needs
 
 verdict-requires : tie.Need-verdict-requires Inv-loop μ-loop
 verdict-requires c κs = search needs
 
-array-write-vs : tie.Need-array-write-vs Inv-loop μ-loop
-array-write-vs c = search needs
+array-set-from-vs : tie.Need-array-set-from-vs Inv-loop μ-loop
+array-set-from-vs c = search needs
 
 add-k : tie.Need-add-k Inv-loop μ-loop
 add-k c = search needs
@@ -36,9 +49,10 @@ loop-less c = search needs
 
 loop-again : tie.Need-loop-again Inv-loop μ-loop
 loop-again c =
-    let a = c .before .before .before .before .before .args in
-    telling-more _ _ _ _ _ (c .before .before .loop-test .taken) (c .before .before .before .before .before .pre .2) (c .before .before .before .loop .inv)
-    (c .verdict .ensures ∙ ap (λ (q : ℕ). verdictNo (verdictOf (shows (a .w) (a .f .now) q true) (shows (a .w) (a .f .now) q false))) (c .before .output-stream .ensures))
+    let turn = c .before .before .before .before in
+    let start = turn .before .before .before in
+    telling-more _ _ _ _ _ (c .before .before .before .loop-test .taken) (start .pre .2) (turn .loop .inv)
+    (c .verdict .ensures _ (words-less _ _ _ _ (start .pre .0) (c .before .before .output-test .ensures)))
 
 returns : tie.Need-returns Inv-loop μ-loop
 returns c = telling-all _ _ _ _ (c .loop-test .left) (c .before .loop .inv)
@@ -49,10 +63,13 @@ verdicts-spec =
     (tie.spec
     Inv-loop
     μ-loop
+    untold-requires
     loop-holds
-    output-stream-requires
+    cast-t12
+    output-test-requires
+    slice-aggregate-verdict
     verdict-requires
-    array-write-vs
+    array-set-from-vs
     add-k
     loop-less
     loop-again

@@ -1,56 +1,57 @@
 -- `pending::Pending::scan` meets its contract.
 use native.Mathlib.Omega.{arith}
 use borrow.Author.Needs.{needs}
-use Rattle.pending.proofs.Scanning.{past, first-dot, late-dot, one-more}
+use Rattle.pending.specs.Scan.{Marked}
+use Rattle.pending.proofs.Scanning.{first-dot, late-dot, one-more, past-dot, still}
 use Rattle.pending.proofs.Pending.scan.Statement.{statement}
 use Rattle.pending.proofs.Pending.scan.Tie as tie
 use Rattle.pending.proofs.Pending.scan.Reads as reads
 use Rattle.pending.proofs.Pending.scan.Lts as lts
-use Rattle.pending.proofs.Pending.dot.Reads as dot-reads
-use Rattle.pending.proofs.Pending.mark.Reads as mark-reads
-use Rattle.pending.proofs.Pending.wrong.Reads as wrong-reads
+use Rattle.pending.proofs.Masks.mark.Reads as mark-reads
 
-wrong-requires : tie.Need-wrong-requires
-wrong-requires c κs = search needs
+enum-known-self : tie.Need-enum-known-self
+enum-known-self c = search needs
 
 returns : tie.Need-returns
-returns c = λ part h. c .wrong .ensures _ _ (past _ part _ _ (c .before .if1 .taken) h)
-
-dot-requires : tie.Need-dot-requires
-dot-requires c κs = search needs
+returns c = λ part h. first-dot _ part _ _ (c .if2 .taken) (c .before .before .if1 .taken) (rw (c .before .before .before .before .self .given .1) at h)
 
 returns-2 : tie.Need-returns-2
-returns-2 c = λ part h. rw (first-dot _ part _ _ (c .before .before .before .before .if1 .left) (c .before .if3 .taken) (c .before .before .before .if2 .taken) h) (c .dot .ensures _)
-
-wrong-requires-2 : tie.Need-wrong-requires-2
-wrong-requires-2 c κs = search needs
+returns-2 c = λ part h. late-dot _ part _ _ (c .if2 .left) (c .before .before .if1 .taken) (rw (c .before .before .before .before .self .given .1) at h)
 
 returns-3 : tie.Need-returns-3
-returns-3 c = λ part h. c .wrong2 .ensures _ _ (late-dot _ part _ _ (c .before .before .before .before .if1 .left) (c .before .if3 .left) (c .before .before .before .if2 .taken) h)
-
-wrong-requires-3 : tie.Need-wrong-requires-3
-wrong-requires-3 c κs = search needs
-
-returns-4 : tie.Need-returns-4
-returns-4 c = λ part h. c .wrong3 .ensures _ _ (one-more _ part _ (c .before .before .before .if2 .left) (omega (arith, h .marks (c .before .before .before .before .if1 .left) .count)))
+returns-3 c =
+    λ part h. let s : Marked _ part _ = rw (c .before .before .before .before .self .given .1) at h in
+    one-more _ part _ (c .before .before .if1 .left) (omega (arith, s .count))
 
 mark-requires : tie.Need-mark-requires
 mark-requires c κs = search needs
 
+enum-told : tie.Need-enum-told
+enum-told c = search needs
+
+enum-told-2 : tie.Need-enum-told-2
+enum-told-2 c = search needs
+
+returns-4 : tie.Need-returns-4
+returns-4 c = λ part h. c .mark .ensures _ part (c .before .if3 .left) (c .before .before .before .if1 .left) (rw (c .before .before .before .before .before .self .given .1) at h)
+
 returns-5 : tie.Need-returns-5
-returns-5 c = λ part h. c .mark .ensures _ part (c .before .before .before .before .if1 .left) (c .before .if4 .left) (c .before .before .before .if2 .left) h
+returns-5 c = λ part h. past-dot _ part _ (rw (c .enum-told .given .1) at h)
+
+returns-6 : tie.Need-returns-6
+returns-6 c = λ part h. still _ part _ (rw (c .enum-told2 .given .1) at h)
 
 pub scan-spec : {M : Type 1} → statement M
 scan-spec =
     tie.close
     (tie.spec
-    wrong-requires
+    enum-known-self
     returns
-    dot-requires
     returns-2
-    wrong-requires-2
     returns-3
-    wrong-requires-3
-    returns-4
     mark-requires
-    returns-5)
+    enum-told
+    enum-told-2
+    returns-4
+    returns-5
+    returns-6)

@@ -18,13 +18,13 @@ valuation-requires : tie.Need-valuation-requires
 valuation-requires c κs = search needs
 
 mul-result : tie.Need-mul-result
-mul-result c = omega (arith, valuation-small _ _ _ _ _ (c .before .before .before .before .before .pre) (omega arith) (omega arith) _ (c .valuation .ensures))
+mul-result c = omega (arith, valuation-small _ _ _ _ (c .before .before .before .before .before .pre) (omega arith) (omega arith) _ (c .valuation .ensures))
 
 add-result : tie.Need-add-result
-add-result c = omega (arith, valuation-small _ _ _ _ _ (c .before .before .before .before .before .pre) (omega arith) (omega arith) _ (c .valuation .ensures))
+add-result c = omega (arith, valuation-small _ _ _ _ (c .before .before .before .before .before .pre) (omega arith) (omega arith) _ (c .valuation .ensures))
 
 returns-3 : tie.Need-returns-3
-returns-3 c = beside-some _ _ _ _ _ (c .before .before .before .before .before .pre) (omega arith) (omega arith) _ (c .valuation .ensures)
+returns-3 c = beside-some _ _ _ _ (c .before .before .before .before .before .pre) (omega arith) (omega arith) _ (c .valuation .ensures)
 
 pub beside-spec : {M : Type 1} → statement M
 beside-spec =

@@ -32,10 +32,10 @@ same-length c = search needs
 returns : tie.Need-returns
 unfolding bit digit
 returns c =
-    let st = c .before .before .before in
-    let a = st .args in
+    let start = c .before .before .before in
+    let a = start .args in
     let was = bit (a .s) (getD (a .buf .now) (a .i) 0) in
-    put-byte _ _ _ _ _ (st .pre .0) (st .pre .1)
+    put-byte _ _ _ _ _ (start .pre .0) (start .pre .1)
     (⊎-elim (λ w. inl (w .1, beq-eq was (a .v) (w .0 .taken))) (λ w. inr (w .1, other-values was (a .v) (w .0 .left))) (c .before .if1 .came))
 
 pub put-bit-spec : {M : Type 1} → statement M

@@ -20,8 +20,8 @@ shared-slice-read-to c = search needs
 
 add-to : tie.Need-add-to
 add-to c =
-    let st = c .before .before .before .before .before .before .before in
-    omega (arith, st .pre .0 .small (st .args .s) (st .pre .2), st .pre .0 .outputs)
+    let start = c .before .before .before .before .before .before .before in
+    omega (arith, start .pre .0 .small (start .args .s) (start .pre .2), start .pre .0 .outputs)
 
 sub-value-bit : tie.Need-sub-value-bit
 sub-value-bit c = search needs
@@ -31,14 +31,14 @@ part-value-bit-start c = search needs
 
 part-value-bit-end : tie.Need-part-value-bit-end
 part-value-bit-end c =
-    let st = c .before .before .before .before .before .before .before in
-    omega (arith, st .pre .0 .small (st .args .s) (st .pre .2), st .pre .0 .outputs, st .pre .0 .room)
+    let start = c .before .before .before .before .before .before .before in
+    omega (arith, start .pre .0 .small (start .args .s) (start .pre .2), start .pre .0 .outputs, start .pre .0 .room)
 
 value-bit-requires : tie.Need-value-bit-requires
 value-bit-requires c κs =
-    let st = c .before .before .before .before .before .before .before .before in
-    let a = st .args in
-    part-short (a .code .now) (a .len .now) (a .s) (st .pre .0 .small (a .s) (st .pre .2))
+    let start = c .before .before .before .before .before .before .before .before in
+    let a = start .args in
+    part-short (a .code .now) (a .len .now) (a .s) (start .pre .0 .small (a .s) (start .pre .2))
 
 sub-put-bit : tie.Need-sub-put-bit
 sub-put-bit c = search needs
@@ -53,10 +53,10 @@ returns : tie.Need-returns
 returns c =
     let after-value-bit = c .before .before .before .before in
     let after-environment = after-value-bit .before .before .before in
-    let st = after-environment .before .before .before .before .before .before in
+    let start = after-environment .before .before .before .before .before .before in
     let put = c .before .before .put-bit .ensures in
-    let right = place-value _ _ _ _ _ _ _ _ _ _ (st .pre .0) (st .pre .2) (after-environment .environment .ensures) (after-value-bit .value-bit .ensures) in
-    (renewed-put _ _ _ _ _ _ _ _ put (st .pre .3) (st .pre .2) right, put .same)
+    let right = place-value _ _ _ _ _ _ _ _ _ (start .pre .0) (start .pre .2) (after-environment .environment .ensures) (after-value-bit .value-bit .ensures) in
+    (renewed-put _ _ _ _ _ _ _ _ put (start .pre .3) (start .pre .2) right, put .same)
 
 pub refresh-spec : {M : Type 1} → statement M
 refresh-spec =

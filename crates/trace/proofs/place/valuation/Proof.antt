@@ -22,27 +22,27 @@ wide-requires-2 c κs = search needs
 
 mul-result : tie.Need-mul-result
 mul-result c =
-    let st = c .before .before .before .before .before .before in
-    let i = st .args .i in
+    let start = c .before .before .before .before .before .before in
+    let i = start .args .i in
     let letter = c .before .before .before .shared-slice-known3 .given i .fits in
     let byte = c .before .shared-slice-known4 .given i .fits in
-    omega (arith, product-small _ (st .pre .0) _ _ _ _ (c .before .before .wide .ensures) (c .wide2 .ensures) letter byte)
+    omega (arith, product-small _ (start .pre .0) _ _ _ _ (c .before .before .wide .ensures) (c .wide2 .ensures) letter byte)
 
 add-result : tie.Need-add-result
 add-result c =
-    let st = c .before .before .before .before .before .before in
-    let i = st .args .i in
+    let start = c .before .before .before .before .before .before in
+    let i = start .args .i in
     let letter = c .before .before .before .shared-slice-known3 .given i .fits in
     let byte = c .before .shared-slice-known4 .given i .fits in
-    omega (arith, c .before .before .wide .ensures, letter, product-small _ (st .pre .0) _ _ _ _ (c .before .before .wide .ensures) (c .wide2 .ensures) letter byte)
+    omega (arith, c .before .before .wide .ensures, letter, product-small _ (start .pre .0) _ _ _ _ (c .before .before .wide .ensures) (c .wide2 .ensures) letter byte)
 
 returns : tie.Need-returns
 returns c =
-    let st = c .before .before .before .before .before .before in
-    let i = st .args .i in
+    let start = c .before .before .before .before .before .before in
+    let i = start .args .i in
     let letter = c .before .before .before .shared-slice-known3 .given i .fits in
     let byte = c .before .shared-slice-known4 .given i .fits in
-    product-is _ (st .pre .0) _ _ _ _ (c .before .before .wide .ensures) (c .wide2 .ensures) letter byte
+    product-is _ (start .pre .0) _ _ _ _ (c .before .before .wide .ensures) (c .wide2 .ensures) letter byte
 
 pub valuation-spec : {M : Type 1} → statement M
 valuation-spec =

@@ -11,38 +11,47 @@ use Rattle.trace.proofs.sweep.passes.Statement.{statement}
 use Rattle.trace.proofs.sweep.passes.Tie as tie
 
 abbrev Inv-loop : tie.InvT-loop
-Inv-loop code len m n letters buf₀ most k₀ buf k = (k ≤ most) × Going n (length letters) (sides m n code len letters) buf₀ buf k
+Inv-loop code len counts letters buf₀ most k₀ buf k = (k ≤ most) × Going (counts .outputs) (length letters) (sides counts code len letters) buf₀ buf k
 
 abbrev μ-loop : tie.MeasureT-loop
-μ-loop code len m n letters buf₀ most k₀ buf k = most - k
+μ-loop code len counts letters buf₀ most k₀ buf k = most - k
 
 mul-most : tie.Need-mul-most Inv-loop μ-loop
 mul-most c =
-    let st = c .before .before .before .before in
-    omega (arith, most-small (st .args .n) (length (st .args .letters .now)) (st .pre .0 .outputs) (st .pre .1 .rounds))
+    let start = c .before .before .before .before .before in
+    omega (arith, most-small (start .args .counts .outputs) (length (start .args .letters .now)) (start .pre .0 .outputs) (start .pre .1 .rounds))
 
 loop-holds : tie.Need-loop-holds Inv-loop μ-loop
 loop-holds c = (omega arith, going-start _ _ _ _)
 
 pass-requires : tie.Need-pass-requires Inv-loop μ-loop
-pass-requires c κs = let st = c .before .before .before .before .before .before .before in (st .pre .0, bytes-kept (c .before .before .loop .inv .1 .kept) (st .pre .1))
+pass-requires c κs = let start = c .before .before .before .before .before .before .before .before in (start .pre .0, bytes-kept (c .before .before .loop .inv .1 .kept) (start .pre .1))
 
 same-length : tie.Need-same-length Inv-loop μ-loop
-same-length c = c .before .before .before .pass .ensures .kept .same-length ∙ c .before .before .before .before .before .before .loop .inv .1 .kept .same-length
+same-length c =
+    let after-pass = c .before .before .before in
+    let turn = after-pass .before .before .before in
+    after-pass .pass .ensures .kept .same-length ∙ turn .loop .inv .1 .kept .same-length
 
 returns : tie.Need-returns Inv-loop μ-loop
-returns c = going-quiet _ _ _ _ _ _ _ _ (c .before .before .before .before .before .before .loop .inv .1) (c .before .before .before .pass .ensures) (not-true _ (c .if1 .taken))
+returns c =
+    let after-pass = c .before .before .before in
+    let turn = after-pass .before .before .before in
+    going-quiet _ _ _ _ _ _ _ _ (turn .loop .inv .1) (after-pass .pass .ensures) (not-true _ (c .if1 .taken))
 
 add-k : tie.Need-add-k Inv-loop μ-loop
 add-k c =
-    let st = c .before .before .before .before .before .before .before .before .before .before .before in
-    omega (arith, most-small (st .args .n) (length (st .args .letters .now)) (st .pre .0 .outputs) (st .pre .1 .rounds))
+    let start = c .before .before .before .before .before .before .before .before .before .before .before .before in
+    omega (arith, most-small (start .args .counts .outputs) (length (start .args .letters .now)) (start .pre .0 .outputs) (start .pre .1 .rounds))
 
 loop-less : tie.Need-loop-less Inv-loop μ-loop
 loop-less c = omega arith
 
 loop-again : tie.Need-loop-again Inv-loop μ-loop
-loop-again c = (omega arith, going-more _ _ _ _ _ _ _ _ (c .before .before .before .before .before .before .loop .inv .1) (c .before .before .before .pass .ensures))
+loop-again c =
+    let after-pass = c .before .before .before in
+    let turn = after-pass .before .before .before in
+    (omega arith, going-more _ _ _ _ _ _ _ _ (turn .loop .inv .1) (after-pass .pass .ensures))
 
 same-length-2 : tie.Need-same-length-2 Inv-loop μ-loop
 same-length-2 c = c .before .loop .inv .1 .kept .same-length

@@ -12,12 +12,12 @@ use Rattle.trace.proofs.sweep.refresh_block.Statement.{statement}
 use Rattle.trace.proofs.sweep.refresh_block.Tie as tie
 
 abbrev Inv-loop : tie.InvT-loop
-Inv-loop code len m n letters buf₀ lead outputs count up block p₀ buf p =
+Inv-loop code len counts letters buf₀ lead outputs count up block p₀ buf p =
     (p ≤ count)
-    × Sweeps n (length letters) (sides m n code len letters) lead up (Done lead up (length letters) outputs block 0) (Done lead up (length letters) outputs block p) buf₀ buf
+    × Sweeps (counts .outputs) (length letters) (sides counts code len letters) lead up (Done lead up (length letters) outputs block 0) (Done lead up (length letters) outputs block p) buf₀ buf
 
 abbrev μ-loop : tie.MeasureT-loop
-μ-loop code len m n letters buf₀ lead outputs count up block p₀ buf p = count - p
+μ-loop code len counts letters buf₀ lead outputs count up block p₀ buf p = count - p
 
 loop-holds : tie.Need-loop-holds Inv-loop μ-loop
 loop-holds c = (omega arith, sweeps-none _ _ _ _ _ _ _ _ (λ w q u pl x. x))
@@ -26,19 +26,19 @@ mul-s : tie.Need-mul-s Inv-loop μ-loop
 mul-s c = search needs
 
 element-copy-out-s : tie.Need-element-copy-out-s Inv-loop μ-loop
-element-copy-out-s c = let st = c .before .before .before .before .before .before in omega (arith, st .pre .2 .room)
+element-copy-out-s c = let start = c .before .before .before .before .before .before in omega (arith, start .pre .2 .room)
 
 element-copy-out-round-in : tie.Need-element-copy-out-round-in Inv-loop μ-loop
-element-copy-out-round-in c = let st = c .before .before .before .before .before .before .before in omega (arith, st .pre .0 .outputs, st .pre .2 .below (c .before .before .loop .p) (omega arith))
+element-copy-out-round-in c = let start = c .before .before .before .before .before .before .before in omega (arith, start .pre .0 .outputs, start .pre .2 .below (c .before .before .loop .p) (omega arith))
 
 round-in-requires : tie.Need-round-in-requires Inv-loop μ-loop
 round-in-requires c κs = search needs
 
 try-refresh-requires : tie.Need-try-refresh-requires Inv-loop μ-loop
 try-refresh-requires c κs =
-    let st = c .before .before .before .before .before .before .before .before .before .before in
+    let start = c .before .before .before .before .before .before .before .before .before .before in
     let l = c .before .before .before .before .before .loop in
-    (st .pre .0, bytes-kept (l .inv .1 .kept) (st .pre .1), st .pre .2 .below (l .p) (omega arith), c .before .round-in .ensures .high)
+    (start .pre .0, bytes-kept (l .inv .1 .kept) (start .pre .1), start .pre .2 .below (l .p) (omega arith), c .before .round-in .ensures .high)
 
 add-p : tie.Need-add-p Inv-loop μ-loop
 add-p c = omega arith
@@ -48,14 +48,14 @@ loop-less c = omega arith
 
 loop-again : tie.Need-loop-again Inv-loop μ-loop
 loop-again c =
-    let st = c .before .before .before .before .before .before .before .before .before .before .before .before .before in
+    let start = c .before .before .before .before .before .before .before .before .before .before .before .before .before in
     let l = c .before .before .before .before .before .before .before .before .loop in
-    let a = st .args in
-    let f = sides (a .m) (a .n) (a .code .now) (a .len .now) (a .letters .now) in
+    let a = start .args in
+    let f = sides (a .counts) (a .code .now) (a .len .now) (a .letters .now) in
     let tried = c .before .before .try-refresh .ensures in (
       omega arith,
       sweeps-then _ _ _ _ _ _ _ _ _ _ _ (l .inv .1)
-          (block-more _ _ f _ _ _ _ _ (st .pre .2) (l .p) _ (omega arith) refl _ _ _ (c .before .before .before .before .round-in .ensures) (tried .0) (tried .1)),
+          (block-more _ _ f _ _ _ _ _ (start .pre .2) (l .p) _ (omega arith) refl _ _ _ (c .before .before .before .before .round-in .ensures) (tried .0) (tried .1)),
     )
 
 same-length : tie.Need-same-length Inv-loop μ-loop

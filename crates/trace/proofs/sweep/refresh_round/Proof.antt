@@ -11,16 +11,16 @@ use Rattle.trace.proofs.sweep.refresh_round.Statement.{statement}
 use Rattle.trace.proofs.sweep.refresh_round.Tie as tie
 
 abbrev Inv-loop : tie.InvT-loop
-Inv-loop code len m n letters buf₀ t changed₀ s₀ buf changed s = (s ≤ n) × Passed n (length letters) (sides m n code len letters) (λ q u. (q < s) × (u ≡ t)) buf₀ buf changed
+Inv-loop code len counts letters buf₀ t n changed₀ s₀ buf changed s = (s ≤ counts .outputs) × Passed (counts .outputs) (length letters) (sides counts code len letters) (λ q u. (q < s) × (u ≡ t)) buf₀ buf changed
 
 abbrev μ-loop : tie.MeasureT-loop
-μ-loop code len m n letters buf₀ t changed₀ s₀ buf changed s = n - s
+μ-loop code len counts letters buf₀ t n changed₀ s₀ buf changed s = counts .outputs - s
 
 loop-holds : tie.Need-loop-holds Inv-loop μ-loop
 loop-holds c = (omega arith, passed-none _ _ _ _ _ _ (λ q u pl h. omega (arith, h .0)))
 
 refresh-requires : tie.Need-refresh-requires Inv-loop μ-loop
-refresh-requires c κs = let st = c .before .before .before .before .before .before .before in (st .pre .0, bytes-kept (c .before .before .loop .inv .1 .kept) (st .pre .1), omega arith, st .pre .2, st .pre .3)
+refresh-requires c κs = let start = c .before .before .before .before .before .before .before in (start .pre .0, bytes-kept (c .before .before .loop .inv .1 .kept) (start .pre .1), omega arith, start .pre .2, start .pre .3)
 
 add-s : tie.Need-add-s Inv-loop μ-loop
 add-s c = omega arith

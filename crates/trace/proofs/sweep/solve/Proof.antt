@@ -16,10 +16,13 @@ returns : tie.Need-returns
 returns c = solved-all (c .before .before .before .sweeps .ensures) (c .before .before .before .before .before .before .before .before .before .pre .2) (c .if1 .taken)
 
 passes-requires : tie.Need-passes-requires
-passes-requires c κs = let st = c .before .before .before .before .before .before .before .before .before .before in (st .pre .0, bytes-kept (c .before .before .before .before .sweeps .ensures .kept) (st .pre .1))
+passes-requires c κs = let start = c .before .before .before .before .before .before .before .before .before .before in (start .pre .0, bytes-kept (c .before .before .before .before .sweeps .ensures .kept) (start .pre .1))
 
 same-length-2 : tie.Need-same-length-2
-same-length-2 c = c .before .before .passes .ensures .kept .same-length ∙ c .before .before .before .before .before .before .before .sweeps .ensures .kept .same-length
+same-length-2 c =
+    let after-passes = c .before .before in
+    let after-sweeps = after-passes .before .before .before .before .before in
+    after-passes .passes .ensures .kept .same-length ∙ after-sweeps .sweeps .ensures .kept .same-length
 
 returns-2 : tie.Need-returns-2
 returns-2 c = solved-after (c .before .before .before .before .before .before .before .sweeps .ensures .kept) (c .before .before .passes .ensures)

@@ -11,12 +11,12 @@ use Rattle.trace.proofs.sweep.sweep.Statement.{statement}
 use Rattle.trace.proofs.sweep.sweep.Tie as tie
 
 abbrev Inv-loop : tie.InvT-loop
-Inv-loop code len m n letters buf₀ lead up outputs count end block₀ buf block =
+Inv-loop code len counts letters buf₀ lead up outputs count end block₀ buf block =
     (block ≤ end)
-    × Sweeps n (length letters) (sides m n code len letters) lead up InSet (Done lead up (length letters) outputs block 0) buf₀ buf
+    × Sweeps (counts .outputs) (length letters) (sides counts code len letters) lead up InSet (Done lead up (length letters) outputs block 0) buf₀ buf
 
 abbrev μ-loop : tie.MeasureT-loop
-μ-loop code len m n letters buf₀ lead up outputs count end block₀ buf block = end - block
+μ-loop code len counts letters buf₀ lead up outputs count end block₀ buf block = end - block
 
 order-of-requires : tie.Need-order-of-requires Inv-loop μ-loop
 order-of-requires c κs = search needs
@@ -32,8 +32,8 @@ loop-holds c = (omega arith, sweep-start _ _ _ _ _ _ _)
 
 refresh-block-requires : tie.Need-refresh-block-requires Inv-loop μ-loop
 refresh-block-requires c κs =
-    let st = c .before .before .before .before .before .before .before .before .before .before .before in
-    (st .pre .0, bytes-kept (c .before .before .before .loop .inv .1 .kept) (st .pre .1), c .before .before .before .before .before .before .order-of .ensures)
+    let start = c .before .before .before .before .before .before .before .before .before .before .before in
+    (start .pre .0, bytes-kept (c .before .before .before .loop .inv .1 .kept) (start .pre .1), c .before .before .before .before .before .before .order-of .ensures)
 
 add-block : tie.Need-add-block Inv-loop μ-loop
 add-block c = search needs

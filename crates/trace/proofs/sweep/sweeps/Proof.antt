@@ -11,10 +11,10 @@ use Rattle.trace.proofs.sweep.sweeps.Statement.{statement}
 use Rattle.trace.proofs.sweep.sweeps.Tie as tie
 
 abbrev Inv-loop : tie.InvT-loop
-Inv-loop code len m n letters buf₀ masks settled₀ k₀ buf settled k = (k ≤ 14) × Extends n (length letters) (sides m n code len letters) masks (λ q u. ⊥) (InSet settled) buf₀ buf
+Inv-loop code len counts letters buf₀ masks settled₀ k₀ buf settled k = (k ≤ 14) × Extends (counts .outputs) (length letters) (sides counts code len letters) masks (λ q u. ⊥) (InSet settled) buf₀ buf
 
 abbrev μ-loop : tie.MeasureT-loop
-μ-loop code len m n letters buf₀ masks settled₀ k₀ buf settled k = 14 - k
+μ-loop code len counts letters buf₀ masks settled₀ k₀ buf settled k = 14 - k
 
 loop-holds : tie.Need-loop-holds Inv-loop μ-loop
 loop-holds c = (omega arith, extends-start _ _ _ _ _ _)
@@ -23,10 +23,10 @@ same-length : tie.Need-same-length Inv-loop μ-loop
 same-length c = c .before .before .loop .inv .1 .kept .same-length
 
 returns : tie.Need-returns Inv-loop μ-loop
-returns c = extends-all _ _ _ _ _ _ _ _ _ (c .before .before .before .before .before .before .before .pre .0 .outputs) (λ e. c .if1 .taken) (c .before .before .loop .inv .1)
+returns c = let start = c .before .before .before .before .before .before .before in extends-all _ _ _ _ _ _ _ _ _ (start .pre .0 .outputs) (λ e. c .if1 .taken) (c .before .before .loop .inv .1)
 
 settle-more-requires : tie.Need-settle-more-requires Inv-loop μ-loop
-settle-more-requires c κs = let st = c .before .before .before .before .before .before .before .before in (st .pre .0, bytes-kept (c .before .before .before .loop .inv .1 .kept) (st .pre .1))
+settle-more-requires c κs = let start = c .before .before .before .before .before .before .before .before in (start .pre .0, bytes-kept (c .before .before .before .loop .inv .1 .kept) (start .pre .1))
 
 add-k : tie.Need-add-k Inv-loop μ-loop
 add-k c = omega arith
@@ -35,13 +35,16 @@ loop-less : tie.Need-loop-less Inv-loop μ-loop
 loop-less c = omega arith
 
 loop-again : tie.Need-loop-again Inv-loop μ-loop
-loop-again c = (omega arith, extends-then _ _ _ _ _ _ _ _ _ _ (c .before .before .before .before .before .before .loop .inv .1) (c .before .before .settle-more .ensures))
+loop-again c =
+    let after-settle-more = c .before .before in
+    let turn = after-settle-more .before .before .before .before in
+    (omega arith, extends-then _ _ _ _ _ _ _ _ _ _ (turn .loop .inv .1) (after-settle-more .settle-more .ensures))
 
 same-length-2 : tie.Need-same-length-2 Inv-loop μ-loop
 same-length-2 c = c .before .loop .inv .1 .kept .same-length
 
 returns-2 : tie.Need-returns-2 Inv-loop μ-loop
-returns-2 c = extends-all _ _ _ _ _ _ _ _ _ (c .before .before .before .before .before .before .pre .0 .outputs) (eqb-true _ 127) (c .before .loop .inv .1)
+returns-2 c = let start = c .before .before .before .before .before .before in extends-all _ _ _ _ _ _ _ _ _ (start .pre .0 .outputs) (eqb-true _ 127) (c .before .loop .inv .1)
 
 pub sweeps-spec : {M : Type 1} → statement M
 sweeps-spec =

@@ -5,14 +5,14 @@ use mathlib.Core.List.{[], _∷_}
 use Prim.Native.Nat.{ℕ, zero, suc, _<_, _≤_}
 use native.Mathlib.Omega.{arith}
 use native.Mathlib.Decide.{decLt}
-use Rattle.refusal.specs.Decided.{Decided}
-use Rattle.refusal.specs.declared.Outcome.the-variants.{Accepted}
-use Rattle.refusal.proofs.Decisions.{all-passed}
+use Rattle.outcomes.specs.Decided.{Decided}
+use Rattle.outcomes.specs.declared.Outcome.the-variants.{Accepted}
+use Rattle.outcomes.proofs.Decisions.{all-passed}
 use Rattle.record.specs.Record.{maxRounds, recordOk}
 use Rattle.record.specs.declared.JournalRecord.{JournalRecord}
 use Rattle.letters.specs.Masks.{badMasks}
 use Rattle.pairs.specs.Storage.{storageWords}
-use Rattle.checks.specs.Checks.{tooShort, roundRules, closingRules}
+use Rattle.checks.specs.JournalChecks.{tooShort, roundRules, closingRules}
 
 not-below : (a b : ℕ) → (a < b → ⊥) → b ≤ a
 not-below a b n = go (decLt a b)

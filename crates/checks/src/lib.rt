@@ -1,10 +1,10 @@
 // What a round or a closing is refused for, behind the rules of its sheet.
 ghost use Prim.Native.Nat.{_≤_};
-ghost use Rattle.refusal.specs.Decided.{Decided};
-ghost use Rattle.checks.specs.Checks.{journalRules, heardRules, endRules, roundRules, closingRules};
+ghost use Rattle.outcomes.specs.Decided.{Decided};
+ghost use Rattle.checks.specs.JournalChecks.{journalRules, heardRules, endRules, roundRules, closingRules};
+use outcomes::Outcome;
+use outcomes::Refusal;
 use record::JournalRecord;
-use refusal::Outcome;
-use refusal::Refusal;
 
 // Rules 15, 18 and 12, for n outputs and `lent` numbers of storage.
 fn check_journal(n: u8, lent: usize, r: JournalRecord) -> Outcome

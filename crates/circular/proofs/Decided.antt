@@ -2,18 +2,18 @@
 use mathlib.Core.Path.{_≡_, refl, ap, subst}
 use mathlib.Core.List.{List, [], _∷_}
 use Prim.Native.Nat.{ℕ}
-use Rattle.refusal.specs.Decided.{Check, check, Decided}
-use Rattle.refusal.specs.declared.Refusal.{Refusal}
-use Rattle.refusal.specs.declared.Refusal.the-variants as refusal
-use Rattle.refusal.specs.declared.Outcome.{Outcome}
-use Rattle.refusal.specs.declared.Outcome.the-variants.{Accepted, Refused}
-use Rattle.refusal.proofs.Decisions.{breaks, passes, passed, passed-both, decided-refused, decided-accepted}
-use Rattle.sheet.specs.Checks.{readingChecks}
+use Rattle.outcomes.specs.Decided.{Check, check, Decided}
+use Rattle.outcomes.specs.declared.Refusal.{Refusal}
+use Rattle.outcomes.specs.declared.Refusal.the-variants as refusal
+use Rattle.outcomes.specs.declared.Outcome.{Outcome}
+use Rattle.outcomes.specs.declared.Outcome.the-variants.{Accepted, Refused}
+use Rattle.outcomes.proofs.Decisions.{breaks, passes, passed, passed-both, decided-refused, decided-accepted}
+use Rattle.sheet.specs.ReadingChecks.{readingChecks}
 use Rattle.sheet.specs.Decided.{readingOutcome}
 use Rattle.sheet.specs.RuleSheet.{RuleSheet, accepted, refused, readSheet}
 use Rattle.sheet.proofs.First.{reading-decided}
 use Rattle.circular.specs.Circular.{CircularSheet}
-use Rattle.circular.specs.Checks.{OfSheet, sheetChecks}
+use Rattle.circular.specs.SheetChecks.{OfSheet, sheetChecks}
 
 module _ (bs : List ℕ) where
   read-decided : (o : Outcome) → readingOutcome (readSheet bs) ≡ o → Decided (readingChecks bs) o

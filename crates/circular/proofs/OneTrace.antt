@@ -7,8 +7,8 @@ use native.Mathlib.Omega.{arith}
 use native.Mathlib.Decide.{decLt}
 use lib.ListN.{length, getD}
 use lib.Seq.{ext-getD}
-use Rattle.refusal.specs.Decided.{Decided}
-use Rattle.refusal.specs.declared.Outcome.the-variants.{Accepted}
+use Rattle.outcomes.specs.Decided.{Decided}
+use Rattle.outcomes.specs.declared.Outcome.the-variants.{Accepted}
 use Rattle.words.specs.Bits.{bit}
 use Rattle.words.specs.Below.{one}
 use Rattle.words.proofs.BitLaws.{bits-ext}
@@ -17,7 +17,7 @@ use Rattle.sheet.specs.RuleSheet.{RuleSheet, outputs, streams, accepted, readSh
 use Rattle.sheet.proofs.Formed.{Formed, read-formed}
 use Rattle.lola.specs.Equations.{Letters, joined}
 use Rattle.circular.specs.Circular.{CircularSheet, edges}
-use Rattle.circular.specs.Checks.{sheetChecks}
+use Rattle.circular.specs.SheetChecks.{sheetChecks}
 use Rattle.circular.specs.Unique.{TraceOf, OneTrace}
 use Rattle.circular.specs.Places.{Assignment, Place, Solves}
 use Rattle.circular.proofs.Decided.{accepted-level}

@@ -2,5 +2,5 @@ pub mod Circular
 pub mod Table
 pub mod Masks
 pub mod Places
-pub mod Checks
+pub mod SheetChecks
 pub mod Unique

@@ -3,13 +3,13 @@ ghost use mathlib.Core.Path.{_≡_};
 ghost use mathlib.Core.Bool.{true, false};
 ghost use Prim.Native.Nat.{ℕ, _<_, _≤_};
 ghost use lib.ListN.{length, getD};
-ghost use Rattle.refusal.specs.Decided.{Decided};
+ghost use Rattle.outcomes.specs.Decided.{Decided};
 ghost use Rattle.sheet.specs.Reading.{whenAccepted, blankIfRefused};
 ghost use Rattle.circular.specs.Circular.{Circular};
 ghost use Rattle.circular.specs.Masks.{readsOfCode};
-ghost use Rattle.circular.specs.Checks.{sheetChecks, AcceptedSheet};
-use refusal::Outcome;
-use refusal::Refusal;
+ghost use Rattle.circular.specs.SheetChecks.{sheetChecks, AcceptedSheet};
+use outcomes::Outcome;
+use outcomes::Refusal;
 use sheet::SheetRead;
 
 pub mod reads; // reads.rt: the reads between the outputs of a sheet

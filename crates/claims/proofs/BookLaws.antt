@@ -7,8 +7,8 @@ use Prim.Native.Nat.{ℕ, zero, suc, _^_, _≤_}
 use native.Mathlib.Omega.{arith}
 use lib.Dec.{T}
 use lib.ListN.{length, getElem?, length-map}
-use Rattle.refusal.specs.declared.Verdict.{Verdict}
-use Rattle.refusal.specs.declared.Verdict.the-variants.{True}
+use Rattle.outcomes.specs.declared.Verdict.{Verdict}
+use Rattle.outcomes.specs.declared.Verdict.the-variants.{True}
 use Rattle.words.proofs.Options.{nothing, same-some}
 use Rattle.sheet.specs.RuleSheet.{RuleSheet, outputs, streams}
 use Rattle.lola.specs.Equations.{output}
@@ -21,7 +21,7 @@ use Rattle.completions.proofs.Runs.{Round, Reached}
 use Rattle.completions.proofs.Steps.{start-exact, step-exact}
 use Rattle.completions.proofs.Verdicts.{one-verdict, test-verdict, test-closing}
 use Rattle.completions.proofs.Letters.{onLetter, onLetters, letters-verdict, letters-closing}
-use Rattle.accepted.specs.Results.{width, nextSet}
+use Rattle.effects.specs.Results.{width, nextSet}
 use Rattle.claims.specs.Book.{Call, closing, Answer, refused, verdicts, closed, Book, counted, refusal, Each, BookStep, refuse, accept, close, BookRun, finish, next}
 use Rattle.claims.specs.Further.{OneBook}
 
@@ -38,7 +38,7 @@ module _ {A : Type 0} where
       cc
 
   -- where R allows one entry for each output, there is one list
-  each-unique : (n : ℕ) (R : ℕ → A → Type 0) → ((k : ℕ) (y z : A) → R k y → R k z → y ≡ z) → (xs ys : List A) → Each n R xs → Each n R ys → xs ≡ ys
+  pub each-unique : (n : ℕ) (R : ℕ → A → Type 0) → ((k : ℕ) (y z : A) → R k y → R k z → y ≡ z) → (xs ys : List A) → Each n R xs → Each n R ys → xs ≡ ys
   each-unique n R same xs ys a b = same-list xs ys (a .size ∙ sym (b .size)) (λ k y z p q. same k y z (a .right k y p) (b .right k z q))
 
 -- ---- the machine keeps to the book

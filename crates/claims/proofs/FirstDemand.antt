@@ -2,30 +2,24 @@
 use mathlib.Core.Path.{_≡_, refl, sym, subst, _∙_}
 use mathlib.Core.Bool.{Bool, true, false, false≢true}
 use mathlib.Core.Logic.{_⊎_, inl, inr}
-use mathlib.Core.List.{List, [], _∷_, _++_}
+use mathlib.Core.List.{List, [], _∷_}
 use Prim.Native.Nat.{ℕ, zero, suc, _^_, _≤_, _<_}
 use native.Mathlib.Omega.{arith}
 use native.Mathlib.Decide.{ℕ-discrete, decLt}
 use lib.ListN.{length}
-use Rattle.refusal.specs.Decided.{Check, Decided}
-use Rattle.refusal.specs.declared.Refusal.{Refusal}
-use Rattle.refusal.specs.declared.Outcome.{Outcome}
-use Rattle.refusal.specs.declared.Outcome.the-variants.{Accepted, Refused}
-use Rattle.refusal.proofs.Decisions.{Decidable, decidable-both, decided-some, decided-once}
-use Rattle.sheet.specs.RuleSheet.{RuleSheet, Reading, refused, accepted, outputs, readSheet}
-use Rattle.sheet.specs.Checks.{inputsOf, outputsOf, sizeOf, byteChecks, outputChecks, readingChecks}
+use Rattle.outcomes.specs.Decided.{Check}
+use Rattle.outcomes.proofs.Decisions.{Decidable, decidable-both, decided-some, decided-once}
+use Rattle.sheet.specs.RuleSheet.{Reading, refused, accepted, outputs, readSheet}
+use Rattle.sheet.specs.ReadingChecks.{inputsOf, outputsOf, sizeOf, byteChecks, outputChecks, readingChecks}
 use Rattle.circular.specs.Circular.{CircularSheet, edges}
-use Rattle.circular.specs.Checks.{OfSheet, sheetChecks}
+use Rattle.circular.specs.SheetChecks.{OfSheet, sheetChecks}
 use Rattle.circular.proofs.Decide.{circular?, circular?-true, circular?-of}
-use Rattle.trace.specs.Checks.{letterChecks, runChecks}
+use Rattle.trace.specs.EvaluationChecks.{letterChecks, runChecks}
 use Rattle.record.specs.Record.{recordOk}
 use Rattle.record.specs.declared.JournalRecord.{JournalRecord}
 use Rattle.letters.specs.Masks.{badMasks}
-use Rattle.checks.specs.Checks.{tooShort, journalRules, heardRules, endRules, roundRules, closingRules}
-use Rattle.accepted.specs.declared.PrepareAnswer.{PrepareAnswer}
-use Rattle.accepted.specs.declared.RoundAnswer.{RoundAnswer}
-use Rattle.accepted.specs.declared.ClosingAnswer.{ClosingAnswer}
-use Rattle.monitor.specs.Entries.{Prepares, PrepareCall, Rounds, RoundCall, Closes, CloseCall}
+use Rattle.checks.specs.JournalChecks.{tooShort, journalRules, heardRules, endRules, roundRules, closingRules}
+use Rattle.monitor.specs.Entries.{Prepares, Rounds, Closes}
 use Rattle.claims.specs.Demands.{OneOutcome, FirstDemand}
 
 -- checks that can be tested decide one outcome

@@ -11,7 +11,7 @@ use Rattle.completions.specs.Live.{Pairs}
 use Rattle.completions.specs.Steps.{Within, Represents}
 use Rattle.completions.proofs.Count.{Subset, pairs-same}
 use Rattle.pairs.specs.Storage.{stored, setWords, reachedAt, scratchAt, storageWords, live}
-use Rattle.accepted.specs.Results.{Zero}
+use Rattle.effects.specs.Results.{Zero}
 use Rattle.claims.specs.Further.{StorageForgotten}
 use Rattle.claims.proofs.Tidy.{zero-none}
 

@@ -3,7 +3,7 @@ use mathlib.Core.List.{List, [], _∷_, _++_, map}
 use Prim.Native.Nat.{ℕ, _≤_}
 use native.Mathlib.Omega.{arith}
 use lib.ListN.{length, length-map}
-use Rattle.sheet.specs.RuleSheet.{RuleSheet, outputs}
+use Rattle.sheet.specs.RuleSheet.{outputs}
 use Rattle.lola.specs.Equations.{output, letter}
 use Rattle.record.proofs.Tallies.{RecordOk, record-is}
 use Rattle.completions.specs.Live.{Pairs, Live}
@@ -14,7 +14,7 @@ use Rattle.completions.proofs.Verdicts.{one-verdict}
 use Rattle.completions.proofs.Letters.{onLetter, onLetters, completion-of, run-of}
 use Rattle.completions.proofs.Backward.{liveWithin, settled-exact, settles, prefix-short, small-256}
 use Rattle.completions.proofs.Range.{wider}
-use Rattle.accepted.specs.Results.{width}
+use Rattle.effects.specs.Results.{width}
 use Rattle.claims.specs.Further.{LiveSet, OneVerdict, SomeVerdict, StaysBroken, ShortCompletion, StaysInOrder}
 use Rattle.claims.proofs.BookLaws.{reached-by, reaches-round, reaches-closing}
 use Rattle.claims.proofs.ThirdDemand.{began, after-calls}

@@ -7,13 +7,13 @@ use native.Mathlib.Omega.{arith}
 use lib.Dec.{leb, ltb}
 use lib.ListN.{length}
 use borrow.Author.Tests.{leb-true, ltb-false}
-use Rattle.refusal.specs.Decided.{test, Decided}
-use Rattle.refusal.specs.declared.Refusal.the-variants.{Leftover, Values}
-use Rattle.refusal.specs.declared.Outcome.the-variants.{Accepted}
-use Rattle.refusal.proofs.Decisions.{Passed, all-passed, passed-append}
+use Rattle.outcomes.specs.Decided.{test, Decided}
+use Rattle.outcomes.specs.declared.Refusal.the-variants.{Leftover, Values}
+use Rattle.outcomes.specs.declared.Outcome.the-variants.{Accepted}
+use Rattle.outcomes.proofs.Decisions.{Passed, all-passed, passed-append}
 use Rattle.words.proofs.Bools.{and-split}
 use Rattle.sheet.specs.Header.{countsOk}
-use Rattle.sheet.specs.Checks.{inputsOf, outputsOf, placeOf, sizeOf, badSize, badEnd, leftOver, byteChecks, outputChecks, readingChecks}
+use Rattle.sheet.specs.ReadingChecks.{inputsOf, outputsOf, placeOf, sizeOf, badSize, badEnd, leftOver, byteChecks, outputChecks, readingChecks}
 use Rattle.sheet.specs.Decided.{readingOutcome}
 use Rattle.sheet.proofs.First.{reading-decided}
 use Rattle.sheet.proofs.Headers as headers

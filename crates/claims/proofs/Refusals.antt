@@ -8,21 +8,21 @@ use Prim.Native.Nat.{ℕ, _≤_, _<_}
 use native.Mathlib.Omega.{arith}
 use lib.Dec.{eqb, leb}
 use borrow.Author.Tests.{leb-true, leb-false, eqb-true, eq-eqb}
-use Rattle.refusal.specs.Decided.{check, Decided}
-use Rattle.refusal.specs.declared.Refusal.{Refusal}
-use Rattle.refusal.specs.declared.Refusal.the-variants.{Letter, Closed, Full, NoRound}
-use Rattle.refusal.specs.declared.Outcome.{Outcome}
-use Rattle.refusal.specs.declared.Outcome.the-variants.{Accepted, Refused}
-use Rattle.refusal.proofs.Decisions.{decided-accepted}
+use Rattle.outcomes.specs.Decided.{check, Decided}
+use Rattle.outcomes.specs.declared.Refusal.{Refusal}
+use Rattle.outcomes.specs.declared.Refusal.the-variants.{Letter, Closed, Full, NoRound}
+use Rattle.outcomes.specs.declared.Outcome.{Outcome}
+use Rattle.outcomes.specs.declared.Outcome.the-variants.{Accepted, Refused}
+use Rattle.outcomes.proofs.Decisions.{decided-accepted}
 use Rattle.sheet.specs.RuleSheet.{RuleSheet, outputs, accepted, readSheet}
-use Rattle.sheet.specs.Checks.{inputsOf, outputsOf}
+use Rattle.sheet.specs.ReadingChecks.{inputsOf, outputsOf}
 use Rattle.sheet.proofs.Formed.{counts-of}
-use Rattle.circular.specs.Checks.{sheetChecks}
+use Rattle.circular.specs.SheetChecks.{sheetChecks}
 use Rattle.record.specs.Record.{maxRounds, recordOk}
 use Rattle.record.specs.declared.JournalRecord.{JournalRecord}
 use Rattle.letters.specs.Masks.{badMasks}
 use Rattle.pairs.specs.Storage.{storageWords}
-use Rattle.checks.specs.Checks.{heardRules, endRules, roundRules, closingRules, roundChecks, closingChecks}
+use Rattle.checks.specs.JournalChecks.{heardRules, endRules, roundRules, closingRules, roundChecks, closingChecks}
 use Rattle.claims.specs.Book.{round, closing, refusal}
 
 abbrev pub outcomeBy : Option Refusal → Outcome

@@ -1,5 +1,5 @@
 -- The second demand: an accepted sheet has one trace for all letters, and evaluation writes it.
-use mathlib.Core.Path.{_≡_, refl, sym, ap, subst}
+use mathlib.Core.Path.{_≡_, refl, ap, subst}
 use mathlib.Core.Logic.{inr}
 use mathlib.Core.List.{List, [], _∷_}
 use Prim.Native.Nat.{ℕ, _^_, _≤_, _<_}
@@ -7,21 +7,21 @@ use native.Mathlib.Omega.{arith}
 use native.Mathlib.Decide.{decLt}
 use lib.ListN.{length, take}
 use lib.Seq.{length-take-le}
-use Rattle.refusal.specs.Decided.{Decided}
-use Rattle.refusal.specs.declared.Outcome.the-variants.{Accepted, Refused}
-use Rattle.refusal.proofs.Decisions.{Passed, all-passed, passed-both, decided-once}
-use Rattle.refusal.proofs.NumberLaws.{not-both}
-use Rattle.sheet.specs.Checks.{inputsOf, readingChecks}
+use Rattle.outcomes.specs.Decided.{Decided}
+use Rattle.outcomes.specs.declared.Outcome.the-variants.{Accepted, Refused}
+use Rattle.outcomes.proofs.Decisions.{Passed, all-passed, passed-both, decided-once}
+use Rattle.outcomes.proofs.NumberLaws.{not-both}
+use Rattle.sheet.specs.ReadingChecks.{inputsOf, readingChecks}
 use Rattle.sheet.specs.RuleSheet.{RuleSheet, Reading, refused, accepted, readSheet}
 use Rattle.sheet.specs.Decided.{readingOutcome}
 use Rattle.sheet.proofs.First.{reading-decided}
 use Rattle.sheet.proofs.Formed.{counts-of}
 use Rattle.lola.specs.Equations.{Letters, joined}
-use Rattle.circular.specs.Checks.{sheetChecks}
+use Rattle.circular.specs.SheetChecks.{sheetChecks}
 use Rattle.circular.specs.Unique.{TraceOf}
 use Rattle.circular.proofs.Lists.{joined-letters}
 use Rattle.circular.proofs.OneTrace.{accepted-one-trace}
-use Rattle.trace.specs.Checks.{letterChecks, runChecks}
+use Rattle.trace.specs.EvaluationChecks.{letterChecks, runChecks}
 use Rattle.claims.specs.Demands.{UniqueTraces, SecondDemand}
 
 -- a sheet that rules 1 to 10 accept is read: where reading refuses it, one of them is broken

@@ -3,15 +3,15 @@ use mathlib.Core.Path.{_≡_, subst}
 use mathlib.Core.List.{List, [], _∷_}
 use Prim.Native.Nat.{ℕ}
 use lib.ListN.{length}
-use Rattle.refusal.specs.Decided.{Decided}
-use Rattle.refusal.specs.declared.Outcome.the-variants.{Accepted}
-use Rattle.refusal.proofs.Decisions.{passed-both}
-use Rattle.sheet.specs.RuleSheet.{RuleSheet, accepted, readSheet}
-use Rattle.circular.specs.Checks.{sheetChecks}
-use Rattle.checks.specs.Checks.{tooShort, prepareChecks}
+use Rattle.outcomes.specs.Decided.{Decided}
+use Rattle.outcomes.specs.declared.Outcome.the-variants.{Accepted}
+use Rattle.outcomes.proofs.Decisions.{passed-both}
+use Rattle.sheet.specs.RuleSheet.{RuleSheet}
+use Rattle.circular.specs.SheetChecks.{sheetChecks}
+use Rattle.checks.specs.JournalChecks.{tooShort, prepareChecks}
 use Rattle.checks.proofs.Checking.{enough}
-use Rattle.accepted.specs.Results.{Prepared}
-use Rattle.accepted.specs.declared.PrepareAnswer.{PrepareAnswer}
+use Rattle.effects.specs.Results.{Prepared}
+use Rattle.effects.specs.declared.PrepareAnswer.{PrepareAnswer}
 use Rattle.monitor.specs.Entries.{Prepares, PrepareCall}
 use Rattle.claims.specs.Book.{Call, Answer, emptyBook}
 use Rattle.claims.specs.Session.{Held, held, Session}

@@ -6,8 +6,8 @@ use mathlib.Core.Option.{Option}
 use Prim.Native.Nat.{ℕ, _+_, _<_, _≤_}
 use native.Mathlib.Omega.{arith}
 use lib.Dec.{ltb}
-use Rattle.refusal.specs.declared.Outcome.{Outcome}
-use Rattle.refusal.specs.declared.Outcome.the-variants.{Accepted, Refused}
+use Rattle.outcomes.specs.declared.Outcome.{Outcome}
+use Rattle.outcomes.specs.declared.Outcome.the-variants.{Accepted, Refused}
 use Rattle.words.specs.Bits.{bit}
 use Rattle.words.proofs.BitLaws.{bit-none}
 use Rattle.sheet.specs.RuleSheet.{RuleSheet}
@@ -16,9 +16,9 @@ use Rattle.completions.specs.Completion.{LetterSet, masked}
 use Rattle.completions.specs.Steps.{Within, partBelow}
 use Rattle.pairs.specs.Storage.{place, slot, stored, setWords, reachedAt, scratchAt, storageWords, live, reached, scratch, used}
 use Rattle.pairs.proofs.Sets.{place-lt, unused}
-use Rattle.accepted.specs.Results.{width, heard, nextSet, Zero, Prepared, RoundDone}
-use Rattle.accepted.specs.declared.PrepareAnswer.{PrepareAnswer}
-use Rattle.accepted.specs.declared.RoundAnswer.{RoundAnswer}
+use Rattle.effects.specs.Results.{width, heard, nextSet, Zero, Prepared, RoundDone}
+use Rattle.effects.specs.declared.PrepareAnswer.{PrepareAnswer}
+use Rattle.effects.specs.declared.RoundAnswer.{RoundAnswer}
 use Rattle.monitor.specs.Entries.{Rounds}
 use Rattle.claims.specs.Book.{Call, Answer}
 use Rattle.claims.specs.Session.{Held, held, SessionStep, a-round, a-closing, Session, finish, next}

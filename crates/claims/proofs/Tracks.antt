@@ -6,24 +6,23 @@ use mathlib.Core.List.{List, [], _∷_, _++_}
 use mathlib.Core.Option.{Option, none, some}
 use Prim.Native.Nat.{ℕ, zero, suc, _+_, _*_, _≤_, _<_}
 use native.Mathlib.Omega.{arith}
-use lib.ListN.{length, getD, getElem?, take, length-map, length-replicate, replicate}
+use lib.ListN.{length, getD, getElem?, take, length-map, replicate}
 use lib.Pow.{pow-mono}
 use lib.Seq.{length-take-le}
-use Rattle.refusal.specs.Numbers.{toldAt, verdictList, Verdicts}
-use Rattle.refusal.specs.Decided.{Decided}
-use Rattle.refusal.specs.declared.Refusal.{Refusal}
-use Rattle.refusal.specs.declared.Outcome.{Outcome}
-use Rattle.refusal.specs.declared.Outcome.the-variants.{Accepted, Refused}
-use Rattle.refusal.specs.declared.Verdict.{Verdict}
-use Rattle.refusal.specs.declared.Verdict.the-variants.{True}
-use Rattle.refusal.specs.declared.Told.{Told}
-use Rattle.refusal.proofs.Decisions.{decided-once}
-use Rattle.refusal.proofs.NumberLaws.{told-size, told-at, told-below}
+use Rattle.outcomes.specs.Numbers.{toldAt, verdictList, Verdicts}
+use Rattle.outcomes.specs.declared.Refusal.{Refusal}
+use Rattle.outcomes.specs.declared.Outcome.{Outcome}
+use Rattle.outcomes.specs.declared.Outcome.the-variants.{Accepted, Refused}
+use Rattle.outcomes.specs.declared.Verdict.{Verdict}
+use Rattle.outcomes.specs.declared.Verdict.the-variants.{True}
+use Rattle.outcomes.specs.declared.Told.{Told}
+use Rattle.outcomes.proofs.Decisions.{decided-once}
+use Rattle.outcomes.proofs.NumberLaws.{told-size, told-at, told-below}
 use Rattle.words.specs.Below.{one}
 use Rattle.words.proofs.ListLaws.{zeros}
 use Rattle.words.proofs.Options.{nothing, same-some}
 use Rattle.sheet.specs.RuleSheet.{RuleSheet, outputs, streams, accepted, readSheet}
-use Rattle.sheet.specs.Checks.{outputsOf}
+use Rattle.sheet.specs.ReadingChecks.{outputsOf}
 use Rattle.sheet.proofs.Formed.{counts-of, read-formed}
 use Rattle.lola.specs.Equations.{output}
 use Rattle.record.specs.Record.{maxRounds, Fresh, countAt, sumAt, addUp, recordOk, share, sameVerdict}
@@ -37,14 +36,14 @@ use Rattle.completions.proofs.Runs.{Round}
 use Rattle.completions.proofs.Follow.{length-snoc}
 use Rattle.completions.proofs.Letters.{onLetter, onLetters}
 use Rattle.completions.proofs.Range.{wider}
-use Rattle.pairs.specs.Storage.{liveAt, reachedAt, storageWords, live, reached}
+use Rattle.pairs.specs.Storage.{liveAt, storageWords, live, reached}
 use Rattle.pairs.proofs.Sets.{stored-eq}
-use Rattle.checks.specs.Checks.{roundChecks, closingChecks}
-use Rattle.accepted.specs.Results.{width, nextSet, Prepared, RoundDone, ClosingDone}
-use Rattle.accepted.specs.declared.PrepareAnswer.{PrepareAnswer}
-use Rattle.accepted.specs.declared.RoundAnswer.{RoundAnswer}
-use Rattle.accepted.specs.declared.ClosingAnswer.{ClosingAnswer}
-use Rattle.accepted.proofs.Rounding.{reached-below}
+use Rattle.checks.specs.JournalChecks.{roundChecks, closingChecks}
+use Rattle.effects.specs.Results.{width, nextSet, Prepared, RoundDone, ClosingDone}
+use Rattle.effects.specs.declared.PrepareAnswer.{PrepareAnswer}
+use Rattle.effects.specs.declared.RoundAnswer.{RoundAnswer}
+use Rattle.effects.specs.declared.ClosingAnswer.{ClosingAnswer}
+use Rattle.effects.proofs.Rounding.{reached-below}
 use Rattle.monitor.specs.Entries.{Rounds, RoundCall, Closes, CloseCall}
 use Rattle.claims.specs.Book.{Call, round, closing, Answer, refused, verdicts, closed, Book, emptyBook, isAt, counted, refusal, Each, BookStep, refuse, accept, close, BookRun}
 use Rattle.claims.specs.Book as book

@@ -4,20 +4,20 @@ use mathlib.Core.Path.{_≡_}
 use mathlib.Core.List.{List}
 use Prim.Native.Nat.{ℕ}
 use lib.ListN.{length, take}
-use Rattle.refusal.specs.Decided.{Check, Decided}
-use Rattle.refusal.specs.declared.Refusal.{Refusal}
-use Rattle.refusal.specs.declared.Outcome.{Outcome}
-use Rattle.refusal.specs.declared.Outcome.the-variants.{Accepted, Refused}
+use Rattle.outcomes.specs.Decided.{Check, Decided}
+use Rattle.outcomes.specs.declared.Refusal.{Refusal}
+use Rattle.outcomes.specs.declared.Outcome.{Outcome}
+use Rattle.outcomes.specs.declared.Outcome.the-variants.{Accepted, Refused}
 use Rattle.lola.specs.Equations.{Letters, joined}
-use Rattle.circular.specs.Checks.{OfSheet, sheetChecks}
+use Rattle.circular.specs.SheetChecks.{OfSheet, sheetChecks}
 use Rattle.circular.specs.Unique.{TraceOf, OneTrace}
-use Rattle.trace.specs.Checks.{evaluationChecks}
+use Rattle.trace.specs.EvaluationChecks.{evaluationChecks}
 use Rattle.trace.specs.Evaluated.{EvaluateCall}
 use Rattle.record.specs.declared.JournalRecord.{JournalRecord}
-use Rattle.checks.specs.Checks.{prepareChecks, roundChecks, closingChecks}
-use Rattle.accepted.specs.declared.PrepareAnswer.{PrepareAnswer}
-use Rattle.accepted.specs.declared.RoundAnswer.{RoundAnswer}
-use Rattle.accepted.specs.declared.ClosingAnswer.{ClosingAnswer}
+use Rattle.checks.specs.JournalChecks.{prepareChecks, roundChecks, closingChecks}
+use Rattle.effects.specs.declared.PrepareAnswer.{PrepareAnswer}
+use Rattle.effects.specs.declared.RoundAnswer.{RoundAnswer}
+use Rattle.effects.specs.declared.ClosingAnswer.{ClosingAnswer}
 use Rattle.monitor.specs.Entries.{PrepareCall, RoundCall, CloseCall}
 use Rattle.claims.specs.Book.{Call, Answer, Book, emptyBook, BookRun}
 use Rattle.claims.specs.Session.{Held, held, Session, Matches}

@@ -6,19 +6,19 @@ use mathlib.Core.List.{List, [], _∷_, _++_}
 use mathlib.Core.Option.{Option}
 use Prim.Native.Nat.{ℕ, _+_, _≤_, _<_}
 use lib.ListN.{length}
-use Rattle.refusal.specs.declared.Verdict.{Verdict}
-use Rattle.refusal.specs.declared.Verdict.the-variants.{Broken}
-use Rattle.refusal.specs.declared.Outcome.the-variants.{Accepted}
+use Rattle.outcomes.specs.declared.Verdict.{Verdict}
+use Rattle.outcomes.specs.declared.Verdict.the-variants.{Broken}
+use Rattle.outcomes.specs.declared.Outcome.the-variants.{Accepted}
 use Rattle.sheet.specs.RuleSheet.{RuleSheet, outputs, streams, accepted, readSheet}
-use Rattle.circular.specs.Checks.{OfSheet}
+use Rattle.circular.specs.SheetChecks.{OfSheet}
 use Rattle.record.specs.Record.{maxRounds, sumAt}
 use Rattle.completions.specs.Live.{Pairs, Live, countPairs}
 use Rattle.completions.specs.Completion.{LetterSet, Completion}
 use Rattle.completions.specs.Judged.{RoundVerdict, ClosingVerdict}
 use Rattle.completions.specs.Steps.{Represents, Within, pairsWithin}
 use Rattle.pairs.specs.Storage.{storageWords, live, reached, scratch}
-use Rattle.accepted.specs.Results.{width, Prepared}
-use Rattle.accepted.specs.declared.PrepareAnswer.{PrepareAnswer}
+use Rattle.effects.specs.Results.{width, Prepared}
+use Rattle.effects.specs.declared.PrepareAnswer.{PrepareAnswer}
 use Rattle.monitor.specs.Entries.{PrepareCall}
 use Rattle.claims.specs.Book.{Call, Answer, Book, BookRun}
 use Rattle.claims.specs.Session.{Held, held, Session}

@@ -9,7 +9,7 @@ use native.Mathlib.Omega.{arith}
 use lib.Dec.{ltb, ltb→lt, lt→ltb}
 use lib.ListN.{length, length-map}
 use lib.Pow.{pow-pos}
-use Rattle.refusal.specs.declared.Verdict.{Verdict}
+use Rattle.outcomes.specs.declared.Verdict.{Verdict}
 use Rattle.words.proofs.Tests.{and-left, and-right, and-both}
 use Rattle.sheet.specs.RuleSheet.{RuleSheet, streams}
 use Rattle.lola.specs.Equations.{Satisfies, Letters, letter}

@@ -7,8 +7,8 @@ use mathlib.Core.Option.{Option, none, some}
 use Prim.Native.Nat.{ℕ, zero, suc, _^_, _≤_, _<_}
 use lib.Dec.{T, not-T}
 use lib.ListN.{length, getElem?, getD}
-use Rattle.refusal.specs.declared.Verdict.{Verdict}
-use Rattle.refusal.specs.declared.Verdict.the-variants.{False, True, Open, Broken}
+use Rattle.outcomes.specs.declared.Verdict.{Verdict}
+use Rattle.outcomes.specs.declared.Verdict.the-variants.{False, True, Open, Broken}
 use Rattle.words.specs.Below.{anyBelow}
 use Rattle.words.proofs.Tests.{either, not-both, and-left, and-right, and-both}
 use Rattle.words.proofs.Options.{nothing, same-some}

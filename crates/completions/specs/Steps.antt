@@ -6,8 +6,8 @@ use mathlib.Core.Logic.{_↔_}
 use mathlib.Core.Option.{Option, none, some}
 use Prim.Native.Nat.{ℕ, _<_}
 use lib.Dec.{T, ltb}
-use Rattle.refusal.specs.declared.Verdict.{Verdict}
-use Rattle.refusal.specs.declared.Verdict.the-variants.{False, True, Open, Broken}
+use Rattle.outcomes.specs.declared.Verdict.{Verdict}
+use Rattle.outcomes.specs.declared.Verdict.the-variants.{False, True, Open, Broken}
 use Rattle.words.specs.Below.{anyBelow}
 use Rattle.sheet.specs.RuleSheet.{RuleSheet}
 use Rattle.lola.specs.Equations.{holds}

@@ -4,14 +4,14 @@ use mathlib.Core.Path.{_≡_, refl}
 use mathlib.Core.List.{List, [], _∷_}
 use Prim.Native.Nat.{ℕ}
 use lib.Dec.{T}
-use Rattle.refusal.specs.declared.Refusal.the-variants.{Circular}
-use Rattle.refusal.specs.declared.Outcome.{Outcome}
-use Rattle.refusal.specs.declared.Outcome.the-variants.{Refused}
-use Rattle.refusal.proofs.Decisions.{decided-once}
+use Rattle.outcomes.specs.declared.Refusal.the-variants.{Circular}
+use Rattle.outcomes.specs.declared.Outcome.{Outcome}
+use Rattle.outcomes.specs.declared.Outcome.the-variants.{Refused}
+use Rattle.outcomes.proofs.Decisions.{decided-once}
 use Rattle.words.proofs.Tests.{and-left, and-right, not-both, true-of, of-true}
 use Rattle.sheet.specs.RuleSheet.{RuleSheet, outputs, Reading, refused, accepted, readSheet}
 use Rattle.circular.specs.Circular.{edges, CircularSheet}
-use Rattle.circular.specs.Checks.{sheetChecks}
+use Rattle.circular.specs.SheetChecks.{sheetChecks}
 use Rattle.circular.proofs.Decide.{circular?, circular?-true, circular?-of}
 use Rattle.circular.proofs.Decided.{level, round}
 use Rattle.examples.specs.Table.{SheetOutcome, AcceptedAs}

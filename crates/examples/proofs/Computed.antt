@@ -9,10 +9,10 @@ use native.Mathlib.Omega.{arith}
 use lib.Dec.{T, eqb, leb, ltb, eqb→eq, ltb→lt}
 use lib.ListN.{length, getD, getElem?}
 use borrow.Author.Tests.{leb-true}
-use Rattle.refusal.specs.Numbers.{refusalNo, verdictNo}
-use Rattle.refusal.specs.declared.Refusal.the-variants.{Circular}
-use Rattle.refusal.specs.declared.Verdict.{Verdict}
-use Rattle.refusal.specs.declared.Verdict.the-variants.{False, True, Open, Broken}
+use Rattle.outcomes.specs.Numbers.{refusalNo, verdictNo}
+use Rattle.outcomes.specs.declared.Refusal.the-variants.{Circular}
+use Rattle.outcomes.specs.declared.Verdict.{Verdict}
+use Rattle.outcomes.specs.declared.Verdict.the-variants.{False, True, Open, Broken}
 use Rattle.words.specs.Bits.{bit, digit}
 use Rattle.words.specs.Below.{anyBelow, sumBelow, countBelow}
 use Rattle.words.proofs.Tests.{and-left, and-right, true-of, of-true}
@@ -38,7 +38,7 @@ use Rattle.completions.specs.Steps.{anyNext, anyPair, Represents, startSet, pai
 use Rattle.completions.proofs.Backward.{endSet, backSet, liveWithin, layer, settled-exact, live-count}
 use Rattle.completions.proofs.Letters.{onLetter}
 use Rattle.completions.proofs.Steps.{start-exact}
-use Rattle.accepted.specs.Results.{width}
+use Rattle.effects.specs.Results.{width}
 use Rattle.claims.proofs.Further.{live-set}
 use Rattle.claims.proofs.BookLaws.{round-right, reaches-closing}
 use Rattle.examples.specs.Table.{Case, judged, closing, turned-down, lives, values, unheard, AcceptedAs, EvaluatesTo, Holds, one-input, session, table, Examples}

@@ -1,15 +1,14 @@
 -- No two answers fit a case.
 use mathlib.Core.Path.{_≡_, refl, sym, ap, _∙_, subst}
 use mathlib.Core.List.{List, [], _∷_}
-use mathlib.Core.Option.{some}
-use Prim.Native.Nat.{ℕ, suc, _+_, _*_, _^_}
+use Prim.Native.Nat.{ℕ, _+_, _*_, _^_}
 use native.Mathlib.Nat.{eq-of-mul-eq-mul-left}
 use native.Mathlib.Omega.{arith}
-use lib.ListN.{length, getElem?}
+use lib.ListN.{length}
 use lib.Pow.{pow-pos}
-use Rattle.refusal.specs.Numbers.{refusalNo}
-use Rattle.refusal.specs.declared.Outcome.the-variants.{Accepted, Refused}
-use Rattle.refusal.proofs.NumberLaws.{not-both}
+use Rattle.outcomes.specs.Numbers.{refusalNo}
+use Rattle.outcomes.specs.declared.Outcome.the-variants.{Accepted, Refused}
+use Rattle.outcomes.proofs.NumberLaws.{not-both}
 use Rattle.sheet.specs.RuleSheet.{RuleSheet, outputs}
 use Rattle.lola.specs.Equations.{joined}
 use Rattle.completions.specs.Live.{Pairs, Live, countPairs}
@@ -17,6 +16,7 @@ use Rattle.completions.specs.Judged.{RoundVerdict, ClosingVerdict}
 use Rattle.completions.specs.Steps.{Represents}
 use Rattle.completions.proofs.Count.{pairs-same}
 use Rattle.claims.specs.Book.{Each}
+use Rattle.claims.proofs.BookLaws.{each-unique}
 use Rattle.claims.proofs.Further.{one-verdict-fits}
 use Rattle.examples.specs.Table.{unheard, AcceptedAs, EvaluatesTo, OneAnswer}
 use Rattle.examples.proofs.Accepted.{one-outcome}
@@ -25,21 +25,6 @@ use Rattle.examples.proofs.Accepted.{one-outcome}
 
 one-sheet : (bs : List ℕ) (x y : RuleSheet) → AcceptedAs bs x → AcceptedAs bs y → y ≡ x
 one-sheet bs x y a b = cc (a .read, b .read)
-
--- ---- verdicts
-
-module _ {A : Type 0} where
-  same-list : (xs ys : List A) → length xs ≡ length ys → ((k : ℕ) (y z : A) → getElem? xs k ≡ some y → getElem? ys k ≡ some z → y ≡ z) → xs ≡ ys
-  same-list [] [] l h = refl
-  same-list [] (z ∷ ys) l h = absurd (omega arith)
-  same-list (y ∷ xs) [] l h = absurd (omega arith)
-  same-list (y ∷ xs) (z ∷ ys) l h =
-      let e : y ≡ z = h 0 y z refl refl in
-      let r : xs ≡ ys = same-list xs ys (omega arith) (λ k a b p q. h (suc k) a b p q) in
-      cc
-
-  same-each : (n : ℕ) (R : ℕ → A → Type 0) → ((k : ℕ) (y z : A) → R k y → R k z → y ≡ z) → (xs ys : List A) → Each n R xs → Each n R ys → xs ≡ ys
-  same-each n R one xs ys a b = same-list xs ys (a .size ∙ sym (b .size)) (λ k y z p q. one k y z (a .right k y p) (b .right k z q))
 
 -- ---- live pairs
 
@@ -64,10 +49,10 @@ pub one-answer : OneAnswer
 one-answer bs = (
   λ vs ws (x, a, h) (y, b, g).
       let each : Each (outputs x) (RoundVerdict x (unheard ∷ [])) ws = subst (λ (z : RuleSheet). Each (outputs z) (RoundVerdict z (unheard ∷ [])) ws) (one-sheet bs x y a b) g in
-      same-each (outputs x) (RoundVerdict x (unheard ∷ [])) (λ k v w. one-verdict-fits x (unheard ∷ []) k v w .0) vs ws h each,
+      each-unique (outputs x) (RoundVerdict x (unheard ∷ [])) (λ k v w. one-verdict-fits x (unheard ∷ []) k v w .0) vs ws h each,
   λ vs ws (x, a, h) (y, b, g).
       let each : Each (outputs x) (ClosingVerdict x (unheard ∷ [])) ws = subst (λ (z : RuleSheet). Each (outputs z) (ClosingVerdict z (unheard ∷ [])) ws) (one-sheet bs x y a b) g in
-      same-each (outputs x) (ClosingVerdict x (unheard ∷ [])) (λ k v w. one-verdict-fits x (unheard ∷ []) k v w .1) vs ws h each,
+      each-unique (outputs x) (ClosingVerdict x (unheard ∷ [])) (λ k v w. one-verdict-fits x (unheard ∷ []) k v w .1) vs ws h each,
   λ n k (r, d, e) (q, c, f). let same : Refused r ≡ Refused q = one-outcome bs (Refused r) (Refused q) d c in let z : r ≡ q = cc in sym e ∙ ap refusalNo z ∙ f,
   λ n k (x, a, L, h, e) (y, b, M, g, f).
       sym e ∙ same-count x L M h (subst (λ (z : RuleSheet). Represents 256 M (Live z)) (one-sheet bs x y a b) g) ∙ f,

@@ -5,16 +5,16 @@ use mathlib.Core.List.{List, [], _∷_}
 use mathlib.Core.Option.{some}
 use Prim.Native.Nat.{ℕ, _^_, _<_}
 use lib.ListN.{length, getD, getElem?}
-use Rattle.refusal.specs.Numbers.{refusalNo}
-use Rattle.refusal.specs.Decided.{Decided}
-use Rattle.refusal.specs.declared.Refusal.{Refusal}
-use Rattle.refusal.specs.declared.Outcome.{Outcome}
-use Rattle.refusal.specs.declared.Outcome.the-variants.{Accepted, Refused}
-use Rattle.refusal.specs.declared.Verdict.{Verdict}
-use Rattle.refusal.specs.declared.Verdict.the-variants.{False, True, Open, Broken}
+use Rattle.outcomes.specs.Numbers.{refusalNo}
+use Rattle.outcomes.specs.Decided.{Decided}
+use Rattle.outcomes.specs.declared.Refusal.{Refusal}
+use Rattle.outcomes.specs.declared.Outcome.{Outcome}
+use Rattle.outcomes.specs.declared.Outcome.the-variants.{Accepted, Refused}
+use Rattle.outcomes.specs.declared.Verdict.{Verdict}
+use Rattle.outcomes.specs.declared.Verdict.the-variants.{False, True, Open, Broken}
 use Rattle.sheet.specs.RuleSheet.{RuleSheet, outputs, accepted, readSheet}
 use Rattle.lola.specs.Equations.{joined}
-use Rattle.circular.specs.Checks.{sheetChecks}
+use Rattle.circular.specs.SheetChecks.{sheetChecks}
 use Rattle.circular.specs.Unique.{TraceOf}
 use Rattle.completions.specs.Live.{Pairs, Live, countPairs}
 use Rattle.completions.specs.Completion.{LetterSet, masked}

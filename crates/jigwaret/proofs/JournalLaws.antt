@@ -9,24 +9,24 @@ use native.Mathlib.Decide.{decLt}
 use lib.ListN.{length}
 use lib.Seq.{paste, length-paste}
 use borrow.Author.Tests.{not-true, lt-ltb}
-use Rattle.refusal.specs.Numbers.{refusalNo, outcomeNo}
-use Rattle.refusal.specs.Decided.{Check, check, Decided}
-use Rattle.refusal.specs.declared.Refusal.{Refusal}
-use Rattle.refusal.specs.declared.Refusal.the-variants.{Record}
-use Rattle.refusal.specs.declared.Outcome.{Outcome}
-use Rattle.refusal.specs.declared.Outcome.the-variants.{Accepted, Refused}
-use Rattle.refusal.proofs.Decisions.{all-passed, decided-behind, passed-both}
+use Rattle.outcomes.specs.Numbers.{refusalNo, outcomeNo}
+use Rattle.outcomes.specs.Decided.{Check, check, Decided}
+use Rattle.outcomes.specs.declared.Refusal.{Refusal}
+use Rattle.outcomes.specs.declared.Refusal.the-variants.{Record}
+use Rattle.outcomes.specs.declared.Outcome.{Outcome}
+use Rattle.outcomes.specs.declared.Outcome.the-variants.{Accepted, Refused}
+use Rattle.outcomes.proofs.Decisions.{all-passed, decided-behind, passed-both}
 use Rattle.sheet.specs.RuleSheet.{RuleSheet}
-use Rattle.sheet.specs.Checks.{outputsOf, readingChecks}
+use Rattle.sheet.specs.ReadingChecks.{outputsOf, readingChecks}
 use Rattle.sheet.proofs.Formed.{counts-of, read-formed}
-use Rattle.circular.specs.Checks.{OfSheet, sheetChecks}
+use Rattle.circular.specs.SheetChecks.{OfSheet, sheetChecks}
 use Rattle.record.specs.declared.JournalRecord.{JournalRecord}
-use Rattle.checks.specs.Checks.{tooShort}
+use Rattle.checks.specs.JournalChecks.{tooShort}
 use Rattle.slices.specs.Slices.{marked, numbersOf, verdictNumbers, sized}
 use Rattle.slices.specs.Loaded.{loaded}
 use Rattle.slices.proofs.SliceLaws.{Sizes, right-sizes, loaded-right, loaded-wrong}
-use Rattle.accepted.specs.declared.RoundAnswer.{RoundAnswer}
-use Rattle.accepted.specs.declared.ClosingAnswer.{ClosingAnswer}
+use Rattle.effects.specs.declared.RoundAnswer.{RoundAnswer}
+use Rattle.effects.specs.declared.ClosingAnswer.{ClosingAnswer}
 use Rattle.monitor.specs.Entries.{Rounds, RoundCall, CloseCall}
 use Rattle.jigwaret.specs.Journal.{Slices, slices, SlicesAfter, markChecks, MarkRefused, ByMark, RoundNumbered, ClosingNumbered, BySizes}
 

@@ -7,18 +7,18 @@ use mathlib.Core.List.{List, _∷_, [], _++_}
 use Prim.Native.Nat.{ℕ}
 use lib.ListN.{length}
 use lib.Seq.{paste}
-use Rattle.refusal.specs.Numbers.{outcomeNo}
-use Rattle.refusal.specs.Decided.{Check, check, Decided}
-use Rattle.refusal.specs.declared.Refusal.the-variants.{Record}
-use Rattle.refusal.specs.declared.Outcome.{Outcome}
-use Rattle.refusal.specs.declared.Outcome.the-variants.{Accepted, Refused}
-use Rattle.sheet.specs.Checks.{outputsOf}
-use Rattle.circular.specs.Checks.{sheetChecks}
-use Rattle.checks.specs.Checks.{tooShort}
+use Rattle.outcomes.specs.Numbers.{outcomeNo}
+use Rattle.outcomes.specs.Decided.{Check, check, Decided}
+use Rattle.outcomes.specs.declared.Refusal.the-variants.{Record}
+use Rattle.outcomes.specs.declared.Outcome.{Outcome}
+use Rattle.outcomes.specs.declared.Outcome.the-variants.{Accepted, Refused}
+use Rattle.sheet.specs.ReadingChecks.{outputsOf}
+use Rattle.circular.specs.SheetChecks.{sheetChecks}
+use Rattle.checks.specs.JournalChecks.{tooShort}
 use Rattle.slices.specs.Slices.{recordOf, marked, numbersOf, verdictNumbers, sized}
-use Rattle.accepted.specs.declared.PrepareAnswer.{PrepareAnswer}
-use Rattle.accepted.specs.declared.RoundAnswer.{RoundAnswer}
-use Rattle.accepted.specs.declared.ClosingAnswer.{ClosingAnswer}
+use Rattle.effects.specs.declared.PrepareAnswer.{PrepareAnswer}
+use Rattle.effects.specs.declared.RoundAnswer.{RoundAnswer}
+use Rattle.effects.specs.declared.ClosingAnswer.{ClosingAnswer}
 use Rattle.monitor.specs.Entries.{PrepareCall, RoundCall, CloseCall}
 
 -- the record's and the answer's slices before and after

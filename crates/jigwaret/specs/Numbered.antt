@@ -3,10 +3,10 @@
 use mathlib.Core.Path.{_≡_}
 use mathlib.Core.List.{List}
 use Prim.Native.Nat.{ℕ}
-use Rattle.refusal.specs.Numbers.{outcomeNo}
-use Rattle.refusal.specs.Decided.{Decided}
-use Rattle.refusal.specs.declared.Outcome.{Outcome}
-use Rattle.circular.specs.Checks.{sheetChecks}
+use Rattle.outcomes.specs.Numbers.{outcomeNo}
+use Rattle.outcomes.specs.Decided.{Decided}
+use Rattle.outcomes.specs.declared.Outcome.{Outcome}
+use Rattle.circular.specs.SheetChecks.{sheetChecks}
 use Rattle.trace.specs.Evaluated.{EvaluateCall}
 
 -- the check of a sheet

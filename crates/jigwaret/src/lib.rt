@@ -2,14 +2,14 @@
 // length.
 ghost use Rattle.jigwaret.specs.Numbered.{Checked, EvaluatedAs};
 ghost use Rattle.jigwaret.specs.Journal.{slices as Journal·slices, PreparedAs, RoundAs, ClosedAs};
-use refusal::Outcome;
+use outcomes::Outcome;
 
 // Rules 1 to 10.
 #[no_mangle]
 pub extern "C" fn jigwaret_check(sheet: &[u8]) -> u32
     ensures { λ r. ⌜ Checked (now (sheet .entry)) r ⌝ }
 {
-    refusal::outcome_number(circular::check_sheet(sheet))
+    outcomes::outcome_number(circular::check_sheet(sheet))
 }
 
 // Writes for each letter the byte whose bit k is output k.
@@ -17,7 +17,7 @@ pub extern "C" fn jigwaret_check(sheet: &[u8]) -> u32
 pub extern "C" fn jigwaret_evaluate(sheet: &[u8], letters: &[u8], out: &mut [u8]) -> u32
     ensures { λ r. ⌜ EvaluatedAs (now (sheet .entry)) (now (letters .entry)) (now (out .entry)) (now (out .exit)) r ⌝ }
 {
-    refusal::outcome_number(trace::evaluate(sheet, letters, &mut out[..]))
+    outcomes::outcome_number(trace::evaluate(sheet, letters, &mut out[..]))
 }
 
 // From here on: 255, and nothing altered, where a record has not 30 numbers or an answer fewer than 16.
@@ -38,7 +38,7 @@ pub extern "C" fn jigwaret_prepare(
     let a = monitor::prepare(sheet, storage);
     let outcome = a.outcome;
     match outcome {
-        Outcome::Refused(e) => refusal::refusal_number(e),
+        Outcome::Refused(e) => outcomes::refusal_number(e),
         Outcome::Accepted => {
             slices::store(record, a.record);
             answer[0] = a.live;
@@ -66,7 +66,7 @@ pub extern "C" fn jigwaret_round(
     let a = monitor::round(sheet, storage, before, known, value);
     let outcome = a.outcome;
     match outcome {
-        Outcome::Refused(e) => refusal::refusal_number(e),
+        Outcome::Refused(e) => outcomes::refusal_number(e),
         Outcome::Accepted => {
             slices::store(record, a.record);
             let verdicts = a.verdicts;
@@ -93,7 +93,7 @@ pub extern "C" fn jigwaret_close(
     let a = monitor::close(sheet, storage, before);
     let outcome = a.outcome;
     match outcome {
-        Outcome::Refused(e) => refusal::refusal_number(e),
+        Outcome::Refused(e) => outcomes::refusal_number(e),
         Outcome::Accepted => {
             slices::store(record, a.record);
             let n = sheet[6] as usize;

@@ -1,12 +1,12 @@
-// The journal program: reads the sheet's file and standard input, and writes what the crate `lines` makes of them.
+// The journal program: reads the sheet's file and standard input, and writes what the crate `protocol` makes of them.
 ghost use Prim.Native.Nat.{_+_, _*_, _≤_};
 ghost use lib.ListN.{length};
-ghost use Rattle.circular.specs.Checks.{IsAccepted};
+ghost use Rattle.circular.specs.SheetChecks.{IsAccepted};
 use libc::STDIN_FILENO;
 use libc::STDOUT_FILENO;
-use lines::Progress;
+use outcomes::Outcome;
+use protocol::Progress;
 use record::JournalRecord;
-use refusal::Outcome;
 use sheet::Sheet;
 
 // Where the run stands after a turn, whether to read on, and whether a write failed.
@@ -29,7 +29,7 @@ fn turn(x: Sheet, s: Progress, storage: &mut [u64], buf: &mut [u8], out: &mut [u
             failed: false,
         };
     }
-    let fed = lines::feed(x, s, storage, &buf[..n], out);
+    let fed = protocol::feed(x, s, storage, &buf[..n], out);
     let at = fed.at;
     let state = fed.state;
     let over = state.over;
@@ -61,7 +61,7 @@ fn run(x: Sheet, s: Progress, storage: &mut [u64])
     if failed {
         return;
     }
-    let n = lines::finish(x, state, storage, &mut out);
+    let n = protocol::finish(x, state, storage, &mut out);
     io::write_all(STDOUT_FILENO, &out[..n]);
 }
 
@@ -83,7 +83,7 @@ fn main() {
     let n = read_sheet(&mut sheet);
     let mut storage = [0u64; JournalRecord::STORAGE_WORDS];
     let mut out = io::buffer();
-    let begun = lines::start(&sheet[..n], &mut storage, &mut out);
+    let begun = protocol::start(&sheet[..n], &mut storage, &mut out);
     let outcome = begun.outcome;
     match outcome {
         Outcome::Refused(_) => {

@@ -8,7 +8,7 @@ use native.Mathlib.Omega.{arith}
 use lib.Dec.{ltb, eqb}
 use lib.ListN.{length, drop, getD, drop-of-length-le}
 use lib.Seq.{drop-cons}
-use Rattle.refusal.specs.declared.Refusal.the-variants.{Byte, Values}
+use Rattle.outcomes.specs.declared.Refusal.the-variants.{Byte, Values}
 use Rattle.words.specs.Bits.{bit}
 use Rattle.sheet.specs.Bytes.{opOf, readOf}
 use Rattle.sheet.specs.Expression.{Expr, constant, negation, conjunction, disjunction, read, stack, breaks, tree, applyOp, final, go-on, parse}

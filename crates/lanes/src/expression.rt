@@ -13,6 +13,7 @@ use super::row::not_row;
 use super::row::or_row;
 use super::row::read_row;
 use super::row::store_row;
+use sheet::OutputNo;
 
 // One expression byte on a stack of rows of two words: the top is in `top`, what lies below it, `used` rows, in st. Returns how many then do.
 fn two_step(st: &mut [u64], top: &mut [u64], used: usize, env: u64, f: u8, e: u8) -> usize
@@ -123,7 +124,7 @@ pub fn two_equations(
         let from = 64 * k;
         let to = from + len[k];
         two_value(st, &mut x, env, f, &code[from..to]);
-        keep_row(acc, 2, &x, f, b, output_stream(m, k));
+        keep_row(acc, 2, &x, f, b, output_stream(m, OutputNo(k as u8)));
         if is_empty(acc, 2) {
             return;
         }
@@ -154,7 +155,7 @@ pub fn four_equations(
         let from = 64 * k;
         let to = from + len[k];
         four_value(st, &mut x, env, f, &code[from..to]);
-        keep_row(acc, 4, &x, f, b, output_stream(m, k));
+        keep_row(acc, 4, &x, f, b, output_stream(m, OutputNo(k as u8)));
         if is_empty(acc, 4) {
             return;
         }

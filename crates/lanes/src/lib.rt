@@ -21,7 +21,7 @@ mod expression; // expression.rt: expressions and equations on rows of two words
 mod mask; // mask.rt: the streams that expressions read one round earlier
 mod row; // row.rt: one row of words
 
-// The families of reads that may be of the lane's valuation.
+// The families of reads that may be of the lane's valuation, numbered as the read bytes are: those of family f begin at 0x40 + 16 f.
 const NOW: u8 = 0;
 
 const EARLIER: u8 = 1;
@@ -31,11 +31,11 @@ const LATER: u8 = 2;
 // ---- The equations
 
 // The number of output k's stream, in a sheet of m inputs.
-pub fn output_stream(m: usize, k: usize) -> usize
-    requires { ⌜ m + k ≤ 8 ⌝ }
-    ensures { λ r. ⌜ r ≡ m + k ⌝ }
+fn output_stream(m: usize, k: OutputNo) -> usize
+    requires { ⌜ m + k .0 ≤ 8 ⌝ }
+    ensures { λ r. ⌜ r ≡ m + k .0 ⌝ }
 {
-    let q = sheet::stream_of(m as u8, OutputNo(k as u8));
+    let q = sheet::stream_of(m as u8, k);
     q.0 as usize
 }
 

@@ -4,7 +4,7 @@ use mathlib.Core.Bool.{Bool, true, false, cond, _&&_, _||_, or-assoc, or-comm, o
 use mathlib.Core.List.{List, [], _∷_}
 use Prim.Native.Nat.{ℕ}
 use lib.Dec.{eqb, ltb}
-use Rattle.refusal.specs.declared.Refusal.the-variants.{Byte}
+use Rattle.outcomes.specs.declared.Refusal.the-variants.{Byte}
 use Rattle.sheet.specs.Bytes.{opOf}
 use Rattle.sheet.specs.Expression.{Expr, read, Next, stack, breaks, Parsed, tree, broken, applyOp, final, go-on, parse}
 use Rattle.sheet.specs.declared.Op.{Op}

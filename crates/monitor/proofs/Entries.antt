@@ -6,32 +6,32 @@ use Prim.Native.Nat.{ℕ, _^_, _<_, _≤_}
 use native.Mathlib.Omega.{arith}
 use lib.ListN.{length, replicate}
 use lib.Pow.{pow-mono}
-use Rattle.refusal.specs.Numbers.{untold}
-use Rattle.refusal.specs.Decided.{Check, Decided}
-use Rattle.refusal.specs.declared.Refusal.{Refusal}
-use Rattle.refusal.specs.declared.Refusal.the-variants.{Storage}
-use Rattle.refusal.specs.declared.Outcome.{Outcome}
-use Rattle.refusal.specs.declared.Outcome.the-variants.{Accepted, Refused}
-use Rattle.refusal.proofs.Decisions.{decided-refused, decided-accepted}
+use Rattle.outcomes.specs.Numbers.{untold}
+use Rattle.outcomes.specs.Decided.{Check, Decided}
+use Rattle.outcomes.specs.declared.Refusal.{Refusal}
+use Rattle.outcomes.specs.declared.Refusal.the-variants.{Storage}
+use Rattle.outcomes.specs.declared.Outcome.{Outcome}
+use Rattle.outcomes.specs.declared.Outcome.the-variants.{Accepted, Refused}
+use Rattle.outcomes.proofs.Decisions.{decided-refused, decided-accepted}
 use Rattle.words.specs.Bits.{bit}
-use Rattle.sheet.specs.Checks.{inputsOf, outputsOf}
+use Rattle.sheet.specs.ReadingChecks.{inputsOf, outputsOf}
 use Rattle.sheet.specs.Reading.{ruleSheet}
 use Rattle.sheet.specs.declared.Sheet.{Sheet}
 use Rattle.sheet.proofs.Formed.{counts-of}
-use Rattle.circular.specs.Checks.{sheetChecks, AcceptedSheet}
+use Rattle.circular.specs.SheetChecks.{sheetChecks, AcceptedSheet}
 use Rattle.record.specs.Record.{Fresh}
 use Rattle.record.specs.declared.JournalRecord.{JournalRecord}
 use Rattle.completions.specs.Completion.{masked}
 use Rattle.letters.specs.Masks.{badMasks}
 use Rattle.letters.specs.Matching.{matches}
 use Rattle.letters.proofs.Matching.{letters-masked}
-use Rattle.checks.specs.Checks.{tooShort, roundRules, closingRules, prepareChecks, roundChecks, closingChecks}
-use Rattle.accepted.specs.Results.{Prepared, RoundDone, ClosingDone}
-use Rattle.accepted.specs.declared.PrepareAnswer.{PrepareAnswer}
-use Rattle.accepted.specs.declared.RoundAnswer.{RoundAnswer}
-use Rattle.accepted.specs.declared.ClosingAnswer.{ClosingAnswer}
-use Rattle.accepted.proofs.Rounding.{sheet-outputs}
-use Rattle.accepted.proofs.Done.{round-as}
+use Rattle.checks.specs.JournalChecks.{tooShort, roundRules, closingRules, prepareChecks, roundChecks, closingChecks}
+use Rattle.effects.specs.Results.{Prepared, RoundDone, ClosingDone}
+use Rattle.effects.specs.declared.PrepareAnswer.{PrepareAnswer}
+use Rattle.effects.specs.declared.RoundAnswer.{RoundAnswer}
+use Rattle.effects.specs.declared.ClosingAnswer.{ClosingAnswer}
+use Rattle.effects.proofs.Rounding.{sheet-outputs}
+use Rattle.effects.proofs.Done.{round-as}
 use Rattle.monitor.specs.Entries.{Prepares, PrepareCall, Rounds, RoundCall, Closes, CloseCall}
 
 -- ---- the checks

@@ -5,19 +5,19 @@ use mathlib.Core.Path.{_≡_}
 use mathlib.Core.List.{List}
 use Prim.Native.Nat.{ℕ}
 use lib.ListN.{length, replicate}
-use Rattle.refusal.specs.Numbers.{untold}
-use Rattle.refusal.specs.Decided.{Decided}
-use Rattle.refusal.specs.declared.Outcome.{Outcome}
-use Rattle.refusal.specs.declared.Outcome.the-variants.{Accepted, Refused}
-use Rattle.circular.specs.Checks.{OfSheet}
+use Rattle.outcomes.specs.Numbers.{untold}
+use Rattle.outcomes.specs.Decided.{Decided}
+use Rattle.outcomes.specs.declared.Outcome.{Outcome}
+use Rattle.outcomes.specs.declared.Outcome.the-variants.{Accepted, Refused}
+use Rattle.circular.specs.SheetChecks.{OfSheet}
 use Rattle.record.specs.Record.{Fresh}
 use Rattle.record.specs.declared.JournalRecord.{JournalRecord}
 use Rattle.completions.specs.Completion.{masked}
-use Rattle.checks.specs.Checks.{prepareChecks, roundChecks, closingChecks}
-use Rattle.accepted.specs.Results.{Prepared, RoundDone, ClosingDone}
-use Rattle.accepted.specs.declared.PrepareAnswer.{PrepareAnswer}
-use Rattle.accepted.specs.declared.RoundAnswer.{RoundAnswer}
-use Rattle.accepted.specs.declared.ClosingAnswer.{ClosingAnswer}
+use Rattle.checks.specs.JournalChecks.{prepareChecks, roundChecks, closingChecks}
+use Rattle.effects.specs.Results.{Prepared, RoundDone, ClosingDone}
+use Rattle.effects.specs.declared.PrepareAnswer.{PrepareAnswer}
+use Rattle.effects.specs.declared.RoundAnswer.{RoundAnswer}
+use Rattle.effects.specs.declared.ClosingAnswer.{ClosingAnswer}
 
 -- preparation with the sheet bs: the storage s before, t after, and the answer
 abbrev pub Prepares : List ℕ → List ℕ → List ℕ → PrepareAnswer → Outcome → Type 0

@@ -4,16 +4,16 @@ ghost use mathlib.Core.Path.{_≡_};
 ghost use mathlib.Core.List.{List};
 ghost use Prim.Native.Nat.{ℕ};
 ghost use lib.ListN.{replicate};
-ghost use Rattle.refusal.specs.Numbers.{untold};
-ghost use Rattle.circular.specs.Checks.{AcceptedSheet, IsAccepted};
+ghost use Rattle.outcomes.specs.Numbers.{untold};
+ghost use Rattle.circular.specs.SheetChecks.{AcceptedSheet, IsAccepted};
 ghost use Rattle.record.specs.Record.{Fresh};
 ghost use Rattle.monitor.specs.Entries.{PrepareCall, RoundCall, CloseCall};
-use accepted::ClosingAnswer;
-use accepted::PrepareAnswer;
-use accepted::RoundAnswer;
+use effects::ClosingAnswer;
+use effects::PrepareAnswer;
+use effects::RoundAnswer;
+use outcomes::Outcome;
+use outcomes::Refusal;
 use record::JournalRecord;
-use refusal::Outcome;
-use refusal::Refusal;
 use sheet::Sheet;
 
 fn refused_round(e: Refusal, r: JournalRecord) -> RoundAnswer
@@ -22,7 +22,7 @@ fn refused_round(e: Refusal, r: JournalRecord) -> RoundAnswer
     RoundAnswer {
         outcome: Outcome::Refused(e),
         record: r,
-        verdicts: refusal::untold(),
+        verdicts: outcomes::untold(),
     }
 }
 
@@ -32,7 +32,7 @@ fn refused_closing(e: Refusal, r: JournalRecord) -> ClosingAnswer
     ClosingAnswer {
         outcome: Outcome::Refused(e),
         record: r,
-        verdicts: refusal::untold(),
+        verdicts: outcomes::untold(),
         shares: [0; 7],
     }
 }
@@ -56,7 +56,7 @@ pub fn prepare_on(x: Sheet, storage: &mut [u64]) -> PrepareAnswer
     if storage.len() < JournalRecord::STORAGE_WORDS {
         return refused_preparation(Refusal::Storage);
     }
-    accepted::preparation(x, storage)
+    effects::preparation(x, storage)
 }
 
 // Prepares the storage for journals of a sheet: the live pairs, and their number.
@@ -86,7 +86,7 @@ pub fn round_on(
     let outcome = checks::check_round(x.inputs, x.outputs, storage.len(), r, known, value);
     match outcome {
         Outcome::Refused(e) => refused_round(e, r),
-        Outcome::Accepted => accepted::round(x, storage, r, letters::letters_of(known, value)),
+        Outcome::Accepted => effects::round(x, storage, r, letters::letters_of(known, value)),
     }
 }
 
@@ -117,7 +117,7 @@ pub fn close_on(x: Sheet, storage: &[u64], r: JournalRecord) -> ClosingAnswer
     let outcome = checks::check_closing(x.outputs, storage.len(), r);
     match outcome {
         Outcome::Refused(e) => refused_closing(e, r),
-        Outcome::Accepted => accepted::closing(x, storage, r),
+        Outcome::Accepted => effects::closing(x, storage, r),
     }
 }
 

@@ -24,7 +24,7 @@ use Rattle.pairs.specs.Storage.{stored, live, setWords, liveAt, reachedAt, scra
 use Rattle.pairs.specs.Changes.{eqNext, Framed, Adds, rowBit, NextBit, RowTaken, Noted}
 use Rattle.pairs.proofs.Frames.{framed-none, framed-then, framed-wider}
 use Rattle.pairs.proofs.Sets.{stored-eq, framed-before, framed-beyond}
-use Rattle.unions.specs.Rows.{meets, Row}
+use Rattle.predecessors.specs.Rows.{meets, Row}
 use Rattle.preparation.specs.Search.{joining, joinersAt, joiners, newcomers, newcomersIn, enders, Joins, Occupied, Apart, Swept}
 use Rattle.preparation.proofs.Layers.{joining-same}
 

@@ -18,8 +18,8 @@ use Rattle.completions.specs.Steps.{Within, Represents, anyNext, anyPair}
 use Rattle.completions.proofs.Search.{next-found, next-from, pair-found}
 use Rattle.completions.proofs.Range.{live-within, wider}
 use Rattle.completions.proofs.Backward.{endSet, backSet, liveWithin, layer, LiveBy, Settled, within-found, within-from, within-more, all-short}
-use Rattle.unions.specs.Rows.{meets}
-use Rattle.preparation.specs.Prepared.{Reach}
+use Rattle.predecessors.specs.Rows.{meets}
+use Rattle.preparation.specs.Searched.{Reach}
 use Rattle.preparation.specs.Search.{joining, joiners}
 
 -- the pairs that d valuations reach and fewer do not

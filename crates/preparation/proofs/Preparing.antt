@@ -14,9 +14,9 @@ use Rattle.completions.proofs.Backward.{bound-256}
 use Rattle.pairs.specs.Storage.{live, reachedAt, scratchAt, maxPairs}
 use Rattle.pairs.specs.Changes.{NextBit}
 use Rattle.lanes.specs.Coded.{sheetOf}
-use Rattle.unions.specs.Rows.{Row}
-use Rattle.unions.proofs.Rows.{streams-low, some-allowed}
-use Rattle.preparation.specs.Prepared.{Prepared, Reach}
+use Rattle.predecessors.specs.Rows.{Row}
+use Rattle.predecessors.proofs.Rows.{streams-low, some-allowed}
+use Rattle.preparation.specs.Searched.{Searched, Reach}
 use Rattle.preparation.specs.Search.{Occupied, Apart, Started, Swept}
 use Rattle.preparation.proofs.Searching.{Searching, search-start, search-more, some-layer, search-end}
 
@@ -49,7 +49,7 @@ module _ (m n : ℕ) (code len : List ℕ) (few : m + n ≤ 8) where
 
     pub search-finish : (s₁ row : List ℕ) (k : ℕ) → Apart layer next → (reachedAt ≤ layer) × (layer ≤ scratchAt) × (reachedAt ≤ next) × (next ≤ scratchAt) → ((i : ℕ) → getD s i 0 < 2 ^ 64) → Started w row s₁ s₀
         → k ≡ countPairs 256 (live s) → k ≤ maxPairs
-        → Prepared (sheetOf m n code len (requiredOf assumption)) s₁ s k × Reach (sheetOf m n code len (requiredOf assumption)) (d - 1) × (d - 1 < k)
+        → Searched (sheetOf m n code len (requiredOf assumption)) s₁ s k × Reach (sheetOf m n code len (requiredOf assumption)) (d - 1) × (d - 1 < k)
     search-finish s₁ row k places bounds fit st e bd =
         let a = some-allowed m n code len assumption below few in
         search-end (sheetOf m n code len (requiredOf assumption)) (small (requiredOf assumption)) w layer next s₀ s rows d r p o b done (a .0) (a .1) (a .2) s₁ row k places bounds fit st e bd

@@ -23,9 +23,9 @@ use Rattle.pairs.specs.Storage.{stored, slot, live, setWords, liveAt, reachedAt
 use Rattle.pairs.specs.Changes.{rowBit, Framed, NextBit, Zeroed}
 use Rattle.pairs.proofs.Frames.{framed-none, framed-then, framed-wider}
 use Rattle.pairs.proofs.Sets.{framed-before, framed-beyond, zeroed-none, set-ext}
-use Rattle.unions.specs.Rows.{Row}
-use Rattle.unions.proofs.Uniting.{empty-row}
-use Rattle.preparation.specs.Prepared.{Prepared, Reach}
+use Rattle.predecessors.specs.Rows.{Row}
+use Rattle.predecessors.proofs.Uniting.{empty-row}
+use Rattle.preparation.specs.Searched.{Searched, Reach}
 use Rattle.preparation.specs.Search.{joiners, enders, Joins, Occupied, Apart, Started, Swept}
 use Rattle.preparation.proofs.Layers.{fresh, joining-same, within-next, fresh-next, all-found, reach-is}
 use Rattle.preparation.proofs.Joining.{beyond-none}
@@ -220,7 +220,7 @@ module _ (x : RuleSheet) (small : 2 ^ streams x ≤ 256) (w layer next : ℕ) (s
     wiped i h l (inr g) (yes b) = zero-now i next (omega arith) (omega arith) (p .free)
     wiped i h l (inr g) (no b) = zero-now i layer (omega arith) (omega arith) gone
 
-    pub search-end : Prepared x s₁ s r × Reach x (d - 1) × (d - 1 < r)
+    pub search-end : Searched x s₁ s r × Reach x (d - 1) × (d - 1 < r)
     search-end =
         let e : d ≡ suc (d - 1) = omega (arith, some-layer) in
         let f : Represents 256 (live s) (Live x) × Reach x (d - 1) = found (d - 1) e in (

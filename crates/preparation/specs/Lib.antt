@@ -1,2 +1,2 @@
-pub mod Prepared
+pub mod Searched
 pub mod Search

@@ -13,7 +13,7 @@ use Rattle.completions.specs.Live.{Pairs, allowed}
 use Rattle.completions.specs.Steps.{Within}
 use Rattle.pairs.specs.Storage.{stored, live, reached, scratch, setWords, liveAt, reachedAt, storageWords}
 use Rattle.pairs.specs.Changes.{Framed, rowBit}
-use Rattle.unions.specs.Rows.{meets}
+use Rattle.predecessors.specs.Rows.{meets}
 
 -- a is allowed, (a, b) is not in L, and the layer F lets a stand before b
 unfoldable pub joining : RuleSheet → ℕ → Pairs → Pairs → ℕ → ℕ → Bool

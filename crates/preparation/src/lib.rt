@@ -13,9 +13,9 @@ ghost use Rattle.completions.specs.Live.{allowed};
 ghost use Rattle.pairs.specs.Storage.{stored, live, reachedAt, scratchAt, storageWords};
 ghost use Rattle.pairs.specs.Changes.{eqNext};
 ghost use Rattle.lanes.specs.Coded.{Coded, sheetOf};
-ghost use Rattle.unions.specs.Rows.{Row};
+ghost use Rattle.predecessors.specs.Rows.{Row};
 ghost use Rattle.preparation.specs.Search.{joinersAt, newcomers, newcomersIn, enders, Joins, Occupied, Apart, Started, Swept};
-ghost use Rattle.preparation.specs.Prepared.{Prepared, Reach};
+ghost use Rattle.preparation.specs.Searched.{Searched, Reach};
 use sheet::Assumed;
 use words::Size;
 
@@ -101,7 +101,7 @@ fn join_before(
 {
     let w = size.words;
     let mut row = [0u64; 4];
-    unions::unite_row(&mut row, st, ok, s, code, len, size, layer, b);
+    predecessors::unite_row(&mut row, st, ok, s, code, len, size, layer, b);
     join_row(s, rows, &row, w, next, b);
 }
 
@@ -156,13 +156,13 @@ fn search(s: &mut [u64], code: &[u8], len: &[usize], size: Size, assumed: Assume
     requires { ⌜ Coded (size .inputs) (size .outputs) (now code) (now len) ⌝ }
     requires { ⌜ Below assumed (size .outputs) ⌝ }
     requires { ⌜ Sized size × (storageWords ≤ length (now s)) ⌝ }
-    ensures { λ r. ⌜ Prepared (sheetOf (size .inputs) (size .outputs) (now (code .entry)) (now (len .entry)) (requiredOf assumed)) (now (s .entry)) (now (s .exit)) (r .live) ⌝ }
+    ensures { λ r. ⌜ Searched (sheetOf (size .inputs) (size .outputs) (now (code .entry)) (now (len .entry)) (requiredOf assumed)) (now (s .entry)) (now (s .exit)) (r .live) ⌝ }
     ensures { λ r. ⌜ Reach (sheetOf (size .inputs) (size .outputs) (now (code .entry)) (now (len .entry)) (requiredOf assumed)) (r .reach) × (r .reach < r .live) ⌝ }
 {
     let w = size.words;
     let mut st = [0u64; 256];
     let mut ok = [0u64; 4];
-    unions::fill_allowed(&mut ok, size, assumed);
+    predecessors::fill_allowed(&mut ok, size, assumed);
     start(s, &ok, w);
     let mut occupied = ok;
     let mut layer: usize = pairs::REACHED;
@@ -208,7 +208,7 @@ pub fn prepare(
     requires { ⌜ Coded m n (now code) (now len) ⌝ }
     requires { ⌜ Below assumed n ⌝ }
     requires { ⌜ storageWords ≤ length (now s) ⌝ }
-    ensures { λ r. ⌜ Prepared (sheetOf m n (now (code .entry)) (now (len .entry)) (requiredOf assumed)) (now (s .entry)) (now (s .exit)) (r .live) ⌝ }
+    ensures { λ r. ⌜ Searched (sheetOf m n (now (code .entry)) (now (len .entry)) (requiredOf assumed)) (now (s .entry)) (now (s .exit)) (r .live) ⌝ }
     ensures { λ r. ⌜ Reach (sheetOf m n (now (code .entry)) (now (len .entry)) (requiredOf assumed)) (r .reach) × (r .reach < r .live) ⌝ }
 {
     search(s, code, len, words::size_of(m, n), assumed)

@@ -10,18 +10,18 @@ use lib.Seq.{drop-cons, drop-drop, length-take-le}
 use lib.Dec.{leb}
 use borrow.Author.Tests.{leb-true}
 use borrow.Author.Count.{below-more}
-use Rattle.refusal.specs.declared.Refusal.{Refusal}
-use Rattle.refusal.specs.declared.Refusal.the-variants.{Length, Leftover}
-use Rattle.refusal.specs.declared.Outcome.{Outcome}
-use Rattle.refusal.specs.declared.Outcome.the-variants.{Accepted}
-use Rattle.refusal.specs.declared.Outcome.the-variants as outcome
+use Rattle.outcomes.specs.declared.Refusal.{Refusal}
+use Rattle.outcomes.specs.declared.Refusal.the-variants.{Length, Leftover}
+use Rattle.outcomes.specs.declared.Outcome.{Outcome}
+use Rattle.outcomes.specs.declared.Outcome.the-variants.{Accepted}
+use Rattle.outcomes.specs.declared.Outcome.the-variants as outcome
 use Rattle.words.proofs.Bools.{and-split}
 use Rattle.words.proofs.ListLaws.{set-more}
 use Rattle.sheet.specs.Expression.{Expr, Parsed, tree, broken, parse}
 use Rattle.sheet.specs.RuleSheet.{Outputs, trees, breaks, lengthOk, after, andThen, readOutputs, requiredOf, withOutputs}
 use Rattle.sheet.specs.Reading.{treeOf, codeAt, treesOf, Parses, readingBy}
 use Rattle.sheet.specs.declared.Assumed.{Assumed}
-use Rattle.reader.specs.Answer.{outputAt, outputOf, outputsBy, Put, Held}
+use Rattle.reader.specs.Answer.{outputAt, outputOf, outputsBy, Put, PackedOutputs}
 use Rattle.reader.specs.declared.OutputRead.the-variants.{Bytes, Refused}
 use Rattle.reader.proofs.Packing.{copied, not-touched}
 
@@ -91,7 +91,7 @@ one-more s code len code′ len′ e k h g =
 pub record OutputsTo (bs : List ℕ) (s n : ℕ) (len code : List ℕ) (at k : ℕ) : Type 0 where
   pub count : k ≤ n
   pub place : at ≤ length bs
-  pub held : Held s k len code
+  pub held : PackedOutputs s k len code
   pub rest : readOutputs s n (drop 8 bs) ≡ after (treesOf s code len k) (readOutputs s (n - k) (drop at bs))
 
 module _ (bs : List ℕ) (s n : ℕ) (len code : List ℕ) (at k : ℕ) (kept : OutputsTo bs s n len code at k) where
@@ -161,7 +161,7 @@ module _ (bs : List ℕ) (s n : ℕ) (len code : List ℕ) (at k : ℕ) (kept : 
   nothing-left h i =
       all-read h ∙ rw (drop-of-length-le bs i) (ap trees (append-nil _ ∙ ap (treesOf s code len) (omega arith)))
 
-  pub all-held : n ≤ k → Held s n len code
+  pub all-held : n ≤ k → PackedOutputs s n len code
   all-held h =
       let z = kept .held in
       record { sizes = z .sizes; room = z .room; small = λ j b. z .small j (omega arith); parts = λ j b. z .parts j (omega arith) }

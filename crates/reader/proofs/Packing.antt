@@ -9,7 +9,7 @@ use lib.Seq.{ext-getD, getD-take, getD-drop, getD-set-same, getD-set-other, leng
 use Rattle.words.proofs.ListLaws.{set-more-from}
 use Rattle.sheet.specs.Reading.{codeAt, Usable, Ranges, Below}
 use Rattle.sheet.specs.declared.Assumed.{Assumed}
-use Rattle.reader.specs.Answer.{Put, Held}
+use Rattle.reader.specs.Answer.{Put, PackedOutputs}
 
 -- the first i bytes of e are copied
 pub record PutSoFar (from : ℕ) (e old new : List ℕ) (i : ℕ) : Type 0 where
@@ -55,7 +55,7 @@ module _ (len old : List ℕ) (k l : ℕ) (e new : List ℕ) (size : length e �
       (same-part new old (64 * j) (64 * j) (getD len j 0) (omega (arith, put .same-length, small j h)) (omega (arith, small j h))
       (λ a b. put .below (64 * j + a) (omega (arith, small j h))))
 
-pub usable : (m n : ℕ) (a : Assumed) (len code : List ℕ) → Ranges m n → Below a n → Held (m + n) n len code
+pub usable : (m n : ℕ) (a : Assumed) (len code : List ℕ) → Ranges m n → Below a n → PackedOutputs (m + n) n len code
     → Usable (record { inputs = m; outputs = n; assumed = a; len = len; code = code })
 usable m n a len code r b x =
     record {

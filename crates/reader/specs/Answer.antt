@@ -4,9 +4,9 @@ use mathlib.Core.Bool.{cond}
 use mathlib.Core.List.{List, [], _∷_}
 use Prim.Native.Nat.{ℕ, _+_, _≤_, _<_}
 use lib.ListN.{length, take, getD}
-use Rattle.refusal.specs.declared.Refusal.the-variants.{Length}
-use Rattle.refusal.specs.declared.Outcome.{Outcome}
-use Rattle.refusal.specs.declared.Outcome.the-variants as outcome
+use Rattle.outcomes.specs.declared.Refusal.the-variants.{Length}
+use Rattle.outcomes.specs.declared.Outcome.{Outcome}
+use Rattle.outcomes.specs.declared.Outcome.the-variants as outcome
 use Rattle.sheet.specs.Expression.{Expr, Parsed, tree, broken, parse}
 use Rattle.sheet.specs.Reading.{codeAt, Parses}
 use Rattle.sheet.specs.RuleSheet.{lengthOk, Outputs, trees, breaks}
@@ -33,7 +33,7 @@ pub record Put (from : ℕ) (e old new : List ℕ) : Type 0 where
   pub below : (i : ℕ) → i < from → getD new i 0 ≡ getD old i 0
 
 -- the code holds the expressions of n outputs in a sheet of s streams, 64 bytes for each
-pub record Held (s n : ℕ) (len code : List ℕ) : Type 0 where
+pub record PackedOutputs (s n : ℕ) (len code : List ℕ) : Type 0 where
   pub sizes : length len ≡ 7
   pub room : length code ≡ 448
   pub small : (k : ℕ) → k < n → getD len k 0 ≤ 64

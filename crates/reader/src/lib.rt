@@ -4,10 +4,10 @@ ghost use Prim.Native.Nat.{_+_, _≤_};
 ghost use Rattle.sheet.specs.Header.{markOk, versionOf, assumedAt, headerOf};
 ghost use Rattle.sheet.specs.RuleSheet.{readSheet, readOutputs};
 ghost use Rattle.sheet.specs.Reading.{treesOf, readingOf, whenAccepted, Usable, blank, blankIfRefused};
-ghost use Rattle.reader.specs.Answer.{outputAt, outputsBy, Put, Held};
+ghost use Rattle.reader.specs.Answer.{outputAt, outputsBy, Put, PackedOutputs};
 ghost use lib.ListN.{length, drop};
-use refusal::Outcome;
-use refusal::Refusal;
+use outcomes::Outcome;
+use outcomes::Refusal;
 use sheet::Assumed;
 use sheet::AssumedRead;
 use sheet::Header;
@@ -129,7 +129,7 @@ fn put(buffer: &mut [u8], from: usize, e: &[u8])
 fn read_outputs(s: &[u8], streams: u8, n: u8, len: &mut [usize], code: &mut [u8]) -> Outcome
     requires { ⌜ (8 ≤ length (now s)) × (n ≤ 7) × (length (now len) ≡ 7) × (length (now code) ≡ 448) ⌝ }
     ensures reading { λ r. ⌜ outputsBy r (treesOf streams (now (code .exit)) (now (len .exit)) n) ≡ readOutputs streams n (drop 8 (now (s .entry))) ⌝ }
-    ensures held { λ r. ⌜ whenAccepted r (Held streams n (now (len .exit)) (now (code .exit))) ⌝ }
+    ensures held { λ r. ⌜ whenAccepted r (PackedOutputs streams n (now (len .exit)) (now (code .exit))) ⌝ }
 {
     let outputs = n as usize;
     let mut at: usize = 8;

@@ -11,10 +11,10 @@ use lib.Dec.{eqb, leb}
 use lib.ListN.{length, getD, set, length-set}
 use lib.Seq.{getD-set-same, getD-set-other}
 use borrow.Author.Tests.{eq-eqb, ne-eqb, le-leb, lt-leb, leb-true, eqb-true}
-use Rattle.refusal.specs.Numbers.{toldAt}
-use Rattle.refusal.specs.declared.Verdict.{Verdict}
-use Rattle.refusal.specs.declared.Verdict.the-variants.{False, True, Open, Broken}
-use Rattle.refusal.specs.declared.Told.{Told}
+use Rattle.outcomes.specs.Numbers.{toldAt}
+use Rattle.outcomes.specs.declared.Verdict.{Verdict}
+use Rattle.outcomes.specs.declared.Verdict.the-variants.{False, True, Open, Broken}
+use Rattle.outcomes.specs.declared.Told.{Told}
 use Rattle.words.specs.Below.{one}
 use Rattle.words.proofs.Bools.{and-split}
 use Rattle.record.specs.Record.{maxRounds, column, countAt, sumAt, addUp, recordOk, sameVerdict, Counted}

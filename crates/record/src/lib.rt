@@ -4,8 +4,8 @@ ghost use mathlib.Core.Bool.{true};
 ghost use Prim.Native.Nat.{_+_, _*_, _<_, _≤_};
 ghost use lib.ListN.{length};
 ghost use Rattle.record.specs.Record.{maxRounds, Fresh, column, recordOk, sumAt, Counted, share};
-use refusal::Told;
-use refusal::Verdict;
+use outcomes::Told;
+use outcomes::Verdict;
 use sheet::OutputNo;
 
 pub struct JournalRecord {

@@ -10,6 +10,7 @@ use lib.Bits.{bitAnd}
 use lib.Dec.{eqb, ltb}
 use borrow.Author.Tests.{eq-eqb, ne-eqb, lt-ltb, le-ltb}
 use Rattle.words.specs.Bits.{bit}
+use Rattle.words.specs.Sizes.{Wide}
 use Rattle.words.proofs.BitLaws.{bit-and, bit-not, bit-none}
 use Rattle.words.proofs.BelowLaws.{words-one, below-none, below-within}
 use Rattle.sheet.specs.RuleSheet.{RuleSheet}
@@ -18,7 +19,7 @@ use Rattle.completions.specs.Live.{Pairs}
 use Rattle.pairs.specs.Storage.{live, reached, scratch, reachedAt, scratchAt}
 use Rattle.pairs.specs.Changes.{eqNext, inWord, RowWord, EndsWord, Adds}
 use Rattle.pairs.proofs.Sets.{adds-none, adds-as, framed-beyond}
-use Rattle.rounds.specs.Rows.{Wide, gains, NoEndNew, inRow}
+use Rattle.rounds.specs.Rows.{gains, NoEndNew, inRow}
 use Rattle.rounds.proofs.Bools.{merge-both}
 use Rattle.rounds.proofs.WordLaws.{low-lane}
 use Rattle.rounds.proofs.RowLaws.{gains-none, gains-as, gains-join}

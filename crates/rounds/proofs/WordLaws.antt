@@ -11,6 +11,7 @@ use lib.Dec.{eqb, ltb}
 use lib.ListN.{getD}
 use borrow.Author.Tests.{eq-eqb, ne-eqb, lt-ltb, le-ltb}
 use Rattle.words.specs.Bits.{bit}
+use Rattle.words.specs.Sizes.{Wide}
 use Rattle.words.specs.Below.{anyBelow}
 use Rattle.words.proofs.BitLaws.{bit-and, bit-or, bit-not, bit-none}
 use Rattle.words.proofs.AnyLaws.{any-one, any-add, any-none, none-any}
@@ -22,7 +23,7 @@ use Rattle.completions.specs.Steps.{Within}
 use Rattle.pairs.specs.Storage.{live, reached, scratch, reachedAt, scratchAt}
 use Rattle.pairs.specs.Changes.{inWord, RowWord, Adds}
 use Rattle.pairs.proofs.Sets.{adds-none, adds-as, adds-then, framed-before, lane}
-use Rattle.rounds.specs.Rows.{among, Wide, cut, gains, NoneNew, heardIn, grouped, Quiet}
+use Rattle.rounds.specs.Rows.{among, cut, gains, NoneNew, heardIn, grouped, Quiet}
 use Rattle.rounds.proofs.Bools.{turn, merge-under, nothing-new}
 
 -- ---- the lanes of a row, its words joined

@@ -8,7 +8,6 @@ use lib.Bits.{bitAnd}
 use lib.Dec.{eqb, ltb}
 use Rattle.words.specs.Bits.{bit}
 use Rattle.words.specs.Below.{anyBelow}
-use Rattle.words.specs.Sizes as sizes
 use Rattle.sheet.specs.RuleSheet.{RuleSheet}
 use Rattle.lola.specs.Equations.{holds}
 use Rattle.completions.specs.Live.{Pairs}
@@ -19,10 +18,6 @@ use Rattle.lanes.specs.Around.{Before}
 -- v was heard, as its lane of the round's letters tells: the inputs, at most 6, are the low bits of the lane's number too
 unfoldable pub among : ℕ → ℕ → Bool
 among letters v = bit (v % 64) letters
-
--- w is the number of words that v valuations take
-abbrev pub Wide : ℕ → ℕ → Type 0
-Wide v w = sizes.Wide v w
 
 -- the word has the reads of some round before
 pub record Earlier (w : ℕ) : Type 0 where

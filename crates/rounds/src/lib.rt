@@ -12,7 +12,7 @@ ghost use Rattle.pairs.specs.Storage.{stored, live, reached, scratch, reachedAt
 ghost use Rattle.pairs.specs.Changes.{Adds};
 ghost use Rattle.lanes.specs.Around.{room, Before};
 ghost use Rattle.lanes.specs.Coded.{Coded, sheetOf};
-ghost use Rattle.rounds.specs.Rows.{among, Wide, Earlier, gains, inRow, heardFirst, brought, Sparse};
+ghost use Rattle.rounds.specs.Rows.{among, Earlier, gains, inRow, heardFirst, brought, Sparse};
 ghost use Rattle.rounds.specs.Round.{Rounded};
 use gain::gain_ends;
 use gain::gain_row;
@@ -22,26 +22,6 @@ use words::Size;
 
 mod gain; // gain.rt: what one valuation, and the ends of a row, bring to the reached set
 mod group; // group.rt: rows of the reached set joined by the streams that are read one round earlier
-
-// ---- Valuations
-
-// How many valuations m + n streams have.
-pub fn valuations(m: usize, n: usize) -> usize
-    requires { ⌜ m + n ≤ 8 ⌝ }
-    ensures { λ r. ⌜ (r ≡ 2 ^ (m + n)) × (r ≤ 256) ⌝ }
-{
-    let size = words::size_of(m, n);
-    size.valuations
-}
-
-// How many words of a row they take: one, two or four.
-pub fn row_words(m: usize, n: usize) -> usize
-    requires { ⌜ m + n ≤ 8 ⌝ }
-    ensures { λ r. ⌜ Wide (2 ^ (m + n)) r ⌝ }
-{
-    let size = words::size_of(m, n);
-    size.words
-}
 
 // The valuations of row a of the set at base, its w words joined: in each lane whether some word has it.
 pub fn row_lanes(s: &[u64], base: usize, w: usize, a: usize) -> u64

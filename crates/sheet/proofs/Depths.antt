@@ -9,8 +9,8 @@ use lib.ListN.{length, drop, getD}
 use lib.Seq.{drop-cons, drop-length}
 use lib.Dec.{ltb}
 use borrow.Author.Tests.{le-ltb}
-use Rattle.refusal.specs.declared.Refusal.{Refusal}
-use Rattle.refusal.specs.declared.Refusal.the-variants.{Byte, Values}
+use Rattle.outcomes.specs.declared.Refusal.{Refusal}
+use Rattle.outcomes.specs.declared.Refusal.the-variants.{Byte, Values}
 use Rattle.sheet.specs.Bytes.{opOf}
 use Rattle.sheet.specs.Expression.{Expr, Next, stack, breaks, tree, broken, applyOp, final, go-on, parse}
 use Rattle.sheet.specs.Depth.{depthAfter}

@@ -10,19 +10,19 @@ use lib.ListN.{length, take, drop, getD, length-drop, drop-of-length-le}
 use lib.Seq.{drop-cons, drop-drop, take-suc, length-take-le, drop-length, take-length}
 use lib.Dec.{leb, ltb, eqb}
 use borrow.Author.Tests.{le-ltb, lt-ltb, le-leb, lt-leb, ne-eqb, ltb-true, ltb-false, leb-true, leb-false}
-use Rattle.refusal.specs.Decided.{Check, test, Decided}
-use Rattle.refusal.specs.declared.Refusal.{Refusal}
-use Rattle.refusal.specs.declared.Refusal.the-variants.{Short, Mark, Version, Counts, Assumption, Byte, Values, Length, Leftover}
-use Rattle.refusal.specs.declared.Outcome.{Outcome}
-use Rattle.refusal.specs.declared.Outcome.the-variants.{Accepted, Refused}
-use Rattle.refusal.proofs.Decisions.{test-decides}
+use Rattle.outcomes.specs.Decided.{Check, test, Decided}
+use Rattle.outcomes.specs.declared.Refusal.{Refusal}
+use Rattle.outcomes.specs.declared.Refusal.the-variants.{Short, Mark, Version, Counts, Assumption, Byte, Values, Length, Leftover}
+use Rattle.outcomes.specs.declared.Outcome.{Outcome}
+use Rattle.outcomes.specs.declared.Outcome.the-variants.{Accepted, Refused}
+use Rattle.outcomes.proofs.Decisions.{test-decides}
 use Rattle.words.proofs.Bools.{and-split}
 use Rattle.sheet.specs.Bytes.{opOf}
 use Rattle.sheet.specs.Expression.{Expr, stack, Parsed, tree, broken, applyOp, final, parse}
 use Rattle.sheet.specs.Expression
 use Rattle.sheet.specs.Header.{markOk, versionOf, countsOk, assumedAt, fieldsOf, headerOf}
 use Rattle.sheet.specs.RuleSheet.{Outputs, trees, breaks, lengthOk, after, andThen, readOutputs, withOutputs, withHeader, readSheet}
-use Rattle.sheet.specs.Checks.{inputsOf, outputsOf, placeOf, sizeOf, expressionOf, known, needs, heightFrom, badSize, opAt, badByte, badValues, badEnd, leftOver, byteChecks, outputChecks, readingChecks}
+use Rattle.sheet.specs.ReadingChecks.{inputsOf, outputsOf, placeOf, sizeOf, expressionOf, known, needs, heightFrom, badSize, opAt, badByte, badValues, badEnd, leftOver, byteChecks, outputChecks, readingChecks}
 use Rattle.sheet.specs.Decided.{readingOutcome, ReadingDecided}
 use Rattle.sheet.specs.declared.Op.{Op}
 use Rattle.sheet.specs.declared.Op.the-variants.{Const, Not, And, Or, Read, Rejected}
@@ -164,11 +164,13 @@ module _ (bs : List ℕ) where
       let a = and-split (leb 1 n) (leb n 64 && leb n (length ys)) q in
       let b = and-split (leb n 64) (leb n (length ys)) (a .1) in
       let fits : n ≤ length ys = leb-true n (length ys) (b .1) in
-      inr (off (size-same k h ∙ ap not q),
-      subst (Decided (byteChecks bs k 0 n ++ (test Values (badEnd bs k) ∷ from (suc k) r)))
-      (ap (λ (z : List ℕ). afterParse (parse (streams bs k) [] (expressionOf bs k)) (outputsNo (readOutputs (streams bs k) r z))) (sym (drop-drop n (placeOf bs k + 1) bs))
-      ∙ sym (andThen-no (parse (streams bs k) [] (expressionOf bs k)) (readOutputs (streams bs k) r (drop n ys))))
-      (expr-law bs k (from (suc k) r) (reads (suc k) r) rec n 0 [] (omega (arith, length-take-le n ys fits)) refl))
+      inr (
+        off (size-same k h ∙ ap not q),
+        subst (Decided (byteChecks bs k 0 n ++ (test Values (badEnd bs k) ∷ from (suc k) r)))
+            (ap (λ (z : List ℕ). afterParse (parse (streams bs k) [] (expressionOf bs k)) (outputsNo (readOutputs (streams bs k) r z))) (sym (drop-drop n (placeOf bs k + 1) bs))
+            ∙ sym (andThen-no (parse (streams bs k) [] (expressionOf bs k)) (readOutputs (streams bs k) r (drop n ys))))
+            (expr-law bs k (from (suc k) r) (reads (suc k) r) rec n 0 [] (omega (arith, length-take-le n ys fits)) refl),
+      )
 
   size-missing : (k : ℕ) → length bs ≤ placeOf bs k → badSize bs k ≡ true
   size-missing k h = simp (le-ltb (placeOf bs k) (length bs) h)

@@ -5,13 +5,13 @@ use mathlib.Core.List.{List, [], _∷_}
 use Prim.Native.Nat.{ℕ, zero, suc, _+_, _<_}
 use native.Mathlib.Omega.{arith}
 use lib.ListN.{length, getD, take, drop}
-use Rattle.refusal.specs.declared.Refusal.the-variants.{Length}
+use Rattle.outcomes.specs.declared.Refusal.the-variants.{Length}
 use Rattle.sheet.specs.Expression.{Expr, constant, Parsed, tree, broken, parse}
 use Rattle.sheet.specs.Header.{headerOf}
 use Rattle.sheet.specs.RuleSheet.{RuleSheet, outputs, streams, accepted, Outputs, trees, breaks, lengthOk, andThen, readOutputs, withOutputs, withHeader, readSheet, requiredOf}
 use Rattle.sheet.specs.Reading.{ruleSheet, treeOf, codeAt, Usable, Ranges}
 use Rattle.sheet.specs.Postfix.{InSheet}
-use Rattle.sheet.specs.Checks.{inputsOf, outputsOf}
+use Rattle.sheet.specs.ReadingChecks.{inputsOf, outputsOf}
 use Rattle.sheet.specs.declared.Sheet.{Sheet}
 use Rattle.sheet.specs.declared.Assumed.{Assumed}
 use Rattle.sheet.specs.declared.Header.{Header}

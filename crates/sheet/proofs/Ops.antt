@@ -5,7 +5,7 @@ use Prim.Native.Nat.{ℕ, _+_, _%_, _≤_, _<_}
 use native.Mathlib.Omega.{arith}
 use lib.Dec.{eqb, leb}
 use borrow.Author.Tests.{le-leb, lt-leb, ne-eqb, leb-true, eqb-true}
-use Rattle.refusal.specs.declared.Refusal.the-variants.{Byte}
+use Rattle.outcomes.specs.declared.Refusal.the-variants.{Byte}
 use Rattle.words.proofs.Bools.{and-split}
 use Rattle.sheet.specs.Bytes.{opOf, readOf, readsOf, within}
 use Rattle.sheet.specs.declared.Op.{Op}

@@ -7,7 +7,7 @@ use native.Mathlib.Omega.{arith}
 use native.Mathlib.Nat.{add-sub-cancel-left}
 use lib.Dec.{ltb}
 use borrow.Author.Tests.{lt-ltb, ltb-true}
-use Rattle.refusal.specs.declared.Refusal.the-variants.{Byte, Values}
+use Rattle.outcomes.specs.declared.Refusal.the-variants.{Byte, Values}
 use Rattle.sheet.specs.Bytes.{opOf, readOf}
 use Rattle.sheet.specs.Expression.{Expr, constant, negation, conjunction, disjunction, read, stack, breaks, Parsed, tree, applyOp, final, go-on, parse}
 use Rattle.sheet.specs.Postfix.{readByte, written, DefaultFits, InSheet, TreeExactly}

@@ -8,7 +8,7 @@ use native.Mathlib.Numerals.{add-one}
 use native.Mathlib.Decide.{ℕ-discrete}
 use lib.ListN.{length, getD, List·getD-append, length-append}
 use lib.Seq.{getD-at}
-use Rattle.refusal.specs.declared.Refusal.{Refusal}
+use Rattle.outcomes.specs.declared.Refusal.{Refusal}
 use Rattle.sheet.specs.Expression.{Expr, parse, tree, broken}
 use Rattle.sheet.specs.Reading.{treeOf, codeAt, treesOf}
 

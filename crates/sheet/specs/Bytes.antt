@@ -3,7 +3,7 @@
 use mathlib.Core.Bool.{Bool, true, false, cond, _&&_}
 use Prim.Native.Nat.{ℕ, _-_}
 use lib.Dec.{leb, eqb}
-use Rattle.refusal.specs.declared.Refusal.the-variants.{Byte}
+use Rattle.outcomes.specs.declared.Refusal.the-variants.{Byte}
 use Rattle.sheet.specs.declared.Offset.{Offset}
 use Rattle.sheet.specs.declared.Offset.the-variants.{Earlier, Now, Later}
 use Rattle.sheet.specs.declared.Op.{Op}

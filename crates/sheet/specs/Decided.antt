@@ -2,11 +2,11 @@
 -- Manual: "Refusals".
 use mathlib.Core.List.{List}
 use Prim.Native.Nat.{ℕ}
-use Rattle.refusal.specs.Decided.{Decided}
-use Rattle.refusal.specs.declared.Outcome.{Outcome}
-use Rattle.refusal.specs.declared.Outcome.the-variants.{Accepted, Refused}
+use Rattle.outcomes.specs.Decided.{Decided}
+use Rattle.outcomes.specs.declared.Outcome.{Outcome}
+use Rattle.outcomes.specs.declared.Outcome.the-variants.{Accepted, Refused}
 use Rattle.sheet.specs.RuleSheet.{Reading, accepted, refused, readSheet}
-use Rattle.sheet.specs.Checks.{readingChecks}
+use Rattle.sheet.specs.ReadingChecks.{readingChecks}
 
 -- the outcome of a reading
 abbrev pub readingOutcome : Reading → Outcome

@@ -3,7 +3,7 @@
 use mathlib.Core.Bool.{cond}
 use Prim.Native.Nat.{ℕ, _+_, _-_}
 use lib.Dec.{ltb}
-use Rattle.refusal.specs.declared.Refusal.the-variants.{Byte, Values}
+use Rattle.outcomes.specs.declared.Refusal.the-variants.{Byte, Values}
 use Rattle.sheet.specs.declared.Op.{Op}
 use Rattle.sheet.specs.declared.Op.the-variants.{Const, Not, And, Or, Read, Rejected}
 use Rattle.sheet.specs.declared.Depth.{Depth}

@@ -5,7 +5,7 @@ use mathlib.Core.List.{List}
 use Prim.Native.Nat.{ℕ, _+_, _*_}
 use lib.ListN.{length, getD}
 use lib.Dec.{leb, ltb, eqb}
-use Rattle.refusal.specs.declared.Refusal.the-variants.{Short, Mark, Version, Counts, Assumption}
+use Rattle.outcomes.specs.declared.Refusal.the-variants.{Short, Mark, Version, Counts, Assumption}
 use Rattle.sheet.specs.declared.Assumed.the-variants.{Nothing, Output}
 use Rattle.sheet.specs.declared.AssumedRead.{AssumedRead}
 use Rattle.sheet.specs.declared.AssumedRead.the-variants as assumed

@@ -4,6 +4,6 @@ pub mod Header
 pub mod RuleSheet
 pub mod Depth
 pub mod Reading
-pub mod Checks
+pub mod ReadingChecks
 pub mod Postfix
 pub mod Decided

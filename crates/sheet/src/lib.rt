@@ -6,8 +6,8 @@ ghost use Rattle.sheet.specs.Bytes.{opOf};
 ghost use Rattle.sheet.specs.Expression.{parse, outcomeOf};
 ghost use Rattle.sheet.specs.Depth.{depthAfter};
 ghost use Rattle.sheet.specs.Header.{countsOk};
-use refusal::Outcome;
-use refusal::Refusal;
+use outcomes::Outcome;
+use outcomes::Refusal;
 
 // A stream's number counts the inputs first; an output's number counts outputs alone.
 pub struct StreamNo(pub u8);

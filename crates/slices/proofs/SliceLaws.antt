@@ -9,10 +9,10 @@ use lib.Dec.{eqb, leb, ltb}
 use lib.ListN.{length, getD, set, take, drop, length-set, length-drop, length-map, List·getD-map}
 use lib.Seq.{getD-take, paste, paste-zero, paste-suc, getD-drop, ext-getD, take-all, drop-length}
 use borrow.Author.Tests.{not-false, eqb-true, leb-true, leb-false, eq-eqb, le-leb, lt-ltb, le-ltb}
-use Rattle.refusal.specs.Numbers.{untold, toldAt, verdictNo, verdictList}
-use Rattle.refusal.specs.declared.Verdict.the-variants.{False}
-use Rattle.refusal.specs.declared.Told.{Told}
-use Rattle.refusal.proofs.NumberLaws.{told-size}
+use Rattle.outcomes.specs.Numbers.{untold, toldAt, verdictNo, verdictList}
+use Rattle.outcomes.specs.declared.Verdict.the-variants.{False}
+use Rattle.outcomes.specs.declared.Told.{Told}
+use Rattle.outcomes.proofs.NumberLaws.{told-size}
 use Rattle.words.proofs.Bools.{and-split}
 use Rattle.words.proofs.ListLaws.{set-more}
 use Rattle.record.specs.Record.{recordOk}

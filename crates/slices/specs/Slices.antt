@@ -5,8 +5,8 @@ use mathlib.Core.List.{List, _∷_, map}
 use Prim.Native.Nat.{ℕ}
 use lib.Dec.{eqb, leb}
 use lib.ListN.{length, getD, drop}
-use Rattle.refusal.specs.Numbers.{verdictNo, verdictList}
-use Rattle.refusal.specs.declared.Told.{Told}
+use Rattle.outcomes.specs.Numbers.{verdictNo, verdictList}
+use Rattle.outcomes.specs.declared.Told.{Told}
 use Rattle.words.specs.Below.{one}
 use Rattle.record.specs.declared.JournalRecord.{JournalRecord}
 

@@ -8,9 +8,9 @@ ghost use Rattle.words.specs.Below.{one};
 ghost use lib.Seq.{paste};
 ghost use Rattle.slices.specs.Slices.{numbersOf, verdictNumbers};
 ghost use Rattle.slices.specs.Loaded.{roundsBy, loaded};
+use outcomes::Told;
+use outcomes::verdict_number;
 use record::JournalRecord;
-use refusal::Told;
-use refusal::verdict_number;
 
 // The record has 30 numbers, and the answer room for 16.
 pub fn sized(journal: usize, answer: usize) -> bool

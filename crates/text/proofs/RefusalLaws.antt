@@ -1,9 +1,9 @@
 -- A law of the refusals' numbers.
 use Prim.Native.Nat.{_^_, _<_}
 use native.Mathlib.Omega.{arith}
-use Rattle.refusal.specs.Numbers.{refusalNo}
-use Rattle.refusal.specs.declared.Refusal.{Refusal}
-use Rattle.refusal.specs.declared.Refusal.the-variants.{Short, Mark, Version, Counts, Assumption, Length, Byte, Values, Leftover, Circular, Letter, Closed, Full, NoRound, Storage, Extent, Line, Record}
+use Rattle.outcomes.specs.Numbers.{refusalNo}
+use Rattle.outcomes.specs.declared.Refusal.{Refusal}
+use Rattle.outcomes.specs.declared.Refusal.the-variants.{Short, Mark, Version, Counts, Assumption, Length, Byte, Values, Leftover, Circular, Letter, Closed, Full, NoRound, Storage, Extent, Line, Record}
 
 -- a refusal's number has at most two digits
 pub refusal-short : (r : Refusal) → refusalNo r < 10 ^ 2

@@ -6,8 +6,8 @@ use native.Mathlib.Nat.{add-zero, zero-add}
 use native.Mathlib.Omega.{arith}
 use native.Mathlib.Numerals.{add-one}
 use lib.ListN.{getD}
-use Rattle.refusal.specs.declared.Verdict.{Verdict}
-use Rattle.refusal.specs.declared.Verdict.the-variants.{False, True, Open, Broken}
+use Rattle.outcomes.specs.declared.Verdict.{Verdict}
+use Rattle.outcomes.specs.declared.Verdict.the-variants.{False, True, Open, Broken}
 use Rattle.record.specs.Record.{countAt}
 use Rattle.text.specs.Text.{spaced, tallyLine, tallyLines}
 use Rattle.text.specs.Wrote.{Wrote}

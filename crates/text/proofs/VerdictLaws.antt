@@ -3,9 +3,9 @@ use mathlib.Core.Path.{_≡_, sym, ap, subst, _∙_}
 use mathlib.Core.List.{List, [], _∷_, _++_, map, map-append}
 use Prim.Native.Nat.{ℕ, _+_, _<_}
 use lib.ListN.{length}
-use Rattle.refusal.specs.Numbers.{toldAt, verdictList}
-use Rattle.refusal.specs.declared.Told.{Told}
-use Rattle.refusal.proofs.NumberLaws.{told-more}
+use Rattle.outcomes.specs.Numbers.{toldAt, verdictList}
+use Rattle.outcomes.specs.declared.Told.{Told}
+use Rattle.outcomes.proofs.NumberLaws.{told-more}
 use Rattle.text.specs.Text.{verdictChar}
 use Rattle.text.specs.Wrote.{Wrote}
 use Rattle.text.proofs.WroteLaws.{wrote-then}

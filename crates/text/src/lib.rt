@@ -1,20 +1,20 @@
 // What the program prints, put into a buffer. Each function answers the place after it.
 pub mod put;
 
+use outcomes::Refusal;
+use outcomes::Told;
+use outcomes::Verdict;
+use outcomes::refusal_number;
 use put::byte;
 use put::bytes;
 use put::decimal;
 use put::spaced;
-use refusal::Refusal;
-use refusal::Told;
-use refusal::Verdict;
-use refusal::refusal_number;
 use sheet::OutputNo;
 ghost use mathlib.Core.Path.{_≡_};
 ghost use mathlib.Core.List.{_∷_, _++_};
 ghost use Prim.Native.Nat.{_+_, _*_, _<_, _≤_};
 ghost use lib.ListN.{length};
-ghost use Rattle.refusal.specs.Numbers.{verdictList, refusalNo};
+ghost use Rattle.outcomes.specs.Numbers.{verdictList, refusalNo};
 ghost use Rattle.record.specs.Record.{countAt};
 ghost use Rattle.text.specs.Text.{decimal, verdictChar, verdictLine, spaced, tallyLine, tallyLines, closingText, refusedWord, lineRefusal, sheetRefusal};
 ghost use Rattle.text.specs.Wrote.{Wrote};

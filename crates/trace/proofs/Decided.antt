@@ -6,15 +6,15 @@ use Prim.Native.Nat.{ℕ, zero, suc, _^_, _≤_, _<_}
 use native.Mathlib.Omega.{arith}
 use native.Mathlib.Decide.{decLt}
 use lib.ListN.{length, getD}
-use Rattle.refusal.specs.Decided.{Decided}
-use Rattle.refusal.specs.declared.Refusal.{Refusal}
-use Rattle.refusal.specs.declared.Refusal.the-variants.{Extent, Letter}
-use Rattle.refusal.specs.declared.Outcome.{Outcome}
-use Rattle.refusal.specs.declared.Outcome.the-variants as outcome
-use Rattle.refusal.proofs.Decisions.{decided-refused, decided-accepted}
-use Rattle.sheet.specs.Checks.{inputsOf}
-use Rattle.circular.specs.Checks.{sheetChecks}
-use Rattle.trace.specs.Checks.{letterChecks, runChecks, evaluationChecks}
+use Rattle.outcomes.specs.Decided.{Decided}
+use Rattle.outcomes.specs.declared.Refusal.{Refusal}
+use Rattle.outcomes.specs.declared.Refusal.the-variants.{Extent, Letter}
+use Rattle.outcomes.specs.declared.Outcome.{Outcome}
+use Rattle.outcomes.specs.declared.Outcome.the-variants as outcome
+use Rattle.outcomes.proofs.Decisions.{decided-refused, decided-accepted}
+use Rattle.sheet.specs.ReadingChecks.{inputsOf}
+use Rattle.circular.specs.SheetChecks.{sheetChecks}
+use Rattle.trace.specs.EvaluationChecks.{letterChecks, runChecks, evaluationChecks}
 use Rattle.trace.specs.Passes.{FirstBad}
 
 -- ---- rules 16 and 11

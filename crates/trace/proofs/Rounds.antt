@@ -47,9 +47,9 @@ module _ (letters : List ℕ) (at : ℕ) where
   inside h g = simp (le-leb 2 at h, le-leb at (suc (length letters)) (omega arith))
 
 -- no such round
-pub beside-none : (m : ℕ) (letters buf : List ℕ) (at : ℕ) → (leb 2 at && leb at (suc (length letters))) ≡ false → SeenRound m letters buf at 0xff00
+pub round-twice-none : (m : ℕ) (letters buf : List ℕ) (at : ℕ) → (leb 2 at && leb at (suc (length letters))) ≡ false → SeenRound m letters buf at 0xff00
 unfolding seen
-beside-none m letters buf at e =
+round-twice-none m letters buf at e =
     record {
       small = omega arith;
       low = λ q h. rw e (bit-low 8 q 0 255 h (omega arith) ∙ bit-none q);
@@ -67,9 +67,9 @@ module _ (counts : Counts) (letters buf : List ℕ) (at : ℕ) (filled : RoundBy
       let g : 2 ^ streamsOf counts ≤ 2 ^ 8 = pow-mono {i = streamsOf counts} {j = 8} (filled .streams) in
       omega (arith, join-lt (counts .inputs) (counts .outputs) (getD letters (at - 2) 0) (getD buf (at - 2) 0) below (filled .bytes-below (at - 2) (omega (arith, filled .same))))
 
-  pub beside-some : SeenRound (counts .inputs) letters buf at (v + 256 * v)
+  pub round-twice-some : SeenRound (counts .inputs) letters buf at (v + 256 * v)
   unfolding seen
-  beside-some =
+  round-twice-some =
       record {
         small = omega (arith, valuation-small);
         low = λ q k. rw (inside letters at lo hi) (bit-low 8 q v v k valuation-small ∙ ap (bit q) e ∙ stream-of-round (counts .inputs) letters buf at q lo below);

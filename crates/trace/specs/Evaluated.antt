@@ -5,13 +5,13 @@ use mathlib.Core.List.{List}
 use mathlib.Core.Option.{none}
 use Prim.Native.Nat.{ℕ, _^_, _<_}
 use lib.ListN.{length, getD, take, drop}
-use Rattle.refusal.specs.Decided.{Decided}
-use Rattle.refusal.specs.declared.Outcome.{Outcome}
-use Rattle.refusal.specs.declared.Outcome.the-variants.{Accepted, Refused}
+use Rattle.outcomes.specs.Decided.{Decided}
+use Rattle.outcomes.specs.declared.Outcome.{Outcome}
+use Rattle.outcomes.specs.declared.Outcome.the-variants.{Accepted, Refused}
 use Rattle.sheet.specs.RuleSheet.{RuleSheet, outputs}
 use Rattle.lola.specs.Equations.{Satisfies, joined}
-use Rattle.circular.specs.Checks.{OfSheet}
-use Rattle.trace.specs.Checks.{evaluationChecks}
+use Rattle.circular.specs.SheetChecks.{OfSheet}
+use Rattle.trace.specs.EvaluationChecks.{evaluationChecks}
 
 -- For each of the N letters the byte whose bit k is output k: no bit beyond the outputs is set, and the valuations that letters and
 -- bytes make satisfy all equations, nothing before the first and nothing after the last. Bytes after the first N keep their contents.

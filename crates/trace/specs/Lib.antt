@@ -1,4 +1,4 @@
-pub mod Checks
+pub mod EvaluationChecks
 pub mod Evaluated
 pub mod Order
 pub mod Passes

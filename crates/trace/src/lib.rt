@@ -2,15 +2,15 @@
 ghost use mathlib.Core.Path.{_≡_};
 ghost use Prim.Native.Nat.{ℕ, _<_, _≤_};
 ghost use lib.ListN.{length, getD};
-ghost use Rattle.refusal.specs.Decided.{Decided};
+ghost use Rattle.outcomes.specs.Decided.{Decided};
 ghost use Rattle.sheet.specs.Reading.{ruleSheet, Usable, whenAccepted};
 ghost use Rattle.circular.specs.Circular.{CircularSheet};
-ghost use Rattle.trace.specs.Checks.{runChecks};
+ghost use Rattle.trace.specs.EvaluationChecks.{runChecks};
 ghost use Rattle.trace.specs.Evaluated.{OutputsWritten, EvaluateCall};
 ghost use Rattle.trace.specs.Passes.{FirstBad, Ready, Left};
+use outcomes::Outcome;
+use outcomes::Refusal;
 use place::Counts;
-use refusal::Outcome;
-use refusal::Refusal;
 use sheet::Sheet;
 
 mod order; // order.rt: the order in which places are refreshed
@@ -36,7 +36,7 @@ fn first_bad(letters: &[u8], m: usize) -> usize
 {
     let mut i: usize = 0;
     while i < letters.len() {
-        if place::wide(letters[i]) >> m != 0 {
+        if words::wide(letters[i]) >> m != 0 {
             return i;
         }
         i += 1;

@@ -11,22 +11,16 @@ pub struct Counts {
     pub outputs: usize,
 }
 
-pub fn wide(x: u8) -> u64
-    ensures { λ r. ⌜ r ≡ x ⌝ }
-{
-    x as u64
-}
-
 // The valuation of the round with index i: its letter in the low m bits, its output byte above.
 fn valuation(m: usize, letters: &[u8], buf: &[u8], i: usize) -> u64
     requires { ⌜ (m ≤ 8) × (i < length (now letters)) × (i < length (now buf)) ⌝ }
     ensures { λ r. ⌜ r ≡ getD (now (letters .entry)) i 0 + 2 ^ m * getD (now (buf .entry)) i 0 ⌝ }
 {
-    wide(letters[i]) + (1u64 << m) * wide(buf[i])
+    words::wide(letters[i]) + (1u64 << m) * words::wide(buf[i])
 }
 
 // The streams of round at - 1 twice, or false and true where there is no such round.
-fn beside(counts: Counts, letters: &[u8], buf: &[u8], at: usize) -> u64
+fn round_twice(counts: Counts, letters: &[u8], buf: &[u8], at: usize) -> u64
     requires { ⌜ RoundBytes counts (now letters) (now buf) ⌝ }
     ensures { λ r. ⌜ SeenRound (counts .inputs) (now (letters .entry)) (now (buf .entry)) at r ⌝ }
 {
@@ -45,9 +39,9 @@ fn environment(counts: Counts, letters: &[u8], buf: &[u8], t: usize) -> u64
     requires { ⌜ RoundBytes counts (now letters) (now buf) × (1 ≤ t) × (t ≤ length (now letters)) ⌝ }
     ensures { λ r. ⌜ Environment (counts .inputs) (now (letters .entry)) (now (buf .entry)) t r ⌝ }
 {
-    let current = beside(counts, letters, buf, t + 1);
-    let earlier = beside(counts, letters, buf, t);
-    let later = beside(counts, letters, buf, t + 2);
+    let current = round_twice(counts, letters, buf, t + 1);
+    let earlier = round_twice(counts, letters, buf, t);
+    let later = round_twice(counts, letters, buf, t + 2);
     current + 65536 * (earlier + 65536 * later)
 }
 

@@ -1,17 +1,17 @@
-// Runs many sessions of the journal program, one after the other, through the crate `lines`.
+// Runs many sessions of the journal program, one after the other, through the crate `protocol`.
 //
 // A case in standard input is the length of a sheet in two bytes, the sheet, the length of a session in four bytes, the session.
 // Lengths have their low byte first. A sheet has at most 464 bytes, a session at most 65,535. After the text of each case comes a
 // line `--`. The first case that is cut short or too long ends the run, and nothing is written for it.
 ghost use Prim.Native.Nat.{_+_, _≤_, _<_};
 ghost use lib.ListN.{length};
-ghost use Rattle.circular.specs.Checks.{IsAccepted};
+ghost use Rattle.circular.specs.SheetChecks.{IsAccepted};
 ghost use Rattle.pairs.specs.Storage.{storageWords};
 use libc::STDIN_FILENO;
 use libc::STDOUT_FILENO;
-use lines::Progress;
+use outcomes::Outcome;
+use protocol::Progress;
 use record::JournalRecord;
-use refusal::Outcome;
 use sheet::Sheet;
 
 // How many bytes a sheet or session has, and whether all of them were read.
@@ -85,13 +85,13 @@ fn play(x: Sheet, s: Progress, storage: &mut [u64], session: &[u8], out: &mut [u
     while at < session.len() {
         let n = chunk_size(at, session.len() - at);
         let next = at + n;
-        let fed = lines::feed(x, state, storage, &session[at..next], out);
+        let fed = protocol::feed(x, state, storage, &session[at..next], out);
         let to = fed.at;
         state = fed.state;
         io::write_all(STDOUT_FILENO, &out[..to]);
         at = next;
     }
-    let to = lines::finish(x, state, storage, out);
+    let to = protocol::finish(x, state, storage, out);
     io::write_all(STDOUT_FILENO, &out[..to]);
 }
 
@@ -99,7 +99,7 @@ fn play(x: Sheet, s: Progress, storage: &mut [u64], session: &[u8], out: &mut [u
 fn answer(sheet: &[u8], session: &[u8], storage: &mut [u64], out: &mut [u8])
     requires { ⌜ (storageWords ≤ length (now storage)) × (600 ≤ length (now out)) ⌝ }
 {
-    let begun = lines::start(sheet, storage, out);
+    let begun = protocol::start(sheet, storage, out);
     let outcome = begun.outcome;
     match outcome {
         Outcome::Refused(_) => {

@@ -13,11 +13,12 @@ use lib.ListN.{length, getD, set, length-set, replicate}
 use lib.Seq.{getD-set-same, getD-set-other}
 use borrow.Author.Count.{below-more}
 use borrow.Author.Tests.{le-ltb, lt-ltb, ltb-true, eq-eqb, ne-eqb}
-use Rattle.refusal.specs.Numbers.{untold, toldAt, Verdicts}
-use Rattle.refusal.specs.declared.Verdict.{Verdict}
-use Rattle.refusal.specs.declared.Verdict.the-variants.{False}
-use Rattle.refusal.specs.declared.Told.{Told}
+use Rattle.outcomes.specs.Numbers.{untold, toldAt, Verdicts}
+use Rattle.outcomes.specs.declared.Verdict.{Verdict}
+use Rattle.outcomes.specs.declared.Verdict.the-variants.{False}
+use Rattle.outcomes.specs.declared.Told.{Told}
 use Rattle.words.specs.Bits.{bit}
+use Rattle.words.specs.Sizes.{Wide}
 use Rattle.words.specs.Below.{anyBelow}
 use Rattle.words.proofs.BitLaws.{bit-and, bit-or, bit-shl, bit-none, Lowest, lowest, without, lane-off, lane-less}
 use Rattle.words.proofs.AnyLaws.{any-cong, any-add, any-groups, any-word, none-any, some-any, any-some}
@@ -29,7 +30,7 @@ use Rattle.completions.specs.Steps.{anyNext, anyPair, verdictOf, pairsVerdict, 
 use Rattle.pairs.specs.Storage.{reached, reachedAt}
 use Rattle.pairs.specs.Changes.{rowBit}
 use Rattle.pairs.proofs.Sets.{lane-end}
-use Rattle.rounds.specs.Rows.{among, Wide}
+use Rattle.rounds.specs.Rows.{among}
 use Rattle.rounds.proofs.WordLaws.{heard-lane}
 use Rattle.verdicts.specs.Firsts.{Passing, Words, shows}
 

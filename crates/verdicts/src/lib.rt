@@ -7,14 +7,15 @@ ghost use Prim.Native.Nat.{ℕ, _+_, _*_, _^_, _<_, _≤_};
 ghost use lib.Dec.{eqb, ltb};
 ghost use lib.ListN.{length};
 ghost use Rattle.words.specs.Bits.{bit};
+ghost use Rattle.words.specs.Sizes.{Wide};
 ghost use Rattle.completions.specs.Steps.{anyNext, verdictOf, pairsVerdict, endsVerdict};
 ghost use Rattle.pairs.specs.Storage.{storageWords, reached};
 ghost use Rattle.pairs.specs.Changes.{rowBit};
-ghost use Rattle.refusal.specs.Numbers.{Verdicts};
-ghost use Rattle.rounds.specs.Rows.{among, Wide};
+ghost use Rattle.outcomes.specs.Numbers.{Verdicts};
+ghost use Rattle.rounds.specs.Rows.{among};
 ghost use Rattle.verdicts.specs.Firsts.{Passing, Words, shows};
-use refusal::Told;
-use refusal::Verdict;
+use outcomes::Told;
+use outcomes::Verdict;
 use sheet::OutputNo;
 
 // Whether some pair of the reached set has the first part a; v valuations, w words to a row.
@@ -132,7 +133,7 @@ fn verdicts(f: &[u64], w: usize, m: usize, n: usize) -> [Told; 7]
     requires { ⌜ (w ≤ 4) × (m + n ≤ 8) × (n ≤ 7) × (length (now f) ≡ 4) ⌝ }
     ensures { λ r. ⌜ Verdicts n (λ k. verdictOf (shows w (now (f .entry)) (bit (m + k)) true) (shows w (now (f .entry)) (bit (m + k)) false)) r ⌝ }
 {
-    let mut vs = refusal::untold();
+    let mut vs = outcomes::untold();
     let mut k: usize = 0;
     while k < n {
         let test = output_test(m, OutputNo(k as u8));
@@ -148,8 +149,9 @@ pub fn round_verdicts(s: &[u64], m: usize, n: usize, letters: u64) -> [Told; 7]
     requires { ⌜ (m + n ≤ 8) × (n ≤ 7) × (storageWords ≤ length (now s)) ⌝ }
     ensures { λ r. ⌜ (Passing (2 ^ (m + n)) (among letters) (reached (now (s .entry))) → Verdicts n (λ k. pairsVerdict (2 ^ (m + n)) (reached (now (s .entry))) (bit (m + k))) r) ⌝ }
 {
-    let v = rounds::valuations(m, n);
-    let w = rounds::row_words(m, n);
+    let size = words::size_of(m, n);
+    let v = size.valuations;
+    let w = size.words;
     let f = firsts(s, v, w, letters);
     verdicts(&f, w, m, n)
 }
@@ -159,8 +161,9 @@ pub fn closing_verdicts(s: &[u64], m: usize, n: usize) -> [Told; 7]
     requires { ⌜ (m + n ≤ 8) × (n ≤ 7) × (storageWords ≤ length (now s)) ⌝ }
     ensures { λ r. ⌜ Verdicts n (λ k. endsVerdict (2 ^ (m + n)) (reached (now (s .entry))) (bit (m + k))) r ⌝ }
 {
-    let v = rounds::valuations(m, n);
-    let w = rounds::row_words(m, n);
+    let size = words::size_of(m, n);
+    let v = size.valuations;
+    let w = size.words;
     let f = ends(s, v, w);
     verdicts(&f, w, m, n)
 }

@@ -1,6 +1,6 @@
 -- `checks::check_closing` meets its contract.
-use Rattle.refusal.proofs.Decisions.{decided-refused, decided-accepted}
-use Rattle.checks.specs.Checks.{journalRules, endRules}
+use Rattle.outcomes.proofs.Decisions.{decided-refused, decided-accepted}
+use Rattle.checks.specs.JournalChecks.{journalRules, endRules}
 use borrow.Author.Needs.{needs}
 use Rattle.checks.proofs.check_closing.Statement.{statement}
 use Rattle.checks.proofs.check_closing.Tie as tie

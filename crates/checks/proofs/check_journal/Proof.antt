@@ -21,12 +21,12 @@ returns-2 : tie.Need-returns-2
 returns-2 c = inr ((λ b. omega arith), inl (sym (c .before .record-ok .ensures) ∙ not-true _ (c .if2 .taken), refl))
 
 returns-3 : tie.Need-returns-3
-returns-3 c = 
+returns-3 c =
     let right = sym (c .before .before .record-ok .ensures) ∙ not-false _ (c .before .if2 .left) in
     inr ((λ b. omega arith), inr ((λ b. true≢false (sym right ∙ b)), inl (c .if3 .taken, refl)))
 
 returns-4 : tie.Need-returns-4
-returns-4 c = 
+returns-4 c =
     let right = sym (c .before .before .record-ok .ensures) ∙ not-false _ (c .before .if2 .left) in
     inr ((λ b. omega arith), inr ((λ b. true≢false (sym right ∙ b)), inr ((λ b. false≢true (sym (c .if3 .left) ∙ b)), refl)))
 

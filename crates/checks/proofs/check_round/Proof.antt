@@ -1,6 +1,6 @@
 -- `checks::check_round` meets its contract.
-use Rattle.refusal.proofs.Decisions.{decided-refused, decided-accepted}
-use Rattle.checks.specs.Checks.{journalRules, heardRules}
+use Rattle.outcomes.proofs.Decisions.{decided-refused, decided-accepted}
+use Rattle.checks.specs.JournalChecks.{journalRules, heardRules}
 use borrow.Author.Needs.{needs}
 use Rattle.checks.proofs.check_round.Statement.{statement}
 use Rattle.checks.proofs.check_round.Tie as tie

@@ -1,15 +1,14 @@
 -- `jigwaret::jigwaret_close` meets its contract.
 use mathlib.Core.Path.{_≡_, refl, sym, ap, subst}
-use mathlib.Core.List.{List}
 use Prim.Native.Nat.{_≤_}
 use native.Mathlib.Omega.{arith}
 use lib.ListN.{length}
 use lib.Seq.{paste}
 use denote.Ref.{now}
-use Rattle.refusal.specs.Numbers.{outcomeNo}
-use Rattle.sheet.specs.Checks.{inputsOf, outputsOf}
+use Rattle.outcomes.specs.Numbers.{outcomeNo}
+use Rattle.sheet.specs.ReadingChecks.{outputsOf}
 use Rattle.record.specs.declared.JournalRecord.{JournalRecord}
-use Rattle.checks.specs.Checks.{closingRules}
+use Rattle.checks.specs.JournalChecks.{closingRules}
 use Rattle.slices.specs.Slices.{marked, numbersOf, verdictNumbers}
 use Rattle.slices.proofs.SliceLaws.{Sizes, sizes-tested, numbers-size}
 use Rattle.monitor.specs.Entries.{CloseCall}
@@ -21,7 +20,7 @@ use Rattle.jigwaret.proofs.jigwaret_close.Tie as tie
 use Rattle.jigwaret.proofs.jigwaret_close.Reads as reads
 use Rattle.jigwaret.proofs.jigwaret_close.Lts as lts
 use Rattle.monitor.proofs.close.Reads as close-reads
-use Rattle.refusal.proofs.refusal_number.Reads as refusal-number-reads
+use Rattle.outcomes.proofs.refusal_number.Reads as refusal-number-reads
 use Rattle.slices.proofs.load.Reads as load-reads
 use Rattle.slices.proofs.put_numbers.Reads as put-numbers-reads
 use Rattle.slices.proofs.put_verdicts.Reads as put-verdicts-reads
@@ -39,7 +38,7 @@ sized-requires : tie.Need-sized-requires
 sized-requires c κs = search needs
 
 returns : tie.Need-returns
-returns c = 
+returns c =
     let a = c .before .before .before .before .before .before .args in
     let z = slices (now (a .record)) (now (a .record)) (now (a .answer)) (now (a .answer)) in
     sizes-wrong (ByMark (marked (now (a .record))) (ClosingNumbered (now (a .sheet)) (now (a .storage)) z 255) (MarkRefused (now (a .sheet)) (now (a .storage)) (now (a .storage)) z 255))
@@ -86,7 +85,7 @@ cast-n : tie.Need-cast-n
 cast-n c = omega (arith, few (c .before .before .before .before .before))
 
 put-verdicts-requires : tie.Need-put-verdicts-requires
-put-verdicts-requires c κs = 
+put-verdicts-requires c κs =
     let t = c .before .before .before .before .before .before .before in
     (omega (arith, few t), omega (arith, few t, fits (c .before .before .before .before .before .before .before .before .before .before .before .before) .room))
 
@@ -94,7 +93,7 @@ slice-aggregate-put-numbers : tie.Need-slice-aggregate-put-numbers
 slice-aggregate-put-numbers c = search (needs, seven-shares (c .before .before .before .before .before .before .before .before .before .before .before .before .before .before .before))
 
 put-numbers-requires : tie.Need-put-numbers-requires
-put-numbers-requires c κs = 
+put-numbers-requires c κs =
     let after-put-verdicts = c .before .before .before .before .before in
     let t = c .before .before .before .before .before .before .before .before .before .before .before .before .before in
     let d = c .before .before .before .before .before .before .before .before .before .before .before .before .before .before .before .before .before .before in
@@ -109,7 +108,7 @@ same-length : tie.Need-same-length
 same-length c = search needs
 
 returns-2 : tie.Need-returns-2
-returns-2 c = 
+returns-2 c =
     let d = c .before .before .before .before .before .before .before in
     let a = entry d .args in
     let p = c .before .before .before .before .close in
@@ -130,7 +129,7 @@ same-length-3 : tie.Need-same-length-3
 same-length-3 c = search needs
 
 returns-3 : tie.Need-returns-3
-returns-3 c = 
+returns-3 c =
     let after-put-verdicts = c .before .before .before .before .before .before .before .before in
     let after-store = after-put-verdicts .before .before .before .before .before .before in
     let after-enum-told = after-store .before .before in

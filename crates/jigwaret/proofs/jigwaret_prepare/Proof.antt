@@ -6,7 +6,7 @@ use lib.ListN.{set}
 use lib.Seq.{paste}
 use borrow.Author.Needs.{needs}
 use denote.Ref.{now}
-use Rattle.refusal.specs.Numbers.{outcomeNo}
+use Rattle.outcomes.specs.Numbers.{outcomeNo}
 use Rattle.slices.specs.Slices.{numbersOf}
 use Rattle.slices.proofs.SliceLaws.{set-first, Sizes, sizes-tested}
 use Rattle.jigwaret.specs.Journal.{slices, PreparationNumbered}
@@ -18,7 +18,7 @@ use Rattle.jigwaret.proofs.jigwaret_prepare.Lts as lts
 use Rattle.slices.proofs.sized.Reads as sized-reads
 use Rattle.slices.proofs.store.Reads as store-reads
 use Rattle.monitor.proofs.prepare.Reads as prepare-reads
-use Rattle.refusal.proofs.refusal_number.Reads as refusal-number-reads
+use Rattle.outcomes.proofs.refusal_number.Reads as refusal-number-reads
 
 -- the state at entry, seen from behind the test of the sizes
 abbrev entry : tie.Else1 → tie.Start

@@ -1,18 +1,17 @@
 -- `jigwaret::jigwaret_round` meets its contract.
-use mathlib.Core.Path.{_≡_, refl, sym, ap, subst}
-use mathlib.Core.List.{List}
+use mathlib.Core.Path.{refl, sym, ap, subst}
 use Prim.Native.Nat.{_≤_}
 use native.Mathlib.Omega.{arith}
 use lib.ListN.{length}
 use lib.Seq.{paste}
 use denote.Ref.{now}
-use Rattle.refusal.specs.Numbers.{outcomeNo}
-use Rattle.sheet.specs.Checks.{inputsOf, outputsOf}
+use Rattle.outcomes.specs.Numbers.{outcomeNo}
+use Rattle.sheet.specs.ReadingChecks.{inputsOf, outputsOf}
 use Rattle.record.specs.declared.JournalRecord.{JournalRecord}
-use Rattle.checks.specs.Checks.{roundRules}
+use Rattle.checks.specs.JournalChecks.{roundRules}
 use Rattle.slices.specs.Slices.{marked, numbersOf, verdictNumbers}
-use Rattle.slices.proofs.SliceLaws.{Sizes, sizes-tested, numbers-size}
-use Rattle.monitor.specs.Entries.{Rounds, RoundCall}
+use Rattle.slices.proofs.SliceLaws.{Sizes, sizes-tested}
+use Rattle.monitor.specs.Entries.{RoundCall}
 use Rattle.jigwaret.specs.Journal.{slices, ByMark, MarkRefused, RoundNumbered}
 use Rattle.jigwaret.proofs.JournalLaws.{sizes-wrong, sizes-right, written, not-written, number-of, round-by-mark, sheet-long, few-outputs}
 use borrow.Author.Needs.{needs}
@@ -21,7 +20,7 @@ use Rattle.jigwaret.proofs.jigwaret_round.Tie as tie
 use Rattle.jigwaret.proofs.jigwaret_round.Reads as reads
 use Rattle.jigwaret.proofs.jigwaret_round.Lts as lts
 use Rattle.monitor.proofs.round.Reads as round-reads
-use Rattle.refusal.proofs.refusal_number.Reads as refusal-number-reads
+use Rattle.outcomes.proofs.refusal_number.Reads as refusal-number-reads
 use Rattle.slices.proofs.load.Reads as load-reads
 use Rattle.slices.proofs.put_verdicts.Reads as put-verdicts-reads
 use Rattle.slices.proofs.sized.Reads as sized-reads
@@ -38,7 +37,7 @@ sized-requires : tie.Need-sized-requires
 sized-requires c κs = search needs
 
 returns : tie.Need-returns
-returns c = 
+returns c =
     let a = c .before .before .before .before .before .before .args in
     let z = slices (now (a .record)) (now (a .record)) (now (a .answer)) (now (a .answer)) in
     sizes-wrong (ByMark (marked (now (a .record))) (RoundNumbered (now (a .sheet)) (now (a .storage)) (now (a .storage)) (a .known) (a .value) z 255) (MarkRefused (now (a .sheet)) (now (a .storage)) (now (a .storage)) z 255))
@@ -92,7 +91,7 @@ same-length-2 : tie.Need-same-length-2
 same-length-2 c = search needs
 
 returns-2 : tie.Need-returns-2
-returns-2 c = 
+returns-2 c =
     let after-round = c .before .before .before .before .before .before in
     let after-load = after-round .before .before in
     let d = after-load .before .before in
@@ -117,7 +116,7 @@ same-length-5 : tie.Need-same-length-5
 same-length-5 c = search needs
 
 returns-3 : tie.Need-returns-3
-returns-3 c = 
+returns-3 c =
     let after-store = c .before .before .before .before .before .before .before .before in
     let after-enum-told = after-store .before .before in
     let after-round = after-enum-told .before .before .before .before in

@@ -10,7 +10,7 @@ use Rattle.io.proofs.buffer.Reads as buffer-reads
 use Rattle.io.proofs.write_all.Reads as write-all-reads
 use Rattle.journal.proofs.read_sheet.Reads as read-sheet-reads
 use Rattle.journal.proofs.run.Reads as run-reads
-use Rattle.lines.proofs.start.Reads as start-reads
+use Rattle.protocol.proofs.start.Reads as start-reads
 
 slice-aggregate-read-sheet : tie.Need-slice-aggregate-read-sheet
 slice-aggregate-read-sheet c = search needs

@@ -9,7 +9,7 @@ use Rattle.journal.proofs.turn.Lts as lts
 use Rattle.io.proofs.count.Reads as count-reads
 use Rattle.io.proofs.write_all.Reads as write-all-reads
 use Rattle.libc.proofs.read.Reads as read-reads
-use Rattle.lines.proofs.feed.Reads as feed-reads
+use Rattle.protocol.proofs.feed.Reads as feed-reads
 
 read-requires : tie.Need-read-requires
 read-requires c κs = search needs

@@ -27,7 +27,7 @@ close-on-requires : tie.Need-close-on-requires
 close-on-requires c κs = (_, rw (c .enum-told .given .1) at (c .before .before .accept-sheet .ensures .1 .0))
 
 returns : tie.Need-returns
-returns c = 
+returns c =
     let a = c .before .before .before .before .before .before .before .args in
     closing-refused (now (a .sheet)) (now (a .storage)) (a .before) _ _ (c .refused-closing .ensures)
     (closing-unread (now (a .sheet)) (length (now (a .storage))) (a .before) _ (rw (c .before .before .outcome .given .1) at (c .before .before .before .before .accept-sheet .ensures .0)))

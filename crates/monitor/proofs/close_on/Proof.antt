@@ -8,7 +8,7 @@ use Rattle.monitor.proofs.close_on.Statement.{statement}
 use Rattle.monitor.proofs.close_on.Tie as tie
 use Rattle.monitor.proofs.close_on.Reads as reads
 use Rattle.monitor.proofs.close_on.Lts as lts
-use Rattle.accepted.proofs.closing.Reads as closing-reads
+use Rattle.effects.proofs.closing.Reads as closing-reads
 use Rattle.checks.proofs.check_closing.Reads as check-closing-reads
 use Rattle.monitor.proofs.refused_closing.Reads as refused-closing-reads
 
@@ -25,20 +25,20 @@ enum-told : tie.Need-enum-told
 enum-told c = search needs
 
 closing-requires : tie.Need-closing-requires
-closing-requires c κs = 
+closing-requires c κs =
     let start = c .before .before .before .before in
     let a = start .args in
     let y = closing-ready (a .x .outputs) (length (now (a .storage))) (a .r) (rw (c .enum-told .given .1) at (c .before .before .check-closing .ensures)) in
     (start .pre .1 .usable, y .long, y .right, y .some)
 
 returns : tie.Need-returns
-returns c = 
+returns c =
     let a = c .before .before .before .before .before .before .args in
     let d = rw (c .before .before .outcome .given .1) at (c .before .before .before .before .check-closing .ensures) in
     λ bs ok. closing-turned-down bs (a .x) ok (a .r) (now (a .storage)) _ _ (c .refused-closing .ensures) d
 
 returns-2 : tie.Need-returns-2
-returns-2 c = 
+returns-2 c =
     let a = c .before .before .before .before .before .args in
     let p = c .closing in
     let d = rw (c .before .enum-told .given .1) at (c .before .before .before .check-closing .ensures) in

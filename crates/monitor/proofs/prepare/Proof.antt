@@ -27,7 +27,7 @@ prepare-on-requires : tie.Need-prepare-on-requires
 prepare-on-requires c κs = (_, rw (c .before .enum-told .given .1) at (c .before .before .before .accept-sheet .ensures .1 .0))
 
 returns : tie.Need-returns
-returns c = 
+returns c =
     let a = c .before .before .before .before .before .before .before .args in
     prepare-refused (now (a .sheet)) (now (a .storage)) _ _ (c .refused-preparation .ensures)
     (prepare-unread (now (a .sheet)) (length (now (a .storage))) _ (rw (c .before .before .outcome .given .1) at (c .before .before .before .before .accept-sheet .ensures .0)))

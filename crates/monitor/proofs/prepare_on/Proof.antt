@@ -9,14 +9,14 @@ use Rattle.monitor.proofs.prepare_on.Statement.{statement}
 use Rattle.monitor.proofs.prepare_on.Tie as tie
 use Rattle.monitor.proofs.prepare_on.Reads as reads
 use Rattle.monitor.proofs.prepare_on.Lts as lts
-use Rattle.accepted.proofs.preparation.Reads as preparation-reads
+use Rattle.effects.proofs.preparation.Reads as preparation-reads
 use Rattle.monitor.proofs.refused_preparation.Reads as refused-preparation-reads
 
 refused-preparation-requires : tie.Need-refused-preparation-requires
 refused-preparation-requires c κs = search needs
 
 returns : tie.Need-returns
-returns c = 
+returns c =
     let a = c .before .before .before .args in
     λ bs ok. too-short bs (a .x) ok (now (a .storage)) _ (c .refused-preparation .ensures) (inl (c .before .if1 .taken, refl))
 
@@ -27,7 +27,7 @@ same-length : tie.Need-same-length
 same-length c = search needs
 
 returns-2 : tie.Need-returns-2
-returns-2 c = 
+returns-2 c =
     let a = c .before .before .before .before .before .before .args in
     let p = c .before .before .preparation in
     let long = c .before .before .before .before .if1 .left in

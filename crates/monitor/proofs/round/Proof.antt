@@ -27,7 +27,7 @@ round-on-requires : tie.Need-round-on-requires
 round-on-requires c κs = (_, rw (c .before .enum-told .given .1) at (c .before .before .before .accept-sheet .ensures .1 .0))
 
 returns : tie.Need-returns
-returns c = 
+returns c =
     let a = c .before .before .before .before .before .before .before .args in
     round-refused (now (a .sheet)) (now (a .storage)) (a .before) (a .known) (a .value) _ _ (c .refused-round .ensures)
     (round-unread (now (a .sheet)) (length (now (a .storage))) (a .before) (a .known) (a .value) _ (rw (c .before .before .outcome .given .1) at (c .before .before .before .before .accept-sheet .ensures .0)))

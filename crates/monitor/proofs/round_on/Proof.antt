@@ -8,7 +8,7 @@ use Rattle.monitor.proofs.round_on.Statement.{statement}
 use Rattle.monitor.proofs.round_on.Tie as tie
 use Rattle.monitor.proofs.round_on.Reads as reads
 use Rattle.monitor.proofs.round_on.Lts as lts
-use Rattle.accepted.proofs.round.Reads as round-reads
+use Rattle.effects.proofs.round.Reads as round-reads
 use Rattle.checks.proofs.check_round.Reads as check-round-reads
 use Rattle.letters.proofs.letters_of.Reads as letters-of-reads
 use Rattle.monitor.proofs.refused_round.Reads as refused-round-reads
@@ -29,7 +29,7 @@ letters-of-requires : tie.Need-letters-of-requires
 letters-of-requires c κs = search needs
 
 round-requires : tie.Need-round-requires
-round-requires c κs = 
+round-requires c κs =
     let start = c .before .before .before .before .before .before in
     let a = start .args in
     let d = rw (c .before .before .enum-told .given .1) at (c .before .before .before .before .check-round .ensures) in
@@ -37,7 +37,7 @@ round-requires c κs =
     (start .pre .1 .usable, y .long, y .right, y .room)
 
 returns : tie.Need-returns
-returns c = 
+returns c =
     let a = c .before .before .before .before .before .before .args in
     let d = rw (c .before .before .outcome .given .1) at (c .before .before .before .before .check-round .ensures) in
     λ bs ok. round-turned-down bs (a .x) ok (a .r) (a .known) (a .value) (now (a .storage)) _ _ (c .refused-round .ensures) d
@@ -46,7 +46,7 @@ same-length : tie.Need-same-length
 same-length c = search needs
 
 returns-2 : tie.Need-returns-2
-returns-2 c = 
+returns-2 c =
     let a = c .before .before .before .before .before .before .before .before .before .args in
     let p = c .before .before .round in
     let d = rw (c .before .before .before .before .before .enum-told .given .1) at (c .before .before .before .before .before .before .before .check-round .ensures) in

@@ -1,8 +1,8 @@
 -- `preparation::join_before` meets its contract.
 use borrow.Author.Needs.{needs}
 use Rattle.words.proofs.SizeLaws.{sized-under}
-use Rattle.unions.proofs.Rows.{streams-low}
-use Rattle.unions.proofs.Uniting.{row-from, empty-row}
+use Rattle.predecessors.proofs.Rows.{streams-low}
+use Rattle.predecessors.proofs.Uniting.{row-from, empty-row}
 use Rattle.preparation.proofs.Joining.{column-joins}
 use Rattle.preparation.proofs.join_before.Statement.{statement}
 use Rattle.preparation.proofs.join_before.Tie as tie

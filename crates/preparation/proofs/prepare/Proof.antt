@@ -5,7 +5,7 @@ use Rattle.words.specs.declared.Size.{Size}
 use Rattle.sheet.specs.RuleSheet.{requiredOf}
 use Rattle.sheet.specs.Reading.{Below}
 use Rattle.lanes.specs.Coded.{Coded, sheetOf}
-use Rattle.preparation.specs.Prepared.{Prepared, Reach}
+use Rattle.preparation.specs.Searched.{Searched, Reach}
 use Rattle.preparation.proofs.prepare.Statement.{statement}
 use Rattle.preparation.proofs.prepare.Tie as tie
 
@@ -32,7 +32,7 @@ returns c =
     let e = after-size-of .size-of .ensures .0 in
     let r = after-search .search .ensures in
     let f = after-search .search .result in (
-      subst (λ (z : Size). Prepared (sheetOf (z .inputs) (z .outputs) (a .code .now) (a .len .now) (requiredOf (a .assumed))) (a .s .now) (after-search .search .last .0) (f .live)) e (r .0),
+      subst (λ (z : Size). Searched (sheetOf (z .inputs) (z .outputs) (a .code .now) (a .len .now) (requiredOf (a .assumed))) (a .s .now) (after-search .search .last .0) (f .live)) e (r .0),
       (subst (λ (z : Size). Reach (sheetOf (z .inputs) (z .outputs) (a .code .now) (a .len .now) (requiredOf (a .assumed))) (f .reach)) e (r .1 .0), r .1 .1),
     )
 

@@ -10,7 +10,7 @@ use Rattle.sheet.specs.RuleSheet.{requiredOf}
 use Rattle.completions.specs.Live.{allowed}
 use Rattle.pairs.specs.Storage.{reachedAt, scratchAt, storageWords, maxPairs}
 use Rattle.lanes.specs.Coded.{sheetOf}
-use Rattle.unions.specs.Rows.{Row}
+use Rattle.predecessors.specs.Rows.{Row}
 use Rattle.preparation.specs.Search.{Occupied, Apart}
 use Rattle.preparation.proofs.Searching.{Searching, rows-started, rows-none, apart-turned}
 use Rattle.preparation.proofs.Preparing.{search-bound, search-begin, search-step, layers-some, search-finish}

@@ -7,7 +7,7 @@ use lib.ListN.{length}
 use borrow.Author.Needs.{needs}
 use Rattle.completions.specs.Live.{allowed}
 use Rattle.lanes.specs.Coded.{sheetOf}
-use Rattle.unions.specs.Rows.{Row}
+use Rattle.predecessors.specs.Rows.{Row}
 use Rattle.preparation.specs.Search.{Occupied, Swept}
 use Rattle.preparation.proofs.Joining.{occupied-beside, swept-first, swept-more}
 use Rattle.preparation.proofs.sweep.Statement.{statement}

@@ -4,7 +4,7 @@ use Prim.Native.Nat.{_+_, _*_, _-_, _≤_}
 use native.Mathlib.Omega.{arith}
 use lib.ListN.{length}
 use borrow.Author.Needs.{needs}
-use Rattle.refusal.specs.Numbers.{toldAt}
+use Rattle.outcomes.specs.Numbers.{toldAt}
 use Rattle.record.specs.Record.{column}
 use Rattle.record.proofs.Tallies.{record-is, countable, CountedTo, counted-none, counted-more, counted-all, column-lt}
 use Rattle.record.proofs.with_round.Statement.{statement}

@@ -11,7 +11,7 @@ use Rattle.slices.proofs.put_verdicts.Statement.{statement}
 use Rattle.slices.proofs.put_verdicts.Tie as tie
 use Rattle.slices.proofs.put_verdicts.Reads as reads
 use Rattle.slices.proofs.put_verdicts.Lts as lts
-use Rattle.refusal.proofs.verdict_number.Reads as verdict-number-reads
+use Rattle.outcomes.proofs.verdict_number.Reads as verdict-number-reads
 
 abbrev Inv-loop : tie.InvT-loop
 Inv-loop into₀ at n verdicts i₀ into i = (i ≤ n) × PutTo i at (verdictNumbers verdicts n) into₀ into

@@ -8,7 +8,7 @@ use Rattle.text.proofs.refused.Statement.{statement}
 use Rattle.text.proofs.refused.Tie as tie
 use Rattle.text.proofs.refused.Reads as reads
 use Rattle.text.proofs.refused.Lts as lts
-use Rattle.refusal.proofs.refusal_number.Reads as refusal-number-reads
+use Rattle.outcomes.proofs.refusal_number.Reads as refusal-number-reads
 use Rattle.text.proofs.put.bytes.Reads as bytes-reads
 use Rattle.text.proofs.put.decimal.Reads as decimal-reads
 

@@ -6,7 +6,7 @@ use native.Mathlib.Omega.{arith}
 use native.Mathlib.Nat.{le-antisymm}
 use lib.ListN.{length}
 use borrow.Author.Needs.{needs}
-use Rattle.refusal.specs.Numbers.{verdictList}
+use Rattle.outcomes.specs.Numbers.{verdictList}
 use Rattle.text.specs.Text.{verdictChar}
 use Rattle.text.specs.Wrote.{Wrote}
 use Rattle.text.proofs.WroteLaws.{wrote-none, wrote-then}

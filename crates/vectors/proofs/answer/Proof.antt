@@ -8,7 +8,7 @@ use Rattle.vectors.proofs.answer.Tie as tie
 use Rattle.vectors.proofs.answer.Reads as reads
 use Rattle.vectors.proofs.answer.Lts as lts
 use Rattle.io.proofs.write_all.Reads as write-all-reads
-use Rattle.lines.proofs.start.Reads as start-reads
+use Rattle.protocol.proofs.start.Reads as start-reads
 use Rattle.vectors.proofs.play.Reads as play-reads
 
 start-requires : tie.Need-start-requires

@@ -9,8 +9,8 @@ use Rattle.vectors.proofs.play.Tie as tie
 use Rattle.vectors.proofs.play.Reads as reads
 use Rattle.vectors.proofs.play.Lts as lts
 use Rattle.io.proofs.write_all.Reads as write-all-reads
-use Rattle.lines.proofs.feed.Reads as feed-reads
-use Rattle.lines.proofs.finish.Reads as finish-reads
+use Rattle.protocol.proofs.feed.Reads as feed-reads
+use Rattle.protocol.proofs.finish.Reads as finish-reads
 use Rattle.vectors.proofs.chunk_size.Reads as chunk-size-reads
 
 abbrev Inv-loop : tie.InvT-loop

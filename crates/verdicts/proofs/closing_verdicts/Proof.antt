@@ -1,15 +1,19 @@
 -- `verdicts::closing_verdicts` meets its contract.
+use mathlib.Core.Path.{ap}
 use native.Mathlib.Omega.{arith}
-use borrow.Author.Needs.{needs}
+use Rattle.words.specs.declared.Size.{Size}
 use Rattle.verdicts.proofs.VerdictLaws.{verdicts-as, ends-verdict}
+use borrow.Author.Needs.{needs}
 use Rattle.verdicts.proofs.closing_verdicts.Statement.{statement}
 use Rattle.verdicts.proofs.closing_verdicts.Tie as tie
+use Rattle.verdicts.proofs.closing_verdicts.Reads as reads
+use Rattle.verdicts.proofs.closing_verdicts.Lts as lts
+use Rattle.verdicts.proofs.ends.Reads as ends-reads
+use Rattle.verdicts.proofs.verdicts.Reads as verdicts-reads
+use Rattle.words.proofs.size_of.Reads as size-of-reads
 
-valuations-requires : tie.Need-valuations-requires
-valuations-requires c κs = search needs
-
-row-words-requires : tie.Need-row-words-requires
-row-words-requires c κs = search needs
+size-of-requires : tie.Need-size-of-requires
+size-of-requires c κs = search needs
 
 ends-requires : tie.Need-ends-requires
 ends-requires c κs = search needs
@@ -22,16 +26,11 @@ verdicts-requires c κs = search needs
 
 returns : tie.Need-returns
 returns c =
-    let v = c .before .before .before .before .valuations .ensures .0 in
-    verdicts-as _ _ _ _ (λ k l. ends-verdict _ _ _ _ _ _ v (omega (arith, v, c .before .before .before .row-words .ensures .under)) (c .before .before .ends .ensures)) (c .verdicts .ensures)
+    let size = c .before .before .before .size-of .ensures in
+    let v = ap (λ (z : Size). z .valuations) (size .0) in
+    verdicts-as _ _ _ _ (λ k l. ends-verdict _ _ _ _ _ _ v (omega (arith, v, size .1 .wide .under)) (c .before .before .ends .ensures)) (c .verdicts .ensures)
 
 pub closing-verdicts-spec : {M : Type 1} → statement M
 closing-verdicts-spec =
     tie.close
-    (tie.spec
-    valuations-requires
-    row-words-requires
-    ends-requires
-    slice-aggregate-verdicts
-    verdicts-requires
-    returns)
+    (tie.spec size-of-requires ends-requires slice-aggregate-verdicts verdicts-requires returns)

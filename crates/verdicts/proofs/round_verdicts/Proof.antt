@@ -1,18 +1,22 @@
 -- `verdicts::round_verdicts` meets its contract.
+use mathlib.Core.Path.{ap}
 use native.Mathlib.Omega.{arith}
-use borrow.Author.Needs.{needs}
+use Rattle.words.specs.declared.Size.{Size}
 use Rattle.verdicts.proofs.VerdictLaws.{verdicts-as, firsts-verdict}
+use borrow.Author.Needs.{needs}
 use Rattle.verdicts.proofs.round_verdicts.Statement.{statement}
 use Rattle.verdicts.proofs.round_verdicts.Tie as tie
+use Rattle.verdicts.proofs.round_verdicts.Reads as reads
+use Rattle.verdicts.proofs.round_verdicts.Lts as lts
+use Rattle.verdicts.proofs.firsts.Reads as firsts-reads
+use Rattle.verdicts.proofs.verdicts.Reads as verdicts-reads
+use Rattle.words.proofs.size_of.Reads as size-of-reads
 
-valuations-requires : tie.Need-valuations-requires
-valuations-requires c κs = search needs
-
-row-words-requires : tie.Need-row-words-requires
-row-words-requires c κs = search needs
+size-of-requires : tie.Need-size-of-requires
+size-of-requires c κs = search needs
 
 firsts-requires : tie.Need-firsts-requires
-firsts-requires c κs = (rw (c .before .valuations .ensures .0) (c .row-words .ensures), c .before .before .before .pre .2)
+firsts-requires c κs = search needs
 
 slice-aggregate-verdicts : tie.Need-slice-aggregate-verdicts
 slice-aggregate-verdicts c = search needs
@@ -22,16 +26,11 @@ verdicts-requires c κs = search needs
 
 returns : tie.Need-returns
 returns c = λ h.
-    let v = c .before .before .before .before .valuations .ensures .0 in
-    verdicts-as _ _ _ _ (λ k l. firsts-verdict _ _ _ _ _ _ _ v (omega (arith, v, c .before .before .before .row-words .ensures .under)) h (c .before .before .firsts .ensures)) (c .verdicts .ensures)
+    let size = c .before .before .before .size-of .ensures in
+    let v = ap (λ (z : Size). z .valuations) (size .0) in
+    verdicts-as _ _ _ _ (λ k l. firsts-verdict _ _ _ _ _ _ _ v (omega (arith, v, size .1 .wide .under)) h (c .before .before .firsts .ensures)) (c .verdicts .ensures)
 
 pub round-verdicts-spec : {M : Type 1} → statement M
 round-verdicts-spec =
     tie.close
-    (tie.spec
-    valuations-requires
-    row-words-requires
-    firsts-requires
-    slice-aggregate-verdicts
-    verdicts-requires
-    returns)
+    (tie.spec size-of-requires firsts-requires slice-aggregate-verdicts verdicts-requires returns)

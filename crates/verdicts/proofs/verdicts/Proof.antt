@@ -10,7 +10,7 @@ use Rattle.verdicts.proofs.verdicts.Statement.{statement}
 use Rattle.verdicts.proofs.verdicts.Tie as tie
 use Rattle.verdicts.proofs.verdicts.Reads as reads
 use Rattle.verdicts.proofs.verdicts.Lts as lts
-use Rattle.refusal.proofs.untold.Reads as untold-reads
+use Rattle.outcomes.proofs.untold.Reads as untold-reads
 use Rattle.verdicts.proofs.output_test.Reads as output-test-reads
 use Rattle.verdicts.proofs.verdict.Reads as verdict-reads
 

@@ -1,0 +1,84 @@
+-- What the end of a line writes.
+use mathlib.Core.Path.{_≡_, refl, sym, ap, _∙_, subst}
+use mathlib.Core.Bool.{Bool, true, false, cond}
+use mathlib.Core.List.{List, [], _∷_, _++_}
+use Prim.Native.Nat.{ℕ, zero, suc, _+_, _≤_, _<_}
+use native.Mathlib.Omega.{arith}
+use lib.ListN.{getD, take}
+use Rattle.outcomes.specs.declared.Refusal.{Refusal}
+use Rattle.outcomes.specs.declared.Refusal.the-variants.{Closed, Line}
+use Rattle.outcomes.specs.declared.Verdict.{Verdict}
+use Rattle.sheet.specs.RuleSheet.{RuleSheet, outputs}
+use Rattle.record.specs.Record.{countAt}
+use Rattle.record.specs.declared.JournalRecord.{JournalRecord}
+use Rattle.text.specs.Text.{verdictLine, tallyLines, closingText, lineRefusal}
+use Rattle.text.specs.Wrote.{Wrote}
+use Rattle.text.proofs.TallyLaws.{tally-lines-same}
+use Rattle.claims.specs.Book.{Call, closing, refused, verdicts, closed, Book, counted}
+use Rattle.claims.specs.Session.{Held, held}
+use Rattle.line_scan.specs.Lines.{calls, malformed, readLine}
+use Rattle.line_end.specs.Printed.{nextLine, malformedRule, passed, rounded, shut, turnedDown, unread}
+use Rattle.line_end.specs.LineEnd.{Serves, Answered, LineEnded, room, due}
+use Rattle.line_end.specs.declared.Ended.{Ended}
+use Rattle.line_end.proofs.Serving.{serves-matches}
+
+-- ---- the text of a closing
+
+take-at : (xs : List ℕ) (n i : ℕ) → i < n → getD (take n xs) i 0 ≡ getD xs i 0
+take-at xs zero i h = absurd (omega arith)
+take-at [] (suc n) i h = refl
+take-at (x ∷ xs) (suc n) zero h = refl
+take-at (x ∷ xs) (suc n) (suc i) h = take-at xs n i (omega arith)
+
+-- ---- the end of a line
+
+module _ (sheet : List ℕ) (x : RuleSheet) (b : Book) (line : ℕ) (part d : List ℕ) (at : ℕ) (e t : List ℕ) (r : Ended) where
+  -- the run is over
+  pub refused-ends : (c : Call) (q : Refusal) (h : Held) → readLine (x .inputs) part ≡ calls c → Answered sheet x b c (refused q) h
+      → r .over ≡ true → Wrote d at (lineRefusal q line) e (r .at) → LineEnded sheet x b line part d at e t r
+  refused-ends c q h l a o w = record { text = lineRefusal q line; wrote = w; ends = rw o (λ ls. turnedDown l (a .step)) }
+
+  pub malformed-ends : (j : JournalRecord) (s : List ℕ) → Serves sheet x b (held s j) → readLine (x .inputs) part ≡ malformed
+      → r .over ≡ true → Wrote d at (lineRefusal (cond (j .closed) Closed Line) line) e (r .at) → LineEnded sheet x b line part d at e t r
+  malformed-ends j s sv l o w =
+      let m = serves-matches sheet x b (held s j) sv in
+      record { text = lineRefusal (malformedRule b) line; wrote = rw (m .shut) at w; ends = rw o (λ ls. unread l) }
+
+  -- it goes on
+  module _ (o : r .over ≡ false) (n : r .line ≡ nextLine line) where
+    pub blank-ends : part ≡ [] → Serves sheet x b (held t (r .record)) → Wrote d at [] e (r .at) → LineEnded sheet x b line part d at e t r
+    blank-ends p sv w = record { text = []; wrote = w; ends = rw (o, n, p) (record { book = b; serves = sv; onward = λ ls u f. passed f }) }
+
+    pub round-ends : (c : Call) (vs : List Verdict) → readLine (x .inputs) part ≡ calls c → Answered sheet x b c (verdicts vs) (held t (r .record))
+        → Wrote d at (verdictLine vs) e (r .at) → LineEnded sheet x b line part d at e t r
+    round-ends c vs l a w = record { text = verdictLine vs; wrote = w; ends = rw (o, n) (record { book = a .book; serves = a .serves; onward = λ ls u f. rounded l (a .step) f }) }
+
+    pub closing-ends : (m : ℕ) (vs : List Verdict) (counts shares : List ℕ) → outputs x ≡ m → counts ≡ r .record .counts → readLine (x .inputs) part ≡ calls closing
+        → Answered sheet x b closing (closed vs (take m shares)) (held t (r .record))
+        → Wrote d at (closingText m vs (countAt counts) shares) e (r .at) → LineEnded sheet x b line part d at e t r
+    closing-ends m vs counts shares f g l a w =
+        let xs : List ℕ = take m shares in
+        let tally : ℕ → Verdict → ℕ = counted (a .book .told) in
+        let ma = serves-matches sheet x (a .book) (held t (r .record)) (a .serves) in
+        let same : tallyLines (countAt counts) shares 0 m ≡ tallyLines tally xs 0 (outputs x) =
+        tally-lines-same (countAt counts) tally shares xs 0 m
+        (λ j z i. (
+          λ v. ap (λ (c : List ℕ). countAt c j v) g ∙ ma .counts j v (omega (arith, f)),
+          sym (take-at shares m j (omega arith)),
+        ))
+        ∙ ap (tallyLines tally xs 0) (sym f) in
+        record {
+          text = closingText (outputs x) vs tally xs;
+          wrote = subst (λ (u : List ℕ). Wrote d at (61 ∷ (verdictLine vs ++ u)) e (r .at)) same w;
+          ends = rw (o, n) (record { book = a .book; serves = a .serves; onward = λ ls u h. shut l (a .step) h });
+        }
+
+-- ---- room in the buffer
+
+pub room-least : (c : Bool) → 40 ≤ room c
+room-least true = omega arith
+room-least false = omega arith
+
+-- a run that is over asks for nothing more
+pub over-bound : (o c k : Bool) (at to : ℕ) → o ≡ true → to ≤ at + 40 → to + due o c ≤ at + room k + 8
+over-bound o c k at to e h = rw e (omega (arith, room-least k))

@@ -1,0 +1,143 @@
+-- How a run goes on: by a byte, by a line, by a chunk, to the end of the input.
+use mathlib.Core.Path.{_≡_, refl, sym, ap, _∙_, subst}
+use mathlib.Core.Bool.{Bool, true, false}
+use mathlib.Core.List.{List, [], _∷_, _++_, append-assoc, append-nil}
+use Prim.Native.Nat.{ℕ, _+_, _≤_, _<_}
+use native.Mathlib.Omega.{arith}
+use native.Mathlib.Numerals.{add-one}
+use lib.ListN.{length, take, drop, getD, take-append-drop}
+use lib.Seq.{append-snoc, take-suc}
+use borrow.Author.Tests.{eq-eqb, ne-eqb}
+use Rattle.outcomes.specs.Decided.{Decided}
+use Rattle.outcomes.specs.declared.Refusal.{Refusal}
+use Rattle.outcomes.specs.declared.Outcome.the-variants.{Refused}
+use Rattle.sheet.specs.Reading.{ruleSheet}
+use Rattle.sheet.specs.declared.Sheet.{Sheet}
+use Rattle.circular.specs.SheetChecks.{sheetChecks, AcceptedSheet}
+use Rattle.text.specs.Text.{sheetRefusal}
+use Rattle.text.specs.Wrote.{Wrote}
+use Rattle.claims.specs.Book.{emptyBook}
+use Rattle.claims.specs.Session.{Held, held}
+use Rattle.line_scan.specs.Lines.{linesFrom}
+use Rattle.line_scan.specs.Scan.{Scanned}
+use Rattle.line_scan.specs.declared.Pending.{Pending}
+use Rattle.line_end.specs.Printed.{Written, ended, Printed, refusedSheet, journal}
+use Rattle.line_end.specs.LineEnd.{Serves, Onward, Ends, LineEnded, room}
+use Rattle.line_end.specs.declared.Ended.{Ended}
+use Rattle.protocol.specs.Machine.{Midway, Over, Stands}
+use Rattle.protocol.specs.declared.Progress.{Progress}
+
+-- ---- lines
+
+lines-byte : (p : List ℕ) (b : ℕ) (rest : List ℕ) → (b ≡ 10 → ⊥) → linesFrom p (b ∷ rest) ≡ linesFrom (p ++ b ∷ []) rest
+unfolding linesFrom
+lines-byte p b rest n = rw (ne-eqb b 10 n) refl
+
+lines-feed : (p : List ℕ) (b : ℕ) (rest : List ℕ) → b ≡ 10 → linesFrom p (b ∷ rest) ≡ p ∷ linesFrom [] rest
+unfolding linesFrom
+lines-feed p b rest e = rw (eq-eqb b 10 e) refl
+
+lines-none : linesFrom [] [] ≡ []
+unfolding linesFrom
+lines-none = refl
+
+lines-last : (p : List ℕ) → (p ≡ [] → ⊥) → linesFrom p [] ≡ p ∷ []
+unfolding linesFrom
+lines-last [] n = absurd (n refl)
+lines-last (b ∷ p) n = refl
+
+-- ---- places in the input and in the buffer
+
+pub seen-more : (seen chunk : List ℕ) (i : ℕ) → i < length chunk → seen ++ take (i + 1) chunk ≡ seen ++ take i chunk ++ getD chunk i 0 ∷ []
+seen-more seen chunk i h = rw (add-one, take-suc chunk i 0 h) (sym (append-assoc seen (take i chunk) (getD chunk i 0 ∷ [])))
+
+pub wrote-more : (wrote d e text : List ℕ) (at r : ℕ) → Wrote d at text e r → wrote ++ take r e ≡ wrote ++ take at d ++ text
+wrote-more wrote d e text at r w = ap (λ (z : List ℕ). wrote ++ z) (w .text) ∙ sym (append-assoc wrote (take at d) text)
+
+-- ---- between two bytes
+
+module _ (sheet : List ℕ) (x : Sheet) (line : ℕ) (q : Pending) (h : Held) (seen wrote : List ℕ) (m : Midway sheet x line q h seen wrote) where
+  -- a byte of a line
+  pub byte-more : (b : ℕ) (q₁ : Pending) → (b ≡ 10 → ⊥) → ((part : List ℕ) → Scanned (x .inputs) part q → Scanned (x .inputs) (part ++ b ∷ []) q₁)
+      → Midway sheet x line q₁ h (seen ++ b ∷ []) wrote
+  byte-more b q₁ n f = record {
+    book = m .book;
+    part = m .part ++ b ∷ [];
+    serves = m .serves;
+    scanned = f (m .part) (m .scanned);
+    more = λ rest t w. rw (append-snoc seen b rest) (m .more (b ∷ rest) t (rw (lines-byte (m .part) b rest n) w));
+  }
+
+  module _ (d : List ℕ) (at : ℕ) (e t : List ℕ) (r : Ended) (le : LineEnded sheet (ruleSheet x) (m .book) line (m .part) d at e t r) where
+    -- a line feed, and the next line
+    pub line-more : (b : ℕ) (q₁ : Pending) → b ≡ 10 → r .over ≡ false → Scanned (x .inputs) [] q₁
+        → Midway sheet x (r .line) q₁ (held t (r .record)) (seen ++ b ∷ []) (wrote ++ le .text)
+    line-more b q₁ f o s =
+        let on : Onward sheet (ruleSheet x) (m .book) line (m .part) (le .text) (r .line) (held t (r .record)) = rw o at (le .ends) in
+        record {
+          book = on .book;
+          part = [];
+          serves = on .serves;
+          scanned = s;
+          more = λ rest u w.
+              rw (append-snoc seen b rest, append-assoc wrote (le .text) u)
+              (m .more (b ∷ rest) (le .text ++ u) (rw (lines-feed (m .part) b rest f) (on .onward (linesFrom [] rest) u w)));
+        }
+
+    -- a line feed, and the run is over
+    pub line-over : (b : ℕ) → b ≡ 10 → r .over ≡ true → Over sheet (seen ++ b ∷ []) (wrote ++ le .text)
+    line-over b f o rest =
+        let last : (ls : List (List ℕ)) → Written (ruleSheet x) (m .book) line (m .part ∷ ls) (le .text) = rw o at (le .ends) in
+        rw (append-snoc seen b rest) (m .more (b ∷ rest) (le .text) (rw (lines-feed (m .part) b rest f) (last (linesFrom [] rest))))
+
+    -- the end of the input, with no line feed
+    pub line-last : (m .part ≡ [] → ⊥) → Printed sheet seen (wrote ++ le .text)
+    line-last n = rw (append-nil seen) at (m .more [] (le .text) (rw (lines-last (m .part) n) (go (r .over) (le .ends))))
+      where
+        go : (o : Bool) → Ends sheet (ruleSheet x) (m .book) line (m .part) (le .text) (r .line) (held t (r .record)) o → Written (ruleSheet x) (m .book) line (m .part ∷ []) (le .text)
+        go true f = f []
+        go false f = rw (append-nil (le .text)) at (f .onward [] [] ended)
+
+  -- the end of the input, right after a line feed
+  pub none-last : m .part ≡ [] → Printed sheet seen (wrote ++ [])
+  none-last e = rw (append-nil seen) at (m .more [] [] (rw (e, lines-none) ended))
+
+-- from one place to another, by these bytes of input and output
+abbrev pub Way : Sheet → ℕ → Pending → Held → ℕ → Pending → Held → List ℕ → List ℕ → Type 0
+Way x line q h line₁ q₁ h₁ xs ys = (sheet seen wrote : List ℕ) → AcceptedSheet sheet x → Midway sheet x line q h seen wrote → Midway sheet x line₁ q₁ h₁ (seen ++ xs) (wrote ++ ys)
+
+-- ---- a run that is over
+
+pub over-all : (sheet seen chunk wrote : List ℕ) (i : ℕ) → Over sheet (seen ++ take i chunk) wrote → Over sheet (seen ++ chunk) wrote
+over-all sheet seen chunk wrote i f rest =
+    subst (λ (z : List ℕ). Printed sheet z wrote)
+    (append-assoc seen (take i chunk) (drop i chunk ++ rest) ∙ ap (λ (z : List ℕ). seen ++ z) (sym (append-assoc (take i chunk) (drop i chunk) rest) ∙ ap (λ (z : List ℕ). z ++ rest) (take-append-drop i chunk)) ∙ sym (append-assoc seen chunk rest))
+    (f (drop i chunk ++ rest))
+
+module _ (sheet : List ℕ) (x : Sheet) (s : Progress) (t seen wrote : List ℕ) (st : Stands sheet x s t seen wrote) where
+  pub stands-over : (chunk : List ℕ) → s .over ≡ true → Stands sheet x s t (seen ++ chunk) (wrote ++ [])
+  stands-over chunk o =
+      let f : Over sheet seen wrote = rw o at (st .place) in
+      record { accepts = st .accepts; place = rw (o, append-nil wrote) (over-all sheet seen chunk wrote 0 (rw (append-nil seen) f)) }
+
+  pub over-last : s .over ≡ true → Printed sheet seen (wrote ++ [])
+  over-last o =
+      let f : Over sheet seen wrote = rw o at (st .place) in
+      rw (append-nil wrote) (rw (append-nil seen) at (f []))
+
+  pub stands-midway : s .over ≡ false → Midway sheet x (s .line) (s .pending) (held t (s .record)) seen wrote
+  stands-midway o = rw o at (st .place)
+
+-- ---- the beginning
+
+pub midway-start : (sheet : List ℕ) (x : Sheet) (q : Pending) (h : Held) → AcceptedSheet sheet x → Serves sheet (ruleSheet x) emptyBook h → Scanned (x .inputs) [] q → Midway sheet x 1 q h [] []
+midway-start sheet x q h o sv s = record { book = emptyBook; part = []; serves = sv; scanned = s; more = λ rest t w. journal (o .decided) (o .reads) w }
+
+pub refused-start : (sheet input d e : List ℕ) (q : Refusal) (r : ℕ) → Decided (sheetChecks sheet) (Refused q) → Wrote d 0 (sheetRefusal q) e r → Printed sheet input (take r e)
+refused-start sheet input d e q r h w = subst (λ (z : List ℕ). Printed sheet input z) (sym (w .text)) (refusedSheet q h)
+
+-- ---- room
+
+pub room-most : (c : Bool) → room c ≤ 462
+room-most true = omega arith
+room-most false = omega arith

@@ -1,10 +1,11 @@
 -- What the end of a line writes.
-use mathlib.Core.Path.{_≡_, refl, sym, ap, _∙_, subst}
+use mathlib.Core.Path.{_≡_, sym, ap, _∙_, subst}
 use mathlib.Core.Bool.{Bool, true, false, cond}
 use mathlib.Core.List.{List, [], _∷_, _++_}
-use Prim.Native.Nat.{ℕ, zero, suc, _+_, _≤_, _<_}
+use Prim.Native.Nat.{ℕ, _+_, _≤_}
 use native.Mathlib.Omega.{arith}
-use lib.ListN.{getD, take}
+use lib.ListN.{take}
+use lib.Seq.{getD-take}
 use Rattle.outcomes.specs.declared.Refusal.{Refusal}
 use Rattle.outcomes.specs.declared.Refusal.the-variants.{Closed, Line}
 use Rattle.outcomes.specs.declared.Verdict.{Verdict}
@@ -21,14 +22,6 @@ use Rattle.line_end.specs.Printed.{nextLine, malformedRule, passed, roun
 use Rattle.line_end.specs.LineEnd.{Serves, Answered, LineEnded, room, due}
 use Rattle.line_end.specs.declared.Ended.{Ended}
 use Rattle.line_end.proofs.Serving.{serves-matches}
-
--- ---- the text of a closing
-
-take-at : (xs : List ℕ) (n i : ℕ) → i < n → getD (take n xs) i 0 ≡ getD xs i 0
-take-at xs zero i h = absurd (omega arith)
-take-at [] (suc n) i h = refl
-take-at (x ∷ xs) (suc n) zero h = refl
-take-at (x ∷ xs) (suc n) (suc i) h = take-at xs n i (omega arith)
 
 -- ---- the end of a line
 
@@ -64,7 +57,7 @@ module _ (sheet : List ℕ) (x : RuleSheet) (b : Book) (line : ℕ) (part d : Li
         tally-lines-same (countAt counts) tally shares xs 0 m
         (λ j z i. (
           λ v. ap (λ (c : List ℕ). countAt c j v) g ∙ ma .counts j v (omega (arith, f)),
-          sym (take-at shares m j (omega arith)),
+          sym (getD-take m shares j 0 (omega arith)),
         ))
         ∙ ap (tallyLines tally xs 0) (sym f) in
         record {

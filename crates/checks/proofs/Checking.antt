@@ -49,7 +49,7 @@ pub record RoundReady (m n lent : ℕ) (r : JournalRecord) (known val : ℕ) : T
   pub right : recordOk n r ≡ true
   pub shut : r .closed ≡ false
   pub masks : badMasks m known val ≡ false
-  pub room : r .rounds < maxRounds
+  pub rounds-left : r .rounds < maxRounds
 
 pub round-ready : (m n lent : ℕ) (r : JournalRecord) (known val : ℕ) → Decided (roundRules m n lent r known val) Accepted → RoundReady m n lent r known val
 round-ready m n lent r known val d =
@@ -59,7 +59,7 @@ round-ready m n lent r known val d =
       right = is-true (recordOk n r) (p .1 .0);
       shut = is-false (r .closed) (p .1 .1 .0);
       masks = is-false (badMasks m known val) (p .1 .1 .1 .0);
-      room = not-above (r .rounds) maxRounds (p .1 .1 .1 .1 .0);
+      rounds-left = not-above (r .rounds) maxRounds (p .1 .1 .1 .1 .0);
     }
 
 -- and an accepted closing

@@ -23,7 +23,7 @@ use Rattle.sheet.specs.declared.Offset.the-variants.{Earlier, Now, Later}
 use Rattle.sheet.specs.declared.Op.{Op}
 use Rattle.sheet.specs.declared.Op.the-variants.{Const, Not, And, Or, Read, Rejected}
 use Rattle.sheet.proofs.Ops.{op-cases}
-use Rattle.lola.specs.Reads.{place}
+use Rattle.lola.specs.Reads.{offsetNo}
 use Rattle.lola.specs.ByteReads.{opReads, bytesRead}
 use Rattle.circular.specs.Circular.{Circular, CircularSheet, edges}
 use Rattle.circular.specs.Table as table
@@ -44,10 +44,10 @@ Low (Rejected r) = Unit {0}
 pub op-low : (b : ℕ) → Low (opOf b)
 op-low b = op-cases Low b (λ e. tt) (λ e. tt) (λ e. tt) (λ e. tt) (λ e. tt) (λ l h. omega arith) (λ l h. omega arith) (λ l h. omega arith) (λ l h. omega arith) (λ l h. omega arith) tt
 
-pub place-le : (o : Offset) → place o ≤ 2
-place-le Earlier = omega arith
-place-le Now = omega arith
-place-le Later = omega arith
+pub offset-le : (o : Offset) → offsetNo o ≤ 2
+offset-le Earlier = omega arith
+offset-le Now = omega arith
+offset-le Later = omega arith
 
 -- the word of one read
 one-read : (a b q o : ℕ) → b ≤ 2 → o ≤ 2 → eqb (3 * q + o) (3 * a + b) ≡ eqb a q && eqb b o
@@ -58,11 +58,11 @@ one-read a b q o hb ho = go (ℕ-discrete a q) (ℕ-discrete b o)
     go (yes e) (no f) = rw (eq-eqb a q e, ne-eqb b o f) (ne-eqb (3 * q + o) (3 * a + b) (λ z. f (omega arith)))
     go (no e) d = rw (ne-eqb a q e) (ne-eqb (3 * q + o) (3 * a + b) (λ z. e (omega arith)))
 
-pub read-word : (s : StreamNo) (f : Offset) (v : Bool) (k : ℕ) → s .0 < 8 → k ≡ place f → (q o : ℕ) → o ≤ 2
+pub read-word : (s : StreamNo) (f : Offset) (v : Bool) (k : ℕ) → s .0 < 8 → k ≡ offsetNo f → (q o : ℕ) → o ≤ 2
     → bit (3 * q + o) (1 * 2 ^ (3 * s .0 + k) % 2 ^ 64) ≡ opReads (Read s f v) q o
 unfolding opReads
 read-word s f v k low e q o h =
-    rw e (bit-shl (3 * q + o) (3 * s .0 + place f) (omega (arith, place-le f)) ∙ one-read (s .0) (place f) q o (place-le f) h)
+    rw e (bit-shl (3 * q + o) (3 * s .0 + offsetNo f) (omega (arith, offset-le f)) ∙ one-read (s .0) (offsetNo f) q o (offset-le f) h)
 
 -- the word of an expression, byte by byte: the bits so far, and the reads of the bytes that are left
 pub record MarksTo (e : List ℕ) (i w : ℕ) : Type 0 where

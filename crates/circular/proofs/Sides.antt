@@ -13,10 +13,10 @@ use Rattle.sheet.specs.RuleSheet.{RuleSheet, outputs}
 use Rattle.sheet.specs.declared.Offset.{Offset}
 use Rattle.sheet.proofs.Formed.{Formed}
 use Rattle.lola.specs.Value.{Look, value}
-use Rattle.lola.specs.Reads.{place, hasRead}
+use Rattle.lola.specs.Reads.{offsetNo, hasRead}
 use Rattle.circular.specs.Circular.{CircularSheet, edges}
 use Rattle.circular.specs.Places.{Assignment, joint, lookAt, right, Place, Reads, Solves}
-use Rattle.circular.proofs.Masks.{place-le}
+use Rattle.circular.proofs.Masks.{offset-le}
 use Rattle.circular.proofs.Unique.{run, unique, solution}
 
 -- the expression of output s
@@ -56,15 +56,15 @@ module _ (m n N t : ℕ) (xs v w : Assignment) where
   value-only (read q f d) h a = inside (leb 2 (t + o) && leb (t + o) (suc N)) refl
     where
       o : ℕ
-      o = place f
+      o = offsetNo f
 
       stream : 2 ≤ t + o → t + o ≤ suc N → (b : Bool) → ltb q m ≡ b → cond b (xs q (t + o - 1)) (v (q - m) (t + o - 1)) ≡ cond b (xs q (t + o - 1)) (w (q - m) (t + o - 1))
       stream lo hi true e = refl
       stream lo hi false e =
           let b = ltb-false q m e in
           a (q - m) (t + o - 1) o
-          (and-join (eqb q (m + (q - m))) (eqb (place f) o) (eq-eqb q (m + (q - m)) (omega arith)) (eq-eqb (place f) o refl))
-          (omega (arith, h .0)) (place-le f) (omega arith) (omega arith) (omega arith)
+          (and-join (eqb q (m + (q - m))) (eqb (offsetNo f) o) (eq-eqb q (m + (q - m)) (omega arith)) (eq-eqb (offsetNo f) o refl))
+          (omega (arith, h .0)) (offset-le f) (omega arith) (omega arith) (omega arith)
 
       inside : (b : Bool) → leb 2 (t + o) && leb (t + o) (suc N) ≡ b → cond b (joint m xs v q (t + o - 1)) d ≡ cond b (joint m xs w q (t + o - 1)) d
       inside true e =

@@ -7,7 +7,7 @@ use Prim.Native.Nat.{ℕ, suc, _+_, _-_, _≤_, _<_}
 use lib.Dec.{leb, ltb}
 use Rattle.sheet.specs.Expression.{Expr}
 use Rattle.lola.specs.Value.{Look, value}
-use Rattle.lola.specs.Reads.{place}
+use Rattle.lola.specs.Reads.{offsetNo}
 use Rattle.circular.specs.Circular.{Read}
 
 -- a value for each stream or output in each round
@@ -20,7 +20,7 @@ joint m xs v q u = cond (ltb q m) (xs q u) (v (q - m) u)
 
 -- the reads in round t of a trace of N rounds: a round outside 1..N gives the default
 unfoldable pub lookAt : ℕ → ℕ → Assignment → Assignment → ℕ → Look
-lookAt m N xs v t q o d = cond (leb 2 (t + place o) && leb (t + place o) (suc N)) (joint m xs v q (t + place o - 1)) d
+lookAt m N xs v t q o d = cond (leb 2 (t + offsetNo o) && leb (t + offsetNo o) (suc N)) (joint m xs v q (t + offsetNo o - 1)) d
 
 -- the right side of output s in round t
 unfoldable pub right : ℕ → (ℕ → Expr) → ℕ → Assignment → Assignment → ℕ → ℕ → Bool

@@ -5,7 +5,7 @@ ghost use lib.ListN.{length, getD};
 ghost use Rattle.words.specs.Bits.{bit};
 ghost use Rattle.sheet.specs.Bytes.{opOf};
 ghost use Rattle.sheet.specs.Reading.{ruleSheet, Usable};
-ghost use Rattle.lola.specs.Reads.{place};
+ghost use Rattle.lola.specs.Reads.{offsetNo};
 ghost use Rattle.lola.specs.ByteReads.{opReads};
 ghost use Rattle.circular.specs.Masks.{Marks, bytesOf, Rows, Mask, Masks, Tells};
 use sheet::Offset;
@@ -15,7 +15,7 @@ use sheet::Sheet;
 use sheet::StreamNo;
 
 fn offset_number(o: Offset) -> u64
-    ensures { λ r. ⌜ r ≡ place o ⌝ }
+    ensures { λ r. ⌜ r ≡ offsetNo o ⌝ }
 {
     match o {
         Offset::Earlier => 0,

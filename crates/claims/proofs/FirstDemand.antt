@@ -10,7 +10,7 @@ use lib.ListN.{length}
 use Rattle.outcomes.specs.Decided.{Check}
 use Rattle.outcomes.proofs.Decisions.{Decidable, decidable-both, decided-some, decided-once}
 use Rattle.sheet.specs.RuleSheet.{Reading, refused, accepted, outputs, readSheet}
-use Rattle.sheet.specs.ReadingChecks.{inputsOf, outputsOf, sizeOf, byteChecks, outputChecks, readingChecks}
+use Rattle.sheet.specs.ReadingChecks.{inputsOf, outputsOf, lengthAt, byteChecks, outputChecks, readingChecks}
 use Rattle.circular.specs.Circular.{CircularSheet, edges}
 use Rattle.circular.specs.SheetChecks.{OfSheet, sheetChecks}
 use Rattle.circular.proofs.Decide.{circular?, circular?-true, circular?-of}
@@ -44,7 +44,7 @@ bytes-tested bs k i (suc r) = (is _ true, (is _ true, bytes-tested bs k (suc i) 
 outputs-tested : (bs : List ℕ) (k r : ℕ) → Decidable (outputChecks bs k r)
 unfolding outputChecks
 outputs-tested bs k zero = tt
-outputs-tested bs k (suc r) = (is _ true, decidable-both (byteChecks bs k 0 (sizeOf bs k)) _ (bytes-tested bs k 0 (sizeOf bs k)) (is _ true, outputs-tested bs (suc k) r))
+outputs-tested bs k (suc r) = (is _ true, decidable-both (byteChecks bs k 0 (lengthAt bs k)) _ (bytes-tested bs k 0 (lengthAt bs k)) (is _ true, outputs-tested bs (suc k) r))
 
 reading-tested : (bs : List ℕ) → Decidable (readingChecks bs)
 unfolding readingChecks

@@ -89,9 +89,9 @@ by-refused none r e = absurd (true≢false cc)
 by-refused (some q) r e = cc
 
 -- a round that the book accepts finds room
-pub room : (x : RuleSheet) (t : ℕ) (shut : Bool) (known val : ℕ) → refusal x t shut (round known val) ≡ none → t < maxRounds
+pub rounds-left : (x : RuleSheet) (t : ℕ) (shut : Bool) (known val : ℕ) → refusal x t shut (round known val) ≡ none → t < maxRounds
 unfolding refusal
-room x t shut known val e = go shut (badMasks (x .inputs) known val) (leb maxRounds t) refl e
+rounds-left x t shut known val e = go shut (badMasks (x .inputs) known val) (leb maxRounds t) refl e
   where
     go : (a b c : Bool) → leb maxRounds t ≡ c → cond a (some Closed) (cond b (some Letter) (cond c (some Full) none)) ≡ none → t < maxRounds
     go true b c f e = absurd (true≢false cc)

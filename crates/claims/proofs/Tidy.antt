@@ -14,8 +14,8 @@ use Rattle.sheet.specs.RuleSheet.{RuleSheet}
 use Rattle.completions.specs.Live.{Pairs}
 use Rattle.completions.specs.Completion.{LetterSet, masked}
 use Rattle.completions.specs.Steps.{Within, partBelow}
-use Rattle.pairs.specs.Storage.{place, slot, stored, setWords, reachedAt, scratchAt, storageWords, live, reached, scratch, used}
-use Rattle.pairs.proofs.Sets.{place-lt, unused}
+use Rattle.pairs.specs.Storage.{wordOf, slot, stored, setWords, reachedAt, scratchAt, storageWords, live, reached, scratch, used}
+use Rattle.pairs.proofs.Sets.{word-lt, unused}
 use Rattle.effects.specs.Results.{width, heard, nextSet, Zero, Prepared, RoundDone}
 use Rattle.effects.specs.declared.PrepareAnswer.{PrepareAnswer}
 use Rattle.effects.specs.declared.RoundAnswer.{RoundAnswer}
@@ -52,8 +52,8 @@ none-left false l e = e
 pub zero-none : (from to : ℕ) (t : List ℕ) → Zero from to t → (base b : ℕ) (c : Option ℕ) → b < 256 → Within 256 c → from ≤ base → base + setWords ≤ to → stored t base b c ≡ false
 unfolding stored
 zero-none from to t z base b c hb hc l g =
-    let p : place b c < setWords = place-lt b c hb hc in
-    ap (bit (slot b c)) (z (base + place b c) (omega arith) (omega arith)) ∙ bit-none (slot b c)
+    let p : wordOf b c < setWords = word-lt b c hb hc in
+    ap (bit (slot b c)) (z (base + wordOf b c) (omega arith) (omega arith)) ∙ bit-none (slot b c)
 
 prepared-tidy : (x : RuleSheet) (s t : List ℕ) (p : PrepareAnswer) → Prepared x s t p → Tidy x (held t (p .record))
 prepared-tidy x s t p d = record {

@@ -49,7 +49,7 @@ use Rattle.claims.specs.Book.{Call, round, closing, Answer, refused, ver
 use Rattle.claims.specs.Book as book
 use Rattle.claims.specs.Session.{Held, held, roundSays, closingSays, SessionStep, a-round, a-closing, Session, finish, next, Matches}
 use Rattle.claims.proofs.BookLaws.{map-snoc, Reaches, next-reaches, round-right, closing-right}
-use Rattle.claims.proofs.Refusals.{outcomeBy, SheetOk, round-decided, closing-decided, by-accepted, by-refused, room}
+use Rattle.claims.proofs.Refusals.{outcomeBy, SheetOk, round-decided, closing-decided, by-accepted, by-refused, rounds-left}
 
 -- ---- lists of verdicts and shares
 
@@ -155,7 +155,7 @@ module _ (bs : List ℕ) (x : RuleSheet) (ok : SheetOk bs x) where
         let kept : (a : ℕ) (c : Option ℕ) → a < w → Within w c → live t a c ≡ L a c =
         λ a c ha hc. stored-eq (h .storage) t liveAt liveAt a c (omega (arith, w-small)) (wider w 256 w-small c hc) (λ k l. d .same-live (0 + k) (omega arith)) in
         let lives′ : Represents w (live t) (Live x) = represents-as w L (live t) (Live x) kept (tr .lives) in
-        let few : r .rounds < maxRounds = omega (arith, room x (length (b .rounds)) (b .shut) known val q, tr .matches .rounds) in
+        let few : r .rounds < maxRounds = omega (arith, rounds-left x (length (b .rounds)) (b .shut) known val q, tr .matches .rounds) in
         record {
           book = record { rounds = b .rounds ++ m ∷ []; told = verdictList (a .verdicts) (outputsOf bs) ∷ b .told; shut = b .shut };
           step = accept q

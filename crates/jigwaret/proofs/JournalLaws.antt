@@ -36,7 +36,7 @@ pub sizes-wrong : (Done : Type 0) (s rec ans : List ℕ) (r : Bool) → r ≡ si
 sizes-wrong Done s rec ans r e h = subst (λ (b : Bool). BySizes b Done s s (slices rec rec ans ans) 255) (sym (not-true r h) ∙ e) (refl, refl, refl, refl)
 
 pub sizes-right : (Done : Type 0) (s t : List ℕ) (z : Slices) (r : ℕ) → Sizes (z .rec) (z .ans) → Done → BySizes (sized (z .rec) (z .ans)) Done s t z r
-sizes-right Done s t z r w d = subst (λ (b : Bool). BySizes b Done s t z r) (sym (right-sizes (z .rec) (z .ans) (w .thirty) (w .room))) d
+sizes-right Done s t z r w d = subst (λ (b : Bool). BySizes b Done s t z r) (sym (right-sizes (z .rec) (z .ans) (w .thirty) (w .sixteen))) d
 
 -- ---- by the outcome
 

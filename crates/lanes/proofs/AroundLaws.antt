@@ -56,7 +56,7 @@ module _ (w : ℕ) (p : Option ℕ) (h : Beside w p) (b : ℕ) (l : b < 256) whe
 
 pub seen-of : (w : ℕ) (p : Option ℕ) (b : ℕ) → Before w p → b < 256 → Seen (w + b) p b
 seen-of w p b h l =
-    let e : b + 65536 * h .part ≡ w + b = omega (arith, h .place) in
+    let e : b + 65536 * h .part ≡ w + b = omega (arith, h .shifted) in
     rw e at (seen-word (h .part) p (h .beside) b l)
 
 pub seen-alone : (w : ℕ) (p : Option ℕ) → Before w p → Seen w p 0

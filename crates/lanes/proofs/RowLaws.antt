@@ -10,7 +10,7 @@ use lib.ListN.{length, getD, set, length-set}
 use lib.Seq.{getD-set-other}
 use borrow.Author.Tests.{le-leb, lt-leb}
 use Rattle.words.proofs.ListLaws.{set-more, set-more-from}
-use Rattle.lanes.specs.Around.{Stored, room}
+use Rattle.lanes.specs.Around.{Stored, stackWords}
 
 -- the first n words fit, and the others are those of row
 pub record Writing (Fit : ℕ → ℕ → Type 0) (row row′ : List ℕ) (n : ℕ) : Type 0 where
@@ -68,17 +68,17 @@ pub inside : (w k n j : ℕ) → k < n → j < w → w * k + j < w * n
 inside w k n j h g = let b : suc k ≤ n = omega arith in omega (arith, mul-le-mul-left w b)
 
 -- the room for rows of two words, and of four
-pub room-two : (w : ℕ) → w ≤ 2 → room w ≡ 128
-unfolding room
-room-two w h = ap (λ (u : Bool). cond u 128 256) (le-leb w 2 h)
+pub stack-two : (w : ℕ) → w ≤ 2 → stackWords w ≡ 128
+unfolding stackWords
+stack-two w h = ap (λ (u : Bool). cond u 128 256) (le-leb w 2 h)
 
-pub room-four : (w : ℕ) → 2 < w → room w ≡ 256
-unfolding room
-room-four w h = ap (λ (u : Bool). cond u 128 256) (lt-leb w 2 h)
+pub stack-four : (w : ℕ) → 2 < w → stackWords w ≡ 256
+unfolding stackWords
+stack-four w h = ap (λ (u : Bool). cond u 128 256) (lt-leb w 2 h)
 
-pub room-most : (w : ℕ) → room w ≤ 256
-room-most w = go (decLe w 2)
+pub stack-most : (w : ℕ) → stackWords w ≤ 256
+stack-most w = go (decLe w 2)
   where
-    go : Dec (w ≤ 2) → room w ≤ 256
-    go (yes h) = omega (arith, room-two w h)
-    go (no h) = let g : 2 < w = omega arith in omega (arith, room-four w g)
+    go : Dec (w ≤ 2) → stackWords w ≤ 256
+    go (yes h) = omega (arith, stack-two w h)
+    go (no h) = let g : 2 < w = omega arith in omega (arith, stack-four w g)

@@ -17,7 +17,7 @@ module _ (w env f e : ℕ) (st top : List ℕ) (used : ℕ) (st′ top′ : List
   pub step-read : Stored w used top st st′ → 64 ≤ e → ((j i : ℕ) → j < w → i < 64 → bit i (getD top′ j 0) ≡ readAt env f (64 * j + i) (e % 64))
       → Stepped w env f e st top used st′ top′ (used + 1)
   step-read s l r = record {
-    room = omega arith;
+    grows = omega arith;
     lanes = λ j i h g.
         lane-read (readAt env f (64 * j + i)) e (bit i (getD top j 0)) (λ k. bit i (getD st (w * k + j) 0)) used (bit i (getD top′ j 0))
         (λ k. bit i (getD st′ (w * k + j) 0)) l (r j i h g) (ap (bit i) (s .words j h)) (λ k m. ap (bit i) (s .others (w * k + j) (inside w k used j m h)));
@@ -26,7 +26,7 @@ module _ (w env f e : ℕ) (st top : List ℕ) (used : ℕ) (st′ top′ : List
   pub step-const : Stored w used top st st′ → e < 2 → (x : ℕ) → ((i : ℕ) → i < 64 → bit i x ≡ eqb e 1) → Filled w (λ j. x) top′
       → Stepped w env f e st top used st′ top′ (used + 1)
   step-const s l x r z = record {
-    room = omega arith;
+    grows = omega arith;
     lanes = λ j i h g.
         lane-const (readAt env f (64 * j + i)) e (bit i (getD top j 0)) (λ k. bit i (getD st (w * k + j) 0)) used (bit i (getD top′ j 0))
         (λ k. bit i (getD st′ (w * k + j) 0)) l (ap (bit i) (z j h) ∙ r i g) (ap (bit i) (s .words j h))
@@ -36,7 +36,7 @@ module _ (w env f e : ℕ) (st top : List ℕ) (used : ℕ) (st′ top′ : List
 module _ (w env f e : ℕ) (st top : List ℕ) (used : ℕ) (top′ : List ℕ) where
   pub step-not : e ≡ 2 → ((j i : ℕ) → j < w → i < 64 → bit i (getD top′ j 0) ≡ not (bit i (getD top j 0))) → Stepped w env f e st top used st top′ used
   step-not q r = record {
-    room = omega arith;
+    grows = omega arith;
     lanes = λ j i h g.
         lane-not (readAt env f (64 * j + i)) e (bit i (getD top j 0)) (λ k. bit i (getD st (w * k + j) 0)) used (bit i (getD top′ j 0))
         (λ k. bit i (getD st (w * k + j) 0)) q (r j i h g) (λ k m. refl);
@@ -45,7 +45,7 @@ module _ (w env f e : ℕ) (st top : List ℕ) (used : ℕ) (top′ : List ℕ) 
   pub step-and : (used ≡ 0 → ⊥) → e ≡ 3 → Filled w (λ j. bitAnd (getD st (w * (used - 1) + j) 0) (getD top j 0)) top′
       → Stepped w env f e st top used st top′ (used - 1)
   step-and n q z = record {
-    room = omega arith;
+    grows = omega arith;
     lanes = λ j i h g.
         lane-and (readAt env f (64 * j + i)) e (bit i (getD top j 0)) (λ k. bit i (getD st (w * k + j) 0)) (bit i (getD top′ j 0))
         (λ k. bit i (getD st (w * k + j) 0)) used (omega arith) q (ap (bit i) (z j h) ∙ bit-and i (getD st (w * (used - 1) + j) 0) (getD top j 0))
@@ -55,7 +55,7 @@ module _ (w env f e : ℕ) (st top : List ℕ) (used : ℕ) (top′ : List ℕ) 
   pub step-or : (used ≡ 0 → ⊥) → 2 ≤ e → (e ≡ 2 → ⊥) → (e ≡ 3 → ⊥) → e < 64
       → Filled w (λ j. bitOr (getD st (w * (used - 1) + j) 0) (getD top j 0)) top′ → Stepped w env f e st top used st top′ (used - 1)
   step-or n l n2 n3 u z = record {
-    room = omega arith;
+    grows = omega arith;
     lanes = λ j i h g.
         lane-or (readAt env f (64 * j + i)) e (bit i (getD top j 0)) (λ k. bit i (getD st (w * k + j) 0)) (bit i (getD top′ j 0))
         (λ k. bit i (getD st (w * k + j) 0)) used (omega arith) l n2 n3 u
@@ -64,7 +64,7 @@ module _ (w env f e : ℕ) (st top : List ℕ) (used : ℕ) (top′ : List ℕ) 
 
 pub step-lacks : (w env f e : ℕ) (st top : List ℕ) (used : ℕ) → used ≡ 0 → 2 ≤ e → (e ≡ 2 → ⊥) → e < 64 → Stepped w env f e st top used st top 0
 step-lacks w env f e st top used z l n u = record {
-  room = omega arith;
+  grows = omega arith;
   lanes = λ j i h g.
       ap (λ (k : ℕ). laneStack (bit i (getD top j 0)) (λ k. bit i (getD st (w * k + j) 0)) k) (sym z)
       ∙ lane-lacks (readAt env f (64 * j + i)) e (bit i (getD top j 0)) (λ k. bit i (getD st (w * k + j) 0)) used z l n u;

@@ -35,7 +35,7 @@ laneStack x E n = x ∷ downFrom E n
 
 -- a step of a stack of rows of w words, 64 * w lanes: `used` of them lie below the top, row k of these from w * k on
 pub record Stepped (w env f e : ℕ) (st top : List ℕ) (used : ℕ) (st′ top′ : List ℕ) (used′ : ℕ) : Type 0 where
-  pub room : used′ ≤ used + 1
+  pub grows : used′ ≤ used + 1
   pub lanes : (j i : ℕ) → j < w → i < 64
       → laneStack (bit i (getD top′ j 0)) (λ k. bit i (getD st′ (w * k + j) 0)) used′
       ≡ stepped (readAt env f (64 * j + i)) e (laneStack (bit i (getD top j 0)) (λ k. bit i (getD st (w * k + j) 0)) used)
@@ -50,8 +50,8 @@ pub record Stored (w k : ℕ) (row t t′ : List ℕ) : Type 0 where
   pub others : (i : ℕ) → i < w * k → getD t′ i 0 ≡ getD t i 0
 
 -- the words that a stack of rows of w words may take: of two words each where that is enough, else of four
-unfoldable pub room : ℕ → ℕ
-room w = cond (leb w 2) 128 256
+unfoldable pub stackWords : ℕ → ℕ
+stackWords w = cond (leb w 2) 128 256
 
 -- the reads of a neighbouring round, with the default false and with the default true
 pub record Beside (w : ℕ) (v : Option ℕ) : Type 0 where
@@ -62,7 +62,7 @@ pub record Beside (w : ℕ) (v : Option ℕ) : Type 0 where
 -- the word has the round before, p
 pub record Before (w : ℕ) (p : Option ℕ) : Type 0 where
   pub part : ℕ
-  pub place : w ≡ 65536 * part
+  pub shifted : w ≡ 65536 * part
   pub beside : Beside part p
 
 -- the word has the round b and the round before it, p

@@ -14,7 +14,7 @@ use Rattle.lanes.specs.Around.{laneLook, here}
 -- m inputs, n outputs, and their expressions, which parse
 pub record Coded (m n : ℕ) (code len : List ℕ) : Type 0 where
   pub ranges : Ranges m n
-  pub room : length code ≡ 448
+  pub code-size : length code ≡ 448
   pub sizes : length len ≡ 7
   pub small : (k : ℕ) → k < n → getD len k 0 ≤ 64
   pub parts : (k : ℕ) → k < n → Parses (m + n) (codeAt code len k)

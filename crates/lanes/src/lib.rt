@@ -9,7 +9,7 @@ ghost use lib.Bits.{bitAnd};
 ghost use lib.ListN.{length, getD};
 ghost use Rattle.words.specs.Bits.{bit};
 ghost use Rattle.lola.specs.Equations.{holds};
-ghost use Rattle.lanes.specs.Around.{room, Beside, Before, Seen, Ahead, unless};
+ghost use Rattle.lanes.specs.Around.{stackWords, Beside, Before, Seen, Ahead, unless};
 ghost use Rattle.lanes.specs.Coded.{Coded, sheetOf, Agree};
 use expression::four_equations;
 use expression::two_equations;
@@ -54,7 +54,7 @@ fn equations_row(
     b: usize,
 )
     requires { ⌜ Coded m n (now code) (now len) ⌝ }
-    requires { ⌜ (w ≤ 4) × (length (now acc) ≡ 4) × (room w ≤ length (now st)) ⌝ }
+    requires { ⌜ (w ≤ 4) × (length (now acc) ≡ 4) × (stackWords w ≤ length (now st)) ⌝ }
     ensures { λ r. ⌜ Agree w env f m n (now (code .entry)) (now (len .entry)) b (now (acc .exit)) n ⌝ }
 {
     if w <= 2 {
@@ -115,7 +115,7 @@ pub fn successors(
     b: usize,
 )
     requires { ⌜ Coded (size .inputs) (size .outputs) (now code) (now len) ⌝ }
-    requires { ⌜ (size .words ≤ 4) × (length (now row) ≡ 4) × (room (size .words) ≤ length (now st)) ⌝ }
+    requires { ⌜ (size .words ≤ 4) × (length (now row) ≡ 4) × (stackWords (size .words) ≤ length (now st)) ⌝ }
     ensures { λ r. ⌜ ((p : Option ℕ) → Seen env p b → (ks : List ℕ) (j i : ℕ) → j < size .words → i < 64 → bit i (getD (now (row .exit)) j 0) ≡ holds (sheetOf (size .inputs) (size .outputs) (now (code .entry)) (now (len .entry)) ks) p b (some (64 * j + i))) ⌝ }
 {
     equations_row(
@@ -135,7 +135,7 @@ pub fn successors(
 // The lanes i of the words j of a row in which the equations hold at 64 * j + i with nothing after it, after the round whose reads are `before`.
 pub fn enders(row: &mut [u64], st: &mut [u64], code: &[u8], len: &[usize], size: Size, before: u64)
     requires { ⌜ Coded (size .inputs) (size .outputs) (now code) (now len) ⌝ }
-    requires { ⌜ (size .words ≤ 4) × (length (now row) ≡ 4) × (room (size .words) ≤ length (now st)) × (before < 4294967296) ⌝ }
+    requires { ⌜ (size .words ≤ 4) × (length (now row) ≡ 4) × (stackWords (size .words) ≤ length (now st)) × (before < 4294967296) ⌝ }
     ensures { λ r. ⌜ ((p : Option ℕ) → Before before p → (ks : List ℕ) (j i : ℕ) → j < size .words → i < 64 → bit i (getD (now (row .exit)) j 0) ≡ holds (sheetOf (size .inputs) (size .outputs) (now (code .entry)) (now (len .entry)) ks) p (64 * j + i) none) ⌝ }
 {
     equations_row(
@@ -163,7 +163,7 @@ pub fn predecessors(
     b: usize,
 )
     requires { ⌜ Coded (size .inputs) (size .outputs) (now code) (now len) ⌝ }
-    requires { ⌜ (size .words ≤ 4) × (length (now row) ≡ 4) × (room (size .words) ≤ length (now st)) ⌝ }
+    requires { ⌜ (size .words ≤ 4) × (length (now row) ≡ 4) × (stackWords (size .words) ≤ length (now st)) ⌝ }
     ensures { λ r. ⌜ ((c : Option ℕ) → Ahead env b c → (ks : List ℕ) (j i : ℕ) → j < size .words → i < 64 → bit i (getD (now (row .exit)) j 0) ≡ holds (sheetOf (size .inputs) (size .outputs) (now (code .entry)) (now (len .entry)) ks) (some (64 * j + i)) b c) ⌝ }
 {
     equations_row(

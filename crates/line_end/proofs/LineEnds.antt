@@ -19,7 +19,7 @@ use Rattle.claims.specs.Book.{Call, closing, refused, verdicts, closed, Book, c
 use Rattle.claims.specs.Session.{Held, held}
 use Rattle.line_scan.specs.Lines.{calls, malformed, readLine}
 use Rattle.line_end.specs.Printed.{nextLine, malformedRule, passed, rounded, shut, turnedDown, unread}
-use Rattle.line_end.specs.LineEnd.{Serves, Answered, LineEnded, room, due}
+use Rattle.line_end.specs.LineEnd.{Serves, Answered, LineEnded, mostBytes, due}
 use Rattle.line_end.specs.declared.Ended.{Ended}
 use Rattle.line_end.proofs.Serving.{serves-matches}
 
@@ -68,10 +68,10 @@ module _ (sheet : List ℕ) (x : RuleSheet) (b : Book) (line : ℕ) (part d : Li
 
 -- ---- room in the buffer
 
-pub room-least : (c : Bool) → 40 ≤ room c
-room-least true = omega arith
-room-least false = omega arith
+pub bytes-least : (c : Bool) → 40 ≤ mostBytes c
+bytes-least true = omega arith
+bytes-least false = omega arith
 
 -- a run that is over asks for nothing more
-pub over-bound : (o c k : Bool) (at to : ℕ) → o ≡ true → to ≤ at + 40 → to + due o c ≤ at + room k + 8
-over-bound o c k at to e h = rw e (omega (arith, room-least k))
+pub over-bound : (o c k : Bool) (at to : ℕ) → o ≡ true → to ≤ at + 40 → to + due o c ≤ at + mostBytes k + 8
+over-bound o c k at to e h = rw e (omega (arith, bytes-least k))

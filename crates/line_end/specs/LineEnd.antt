@@ -39,8 +39,8 @@ pub record LineEnded (sheet : List ℕ) (x : RuleSheet) (b : Book) (line : ℕ) 
   pub ends : Ends sheet x b line part text (r .line) (held t (r .record)) (r .over)
 
 -- Bytes of output that a run may still ask for beyond 8 for each byte of input: a closing, which comes once, and a refusal, which comes last.
-abbrev pub room : Bool → ℕ
-room closed = cond closed 40 462
+abbrev pub mostBytes : Bool → ℕ
+mostBytes closed = cond closed 40 462
 
 abbrev pub due : Bool → Bool → ℕ
-due over closed = cond over 0 (room closed)
+due over closed = cond over 0 (mostBytes closed)

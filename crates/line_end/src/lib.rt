@@ -14,7 +14,7 @@ ghost use Rattle.text.specs.Wrote.{Wrote};
 ghost use Rattle.line_scan.specs.Lines.{calls, readLine};
 ghost use Rattle.line_scan.specs.Scan.{Marked, Scanned};
 ghost use Rattle.line_end.specs.Printed.{nextLine};
-ghost use Rattle.line_end.specs.LineEnd.{Serves, Answered, LineEnded, room, due};
+ghost use Rattle.line_end.specs.LineEnd.{Serves, Answered, LineEnded, mostBytes, due};
 use effects::ClosingAnswer;
 use effects::RoundAnswer;
 use line_scan::Masks;
@@ -39,7 +39,7 @@ fn next_line(line: u64) -> u64
 }
 
 // A refusal ends the run.
-fn refused_line(e: Refusal, line: u64, journal: JournalRecord, out: &mut [u8], at: usize) -> Ended
+fn refused_line(e: Refusal, line: u64, rec: JournalRecord, out: &mut [u8], at: usize) -> Ended
     requires { ⌜ at + 40 ≤ length (now out) ⌝ }
     ensures { λ r. ⌜ (r .over ≡ true) × (r .at ≤ at + 40) × Wrote (now (out .entry)) at (lineRefusal e line) (now (out .exit)) (r .at) ⌝ }
 {
@@ -47,7 +47,7 @@ fn refused_line(e: Refusal, line: u64, journal: JournalRecord, out: &mut [u8], a
     Ended {
         over: true,
         line,
-        record: journal,
+        record: rec,
         at: to,
     }
 }
@@ -78,20 +78,20 @@ fn answer_closing(x: Sheet, storage: &[u64], r: JournalRecord) -> ClosingAnswer
 fn round_line(
     x: Sheet,
     line: u64,
-    journal: JournalRecord,
+    rec: JournalRecord,
     heard: Masks,
     storage: &mut [u64],
     out: &mut [u8],
     at: usize,
 ) -> Ended
-    requires { ⌜ IsAccepted x × (at + room (journal .closed) + 8 ≤ length (now out)) ⌝ }
-    ensures ended { λ r. ⌜ ((sheet : List ℕ) (b : Book) (part : List ℕ) → AcceptedSheet sheet x → Serves sheet (ruleSheet x) b (held (now (storage .entry)) journal) → readLine (x .inputs) part ≡ calls (round (heard .known) (heard .value)) → LineEnded sheet (ruleSheet x) b line part (now (out .entry)) at (now (out .exit)) (now (storage .exit)) r) ⌝ }
-    ensures bound { λ r. ⌜ r .at + due (r .over) (r .record .closed) ≤ at + room (journal .closed) + 8 ⌝ }
+    requires { ⌜ IsAccepted x × (at + mostBytes (rec .closed) + 8 ≤ length (now out)) ⌝ }
+    ensures ended { λ r. ⌜ ((sheet : List ℕ) (b : Book) (part : List ℕ) → AcceptedSheet sheet x → Serves sheet (ruleSheet x) b (held (now (storage .entry)) rec) → readLine (x .inputs) part ≡ calls (round (heard .known) (heard .value)) → LineEnded sheet (ruleSheet x) b line part (now (out .entry)) at (now (out .exit)) (now (storage .exit)) r) ⌝ }
+    ensures bound { λ r. ⌜ r .at + due (r .over) (r .record .closed) ≤ at + mostBytes (rec .closed) + 8 ⌝ }
 {
-    let a = answer_round(x, storage, journal, heard.known, heard.value);
+    let a = answer_round(x, storage, rec, heard.known, heard.value);
     let outcome = a.outcome;
     match outcome {
-        Outcome::Refused(e) => refused_line(e, line, journal, out, at),
+        Outcome::Refused(e) => refused_line(e, line, rec, out, at),
         Outcome::Accepted => {
             let verdicts = a.verdicts;
             let next = a.record;
@@ -110,24 +110,24 @@ fn round_line(
 fn closing_line(
     x: Sheet,
     line: u64,
-    journal: JournalRecord,
+    rec: JournalRecord,
     storage: &[u64],
     out: &mut [u8],
     at: usize,
 ) -> Ended
-    requires { ⌜ IsAccepted x × (at + room (journal .closed) + 8 ≤ length (now out)) ⌝ }
-    ensures ended { λ r. ⌜ ((sheet : List ℕ) (b : Book) (part : List ℕ) → AcceptedSheet sheet x → Serves sheet (ruleSheet x) b (held (now (storage .entry)) journal) → readLine (x .inputs) part ≡ calls closing → LineEnded sheet (ruleSheet x) b line part (now (out .entry)) at (now (out .exit)) (now (storage .entry)) r) ⌝ }
-    ensures bound { λ r. ⌜ r .at + due (r .over) (r .record .closed) ≤ at + room (journal .closed) + 8 ⌝ }
+    requires { ⌜ IsAccepted x × (at + mostBytes (rec .closed) + 8 ≤ length (now out)) ⌝ }
+    ensures ended { λ r. ⌜ ((sheet : List ℕ) (b : Book) (part : List ℕ) → AcceptedSheet sheet x → Serves sheet (ruleSheet x) b (held (now (storage .entry)) rec) → readLine (x .inputs) part ≡ calls closing → LineEnded sheet (ruleSheet x) b line part (now (out .entry)) at (now (out .exit)) (now (storage .entry)) r) ⌝ }
+    ensures bound { λ r. ⌜ r .at + due (r .over) (r .record .closed) ≤ at + mostBytes (rec .closed) + 8 ⌝ }
 {
-    let a = answer_closing(x, storage, journal);
+    let a = answer_closing(x, storage, rec);
     let outcome = a.outcome;
     match outcome {
-        Outcome::Refused(e) => refused_line(e, line, journal, out, at),
+        Outcome::Refused(e) => refused_line(e, line, rec, out, at),
         Outcome::Accepted => {
             let verdicts = a.verdicts;
             let shares = a.shares;
             let next = a.record;
-            let counts = journal.counts;
+            let counts = rec.counts;
             let to = text::closing(out, at, verdicts, &counts, &shares, x.outputs as usize);
             Ended {
                 over: false,
@@ -140,62 +140,62 @@ fn closing_line(
 }
 
 // A line that is neither blank nor a call: after closing it is refused as any other line is.
-fn malformed_line(line: u64, journal: JournalRecord, out: &mut [u8], at: usize) -> Ended
+fn malformed_line(line: u64, rec: JournalRecord, out: &mut [u8], at: usize) -> Ended
     requires { ⌜ at + 40 ≤ length (now out) ⌝ }
-    ensures { λ r. ⌜ (r .over ≡ true) × (r .at ≤ at + 40) × Wrote (now (out .entry)) at (lineRefusal (cond (journal .closed) Closed Line) line) (now (out .exit)) (r .at) ⌝ }
+    ensures { λ r. ⌜ (r .over ≡ true) × (r .at ≤ at + 40) × Wrote (now (out .entry)) at (lineRefusal (cond (rec .closed) Closed Line) line) (now (out .exit)) (r .at) ⌝ }
 {
-    if journal.closed {
-        return refused_line(Refusal::Closed, line, journal, out, at);
+    if rec.closed {
+        return refused_line(Refusal::Closed, line, rec, out, at);
     }
-    refused_line(Refusal::Line, line, journal, out, at)
+    refused_line(Refusal::Line, line, rec, out, at)
 }
 
 // A line of marks: blank, a round, or too short for one.
 fn marks_line(
     x: Sheet,
     line: u64,
-    journal: JournalRecord,
+    rec: JournalRecord,
     marks: Masks,
     storage: &mut [u64],
     out: &mut [u8],
     at: usize,
 ) -> Ended
-    requires { ⌜ IsAccepted x × (at + room (journal .closed) + 8 ≤ length (now out)) ⌝ }
-    ensures ended { λ r. ⌜ ((sheet : List ℕ) (b : Book) (part : List ℕ) → AcceptedSheet sheet x → Serves sheet (ruleSheet x) b (held (now (storage .entry)) journal) → Marked (x .inputs) part marks → LineEnded sheet (ruleSheet x) b line part (now (out .entry)) at (now (out .exit)) (now (storage .exit)) r) ⌝ }
-    ensures bound { λ r. ⌜ r .at + due (r .over) (r .record .closed) ≤ at + room (journal .closed) + 8 ⌝ }
+    requires { ⌜ IsAccepted x × (at + mostBytes (rec .closed) + 8 ≤ length (now out)) ⌝ }
+    ensures ended { λ r. ⌜ ((sheet : List ℕ) (b : Book) (part : List ℕ) → AcceptedSheet sheet x → Serves sheet (ruleSheet x) b (held (now (storage .entry)) rec) → Marked (x .inputs) part marks → LineEnded sheet (ruleSheet x) b line part (now (out .entry)) at (now (out .exit)) (now (storage .exit)) r) ⌝ }
+    ensures bound { λ r. ⌜ r .at + due (r .over) (r .record .closed) ≤ at + mostBytes (rec .closed) + 8 ⌝ }
 {
     let count = marks.count;
     if count == 0 {
         return Ended {
             over: false,
             line: next_line(line),
-            record: journal,
+            record: rec,
             at,
         };
     }
     if count != x.inputs {
-        return malformed_line(line, journal, out, at);
+        return malformed_line(line, rec, out, at);
     }
-    round_line(x, line, journal, marks, storage, out, at)
+    round_line(x, line, rec, marks, storage, out, at)
 }
 
 // The line that has come is at its end.
 pub fn line_end(
     x: Sheet,
     line: u64,
-    journal: JournalRecord,
+    rec: JournalRecord,
     pending: Pending,
     storage: &mut [u64],
     out: &mut [u8],
     at: usize,
 ) -> Ended
-    requires { ⌜ IsAccepted x × (at + room (journal .closed) + 8 ≤ length (now out)) ⌝ }
-    ensures ended { λ r. ⌜ ((sheet : List ℕ) (b : Book) (part : List ℕ) → AcceptedSheet sheet x → Serves sheet (ruleSheet x) b (held (now (storage .entry)) journal) → Scanned (x .inputs) part pending → LineEnded sheet (ruleSheet x) b line part (now (out .entry)) at (now (out .exit)) (now (storage .exit)) r) ⌝ }
-    ensures bound { λ r. ⌜ r .at + due (r .over) (r .record .closed) ≤ at + room (journal .closed) + 8 ⌝ }
+    requires { ⌜ IsAccepted x × (at + mostBytes (rec .closed) + 8 ≤ length (now out)) ⌝ }
+    ensures ended { λ r. ⌜ ((sheet : List ℕ) (b : Book) (part : List ℕ) → AcceptedSheet sheet x → Serves sheet (ruleSheet x) b (held (now (storage .entry)) rec) → Scanned (x .inputs) part pending → LineEnded sheet (ruleSheet x) b line part (now (out .entry)) at (now (out .exit)) (now (storage .exit)) r) ⌝ }
+    ensures bound { λ r. ⌜ r .at + due (r .over) (r .record .closed) ≤ at + mostBytes (rec .closed) + 8 ⌝ }
 {
     match pending {
-        Pending::Marks(marks) => marks_line(x, line, journal, marks, storage, out, at),
-        Pending::Dot => closing_line(x, line, journal, storage, out, at),
-        Pending::Malformed => malformed_line(line, journal, out, at),
+        Pending::Marks(marks) => marks_line(x, line, rec, marks, storage, out, at),
+        Pending::Dot => closing_line(x, line, rec, storage, out, at),
+        Pending::Malformed => malformed_line(line, rec, out, at),
     }
 }

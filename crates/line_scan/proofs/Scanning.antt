@@ -61,23 +61,23 @@ after-dot m b rest = simp (and-false (eqb (length (46 ∷ (b ∷ rest))) m))
 -- ---- masks
 
 -- the bit of place k, or none
-abbrev place : Bool → ℕ → ℕ
-place t k = cond t (2 ^ k) 0
+abbrev bitIf : Bool → ℕ → ℕ
+bitIf t k = cond t (2 ^ k) 0
 
-double : (t : Bool) (k : ℕ) → place t (suc k) ≡ 2 * place t k
+double : (t : Bool) (k : ℕ) → bitIf t (suc k) ≡ 2 * bitIf t k
 double true k = omega (arith, pow-suc 2 k)
 double false k = refl
 
-alone : (t : Bool) → one t + 2 * 0 ≡ place t 0 + 0
+alone : (t : Bool) → one t + 2 * 0 ≡ bitIf t 0 + 0
 alone true = refl
 alone false = refl
 
-known-more : (p : List ℕ) (b : ℕ) → knownMask (p ++ b ∷ []) ≡ place (not (eqb b 63)) (length p) + knownMask p
+known-more : (p : List ℕ) (b : ℕ) → knownMask (p ++ b ∷ []) ≡ bitIf (not (eqb b 63)) (length p) + knownMask p
 unfolding knownMask
 known-more [] b = alone (not (eqb b 63))
 known-more (a ∷ p) b = omega (arith, known-more p b, double (not (eqb b 63)) (length p))
 
-value-more : (p : List ℕ) (b : ℕ) → valueMask (p ++ b ∷ []) ≡ place (eqb b 49) (length p) + valueMask p
+value-more : (p : List ℕ) (b : ℕ) → valueMask (p ++ b ∷ []) ≡ bitIf (eqb b 49) (length p) + valueMask p
 unfolding valueMask
 value-more [] b = alone (eqb b 49)
 value-more (a ∷ p) b = omega (arith, value-more p b, double (eqb b 49) (length p))
@@ -92,8 +92,8 @@ unfolding valueMask
 value-lt [] = omega arith
 value-lt (a ∷ p) = omega (arith, value-lt p, one-le-one (eqb a 49), pow-suc 2 (length p))
 
-or-place : (w k : ℕ) → k < 6 → w < 2 ^ k → bitOr w (1 * 2 ^ k % 2 ^ 8) ≡ 2 ^ k + w
-or-place w k h l = rw (shl-exact {a = 1} 1 k 8 (omega arith) (omega arith)) (or-shifted-r 1 k w l ∙ omega arith)
+or-bit : (w k : ℕ) → k < 6 → w < 2 ^ k → bitOr w (1 * 2 ^ k % 2 ^ 8) ≡ 2 ^ k + w
+or-bit w k h l = rw (shl-exact {a = 1} 1 k 8 (omega arith) (omega arith)) (or-shifted-r 1 k w l ∙ omega arith)
 
 -- ---- one mark more
 
@@ -117,16 +117,16 @@ module _ (m : ℕ) (part : List ℕ) (q : Masks) (b : ℕ) (low : q .count < m) 
   }
 
   or-known : q .count < 6 → bitOr (q .known) (1 * 2 ^ q .count % 2 ^ 8) ≡ 2 ^ length part + knownMask part
-  or-known l = rw (h .known, h .count) (or-place (knownMask part) (length part) (omega (arith, h .count)) (known-lt part))
+  or-known l = rw (h .known, h .count) (or-bit (knownMask part) (length part) (omega (arith, h .count)) (known-lt part))
 
   or-value : q .count < 6 → bitOr (q .value) (1 * 2 ^ q .count % 2 ^ 8) ≡ 2 ^ length part + valueMask part
-  or-value l = rw (h .value, h .count) (or-place (valueMask part) (length part) (omega (arith, h .count)) (value-lt part))
+  or-value l = rw (h .value, h .count) (or-bit (valueMask part) (length part) (omega (arith, h .count)) (value-lt part))
 
-  known-is : (z : ℕ) → b ≡ z → knownMask (part ++ b ∷ []) ≡ place (not (eqb z 63)) (length part) + knownMask part
-  known-is z e = known-more part b ∙ ap (λ (y : ℕ). place (not (eqb y 63)) (length part) + knownMask part) e
+  known-is : (z : ℕ) → b ≡ z → knownMask (part ++ b ∷ []) ≡ bitIf (not (eqb z 63)) (length part) + knownMask part
+  known-is z e = known-more part b ∙ ap (λ (y : ℕ). bitIf (not (eqb y 63)) (length part) + knownMask part) e
 
-  value-is : (z : ℕ) → b ≡ z → valueMask (part ++ b ∷ []) ≡ place (eqb z 49) (length part) + valueMask part
-  value-is z e = value-more part b ∙ ap (λ (y : ℕ). place (eqb y 49) (length part) + valueMask part) e
+  value-is : (z : ℕ) → b ≡ z → valueMask (part ++ b ∷ []) ≡ bitIf (eqb z 49) (length part) + valueMask part
+  value-is z e = value-more part b ∙ ap (λ (y : ℕ). bitIf (eqb y 49) (length part) + valueMask part) e
 
   same-value : (z : ℕ) → b ≡ z → eqb z 49 ≡ false → q .value ≡ valueMask (part ++ b ∷ [])
   same-value z e f = h .value ∙ sym (rw f at (value-is z e) ∙ zero-add (valueMask part))

@@ -25,20 +25,20 @@ impl Masks {
         requires { ⌜ self .count < 6 ⌝ }
         ensures { λ r. ⌜ ((m : ℕ) (part : List ℕ) → self .count < m → (b ≡ 46 → ⊥) → Marked m part self → Scanned m (part ++ b ∷ []) r) ⌝ }
     {
-        let place: u8 = 1 << self.count;
+        let bit: u8 = 1 << self.count;
         let count = self.count + 1;
         let known = self.known;
         let value = self.value;
         match b {
             b'0' => Pending::Marks(Masks {
                 count,
-                known: known | place,
+                known: known | bit,
                 value,
             }),
             b'1' => Pending::Marks(Masks {
                 count,
-                known: known | place,
-                value: value | place,
+                known: known | bit,
+                value: value | bit,
             }),
             b'?' => Pending::Marks(Masks {
                 count,

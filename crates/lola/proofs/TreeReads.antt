@@ -9,7 +9,7 @@ use Rattle.sheet.specs.Bytes.{opOf}
 use Rattle.sheet.specs.Expression.{Expr, read, Next, stack, breaks, Parsed, tree, broken, applyOp, final, go-on, parse}
 use Rattle.sheet.specs.declared.Op.{Op}
 use Rattle.sheet.specs.declared.Op.the-variants.{Const, Not, And, Or, Read, Rejected}
-use Rattle.lola.specs.Reads.{place, hasRead}
+use Rattle.lola.specs.Reads.{offsetNo, hasRead}
 use Rattle.lola.specs.ByteReads.{opReads, bytesRead}
 
 -- a tree of the stack has the read
@@ -42,7 +42,7 @@ step-reads s q o Or (b ∷ []) = tt
 step-reads s q o Or (b ∷ (a ∷ st)) = or-turn (hasRead a q o) (hasRead b q o) (stackReads st q o)
 step-reads s q o (Read q′ o′ d) st = go (ltb (q′ .0) s)
   where
-    go : (t : Bool) → SaysNext q o ((eqb (q′ .0) q && eqb (place o′) o) || stackReads st q o) (cond t (stack (read (q′ .0) o′ d ∷ st)) (breaks Byte))
+    go : (t : Bool) → SaysNext q o ((eqb (q′ .0) q && eqb (offsetNo o′) o) || stackReads st q o) (cond t (stack (read (q′ .0) o′ d ∷ st)) (breaks Byte))
     go true = refl
     go false = tt
 step-reads s q o (Rejected r) st = tt

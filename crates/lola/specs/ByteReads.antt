@@ -6,7 +6,7 @@ use lib.Dec.{eqb}
 use Rattle.sheet.specs.Bytes.{opOf}
 use Rattle.sheet.specs.declared.Op.{Op}
 use Rattle.sheet.specs.declared.Op.the-variants.{Const, Not, And, Or, Read, Rejected}
-use Rattle.lola.specs.Reads.{place}
+use Rattle.lola.specs.Reads.{offsetNo}
 
 -- the operation is a read of stream q at the offset number o
 unfoldable pub opReads : Op → ℕ → ℕ → Bool
@@ -14,7 +14,7 @@ opReads (Const v) q o = false
 opReads Not q o = false
 opReads And q o = false
 opReads Or q o = false
-opReads (Read q′ o′ d) q o = eqb (q′ .0) q && eqb (place o′) o
+opReads (Read q′ o′ d) q o = eqb (q′ .0) q && eqb (offsetNo o′) o
 opReads (Rejected r) q o = false
 
 -- one of the bytes is

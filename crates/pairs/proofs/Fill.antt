@@ -13,7 +13,7 @@ use Rattle.words.specs.Bits.{bit}
 use Rattle.words.proofs.BitLaws.{bit-none}
 use Rattle.words.proofs.ListLaws.{set-more-from}
 use Rattle.completions.specs.Steps.{Within}
-use Rattle.pairs.specs.Storage.{place, slot, stored, used}
+use Rattle.pairs.specs.Storage.{wordOf, slot, stored, used}
 use Rattle.pairs.specs.Changes.{Framed, Zeroed, RowsCleared}
 use Rattle.pairs.proofs.Frames.{framed-none, framed-then, framed-wider, framed-set}
 
@@ -39,7 +39,7 @@ zeroed at n s t k h p = record { frame = p .frame; zero-now = λ i g. p .done i 
 
 -- the rows below v, then the ends
 pub rows-cleared : (base v : ℕ) (s t u : List ℕ) → v ≤ 256 → Zeroed base (4 * v) s t → Zeroed (base + 1024) 4 t u → RowsCleared base v s u
-unfolding stored place slot used
+unfolding stored wordOf slot used
 rows-cleared base v s t u h p q = record {
   frame = framed-then (framed-wider (omega arith) (omega arith) (p .frame)) (framed-wider (omega arith) (omega arith) (q .frame));
   emptied = at;

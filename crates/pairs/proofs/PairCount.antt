@@ -10,7 +10,7 @@ use Rattle.words.specs.Bits.{bit}
 use Rattle.words.specs.Below.{one, sumBelow, countBelow}
 use Rattle.words.proofs.CountLaws.{sum-cong, sum-add, sum-groups, ones-bits, sum-swap}
 use Rattle.completions.specs.Live.{countPairs}
-use Rattle.pairs.specs.Storage.{stored, place, slot, live, setWords}
+use Rattle.pairs.specs.Storage.{stored, wordOf, slot, live, setWords}
 
 module _ (s : List ℕ) (words : (i : ℕ) → i < setWords → getD s i 0 < 2 ^ 64) where
   word : (X j : ℕ) → X + j < setWords → sumBelow 64 (λ i. one (bit ((j * 64 + i) % 64) (getD s (X + (j * 64 + i) / 64) 0))) ≡ ones (getD s (X + j) 0)
@@ -29,14 +29,14 @@ module _ (s : List ℕ) (words : (i : ℕ) → i < setWords → getD s i 0 < 2 ^
       ∙ sum-cong 4 (λ j. sumBelow 64 (λ i. one (bit ((j * 64 + i) % 64) (getD s (X + (j * 64 + i) / 64) 0)))) (λ j. ones (getD s (X + j) 0)) (λ j h. word X j (omega arith))
 
   row : (a : ℕ) → a < 256 → sumBelow 256 (λ b. one (live s a (some b))) ≡ sumBelow 4 (λ j. ones (getD s (a * 4 + j) 0))
-  unfolding stored place slot
+  unfolding stored wordOf slot
   row a ha =
       sum-cong 256 (λ b. one (bit (b % 64) (getD s (0 + (4 * a + b / 64)) 0))) (λ b. one (bit (b % 64) (getD s (a * 4 + b / 64) 0)))
       (λ b h. let e : 0 + (4 * a + b / 64) ≡ a * 4 + b / 64 = omega arith in ap (λ (k : ℕ). one (bit (b % 64) (getD s k 0))) e)
       ∙ four (a * 4) (omega arith)
 
   ends : sumBelow 256 (λ a. one (live s a none)) ≡ sumBelow 4 (λ j. ones (getD s (1024 + j) 0))
-  unfolding stored place slot
+  unfolding stored wordOf slot
   ends =
       sum-cong 256 (λ a. one (bit (a % 64) (getD s (0 + (1024 + a / 64)) 0))) (λ a. one (bit (a % 64) (getD s (1024 + a / 64) 0)))
       (λ a h. let e : 0 + (1024 + a / 64) ≡ 1024 + a / 64 = omega arith in ap (λ (k : ℕ). one (bit (a % 64) (getD s k 0))) e)

@@ -15,14 +15,14 @@ use Rattle.words.specs.Bits.{bit, digit}
 use Rattle.words.proofs.BitLaws.{bit-and, bit-or, bit-not, bit-shl, bit-none, bits-ext}
 use Rattle.completions.specs.Live.{Pairs}
 use Rattle.completions.specs.Steps.{Within}
-use Rattle.pairs.specs.Storage.{stored, used, place, slot, setWords}
+use Rattle.pairs.specs.Storage.{stored, used, wordOf, slot, setWords}
 use Rattle.pairs.specs.Changes.{eqNext, inWord, Framed, Adds, rowBit, NextBit, NextMember, Zeroed, RowTaken, Noted}
 use Rattle.pairs.proofs.Frames.{framed-none, framed-then, framed-wider, framed-set}
 
-pub place-lt : (x : ℕ) (y : Option ℕ) → x < 256 → Within 256 y → place x y < setWords
-unfolding place
-place-lt x none h k = omega arith
-place-lt x (some c) h k = omega arith
+pub word-lt : (x : ℕ) (y : Option ℕ) → x < 256 → Within 256 y → wordOf x y < setWords
+unfolding wordOf
+word-lt x none h k = omega arith
+word-lt x (some c) h k = omega arith
 
 slot-lt : (x : ℕ) (y : Option ℕ) → slot x y < 64
 unfolding slot
@@ -33,8 +33,8 @@ slot-lt x (some c) = omega arith
 abbrev same : ℕ → Option ℕ → ℕ → Option ℕ → Bool
 same x y a c = eqb x a && eqNext y c
 
-same-word : (x : ℕ) (y : Option ℕ) (a : ℕ) (c : Option ℕ) → x < 256 → Within 256 y → a < 256 → Within 256 c → place x y ≡ place a c → eqb (slot x y) (slot a c) ≡ same x y a c
-unfolding place slot eqNext
+same-word : (x : ℕ) (y : Option ℕ) (a : ℕ) (c : Option ℕ) → x < 256 → Within 256 y → a < 256 → Within 256 c → wordOf x y ≡ wordOf a c → eqb (slot x y) (slot a c) ≡ same x y a c
+unfolding wordOf slot eqNext
 same-word x none a none h k h′ k′ e = go (ℕ-discrete x a)
   where
     go : Dec (x ≡ a) → eqb (x % 64) (a % 64) ≡ (eqb x a && true)
@@ -51,8 +51,8 @@ same-word x (some y) a (some c) h k h′ k′ e = go (ℕ-discrete y c)
     go (yes d) = eq-eqb (y % 64) (c % 64) (omega arith) ∙ sym (ap₂ _&&_ xa (eq-eqb y c d))
     go (no d) = ne-eqb (y % 64) (c % 64) (λ q. d (omega arith)) ∙ sym (ap₂ _&&_ xa (ne-eqb y c d))
 
-other-word : (x : ℕ) (y : Option ℕ) (a : ℕ) (c : Option ℕ) → (place x y ≡ place a c → ⊥) → same x y a c ≡ false
-unfolding place eqNext
+other-word : (x : ℕ) (y : Option ℕ) (a : ℕ) (c : Option ℕ) → (wordOf x y ≡ wordOf a c → ⊥) → same x y a c ≡ false
+unfolding wordOf eqNext
 other-word x none a none n = and-true (eqb x a) ∙ ne-eqb x a (λ d. n (ap (λ (k : ℕ). 1024 + k / 64) d))
 other-word x none a (some c) n = and-false (eqb x a)
 other-word x (some y) a none n = and-false (eqb x a)
@@ -64,28 +64,28 @@ other-word x (some y) a (some c) n = go (ℕ-discrete y c)
 
 -- one bit set
 pub inserted : (s : List ℕ) (base a : ℕ) (c : Option ℕ) → a < 256 → Within 256 c → base + setWords ≤ length s
-    → Adds base s (set s (base + place a c) (bitOr (getD s (base + place a c) 0) (1 * 2 ^ slot a c % 2 ^ 64))) (λ x y. eqb x a && eqNext y c)
+    → Adds base s (set s (base + wordOf a c) (bitOr (getD s (base + wordOf a c) 0) (1 * 2 ^ slot a c % 2 ^ 64))) (λ x y. eqb x a && eqNext y c)
 unfolding stored
 inserted s base a c ha hc l = record {
-  frame = framed-set s _ _ (omega arith) (omega (arith, place-lt a c ha hc));
-  adds = λ x y hx hy. go x y hx hy (ℕ-discrete (place x y) (place a c));
+  frame = framed-set s _ _ (omega arith) (omega (arith, word-lt a c ha hc));
+  adds = λ x y hx hy. go x y hx hy (ℕ-discrete (wordOf x y) (wordOf a c));
 }
   where
     k : ℕ
-    k = base + place a c
+    k = base + wordOf a c
 
     v : ℕ
     v = bitOr (getD s k 0) (1 * 2 ^ slot a c % 2 ^ 64)
 
-    go : (x : ℕ) (y : Option ℕ) → x < 256 → Within 256 y → Dec (place x y ≡ place a c) → stored (set s k v) base x y ≡ (stored s base x y || same x y a c)
+    go : (x : ℕ) (y : Option ℕ) → x < 256 → Within 256 y → Dec (wordOf x y ≡ wordOf a c) → stored (set s k v) base x y ≡ (stored s base x y || same x y a c)
     go x y hx hy (yes e) =
         ap (λ (j : ℕ). bit (slot x y) (getD (set s k v) (base + j) 0)) e
-        ∙ ap (bit (slot x y)) (getD-set-same s k v 0 (let g : place a c < setWords = place-lt a c ha hc in omega arith))
+        ∙ ap (bit (slot x y)) (getD-set-same s k v 0 (let g : wordOf a c < setWords = word-lt a c ha hc in omega arith))
         ∙ bit-or (slot x y) (getD s k 0) (1 * 2 ^ slot a c % 2 ^ 64)
         ∙ ap₂ _||_ (ap (λ (j : ℕ). bit (slot x y) (getD s (base + j) 0)) (sym e))
         (bit-shl (slot x y) (slot a c) (slot-lt a c) ∙ same-word x y a c hx hy ha hc e)
     go x y hx hy (no n) =
-        ap (bit (slot x y)) (getD-set-other s k (base + place x y) v 0 (λ q. n (omega arith)))
+        ap (bit (slot x y)) (getD-set-other s k (base + wordOf x y) v 0 (λ q. n (omega arith)))
         ∙ sym (ap (λ (u : Bool). stored s base x y || u) (other-word x y a c n) ∙ or-false (stored s base x y))
 
 -- ---- gains
@@ -109,7 +109,7 @@ adds-then base s t u P Q R p q f = record {
 }
 
 pub row-bit : (s : List ℕ) (base a x : ℕ) → rowBit s (base + 4 * a) x ≡ stored s base a (some x)
-unfolding rowBit stored place slot
+unfolding rowBit stored wordOf slot
 row-bit s base a x = let e : base + 4 * a + x / 64 ≡ base + (4 * a + x / 64) = omega arith in ap (λ (k : ℕ). bit (x % 64) (getD s k 0)) e
 
 pub row-member : (s : List ℕ) (base a w from r : ℕ) → NextBit s (base + 4 * a) w from r → NextMember (stored s base) a w from r
@@ -126,7 +126,7 @@ row-member s base a w from r n = record {
 pub stored-eq : (s t : List ℕ) (base base′ x : ℕ) (y : Option ℕ) → x < 256 → Within 256 y → ((k : ℕ) → k < setWords → getD t (base + k) 0 ≡ getD s (base′ + k) 0)
     → stored t base x y ≡ stored s base′ x y
 unfolding stored
-stored-eq s t base base′ x y hx hy f = ap (bit (slot x y)) (f (place x y) (place-lt x y hx hy))
+stored-eq s t base base′ x y hx hy f = ap (bit (slot x y)) (f (wordOf x y) (word-lt x y hx hy))
 
 module _ {at n : ℕ} {s t : List ℕ} (p : Framed at n s t) where
   pub framed-before : (b x : ℕ) (y : Option ℕ) → x < 256 → Within 256 y → b + setWords ≤ at → stored t b x y ≡ stored s b x y
@@ -138,7 +138,7 @@ module _ {at n : ℕ} {s t : List ℕ} (p : Framed at n s t) where
 -- a set whose words are 0 has no pair
 pub zeroed-none : (base : ℕ) (s t : List ℕ) → Zeroed base setWords s t → (x : ℕ) (y : Option ℕ) → x < 256 → Within 256 y → stored t base x y ≡ false
 unfolding stored
-zeroed-none base s t p x y hx hy = ap (bit (slot x y)) (p .zero-now (place x y) (place-lt x y hx hy)) ∙ bit-none (slot x y)
+zeroed-none base s t p x y hx hy = ap (bit (slot x y)) (p .zero-now (wordOf x y) (word-lt x y hx hy)) ∙ bit-none (slot x y)
 
 -- the words in use hold every pair of valuations below v
 pub used-below : (v x : ℕ) (y : Option ℕ) → x < v → used v x y ≡ true
@@ -154,25 +154,25 @@ unused v x (some c) e = e
 -- ---- the code's tests of one bit
 
 pub has-bit : (s : List ℕ) (base a b : ℕ) → eqb (getD s (base + (4 * a + b / 64)) 0 / 2 ^ (b % 64) % 2) 1 ≡ stored s base a (some b)
-unfolding stored place slot bit digit
+unfolding stored wordOf slot bit digit
 has-bit s base a b = refl
 
 pub has-end-bit : (s : List ℕ) (base a : ℕ) → eqb (getD s (base + (1024 + a / 64)) 0 / 2 ^ (a % 64) % 2) 1 ≡ stored s base a none
-unfolding stored place slot bit digit
+unfolding stored wordOf slot bit digit
 has-end-bit s base a = refl
 
 -- ---- a word of a row
 
 -- lane i of word j of row a is the pair (a, 64 j + i)
 pub lane : (s : List ℕ) (base a j i : ℕ) → i < 64 → bit i (getD s (base + (4 * a + j)) 0) ≡ stored s base a (some (64 * j + i))
-unfolding stored place slot
+unfolding stored wordOf slot
 lane s base a j i h =
     let p : i ≡ (64 * j + i) % 64 = omega arith in
     let q : base + (4 * a + j) ≡ base + (4 * a + (64 * j + i) / 64) = omega arith in
     ap₂ (λ (u v : ℕ). bit u (getD s v 0)) p q
 
 pub lane-end : (s : List ℕ) (base j i : ℕ) → i < 64 → bit i (getD s (base + (1024 + j)) 0) ≡ stored s base (64 * j + i) none
-unfolding stored place slot
+unfolding stored wordOf slot
 lane-end s base j i h =
     let p : i ≡ (64 * j + i) % 64 = omega arith in
     let q : base + (1024 + j) ≡ base + (1024 + (64 * j + i) / 64) = omega arith in
@@ -181,7 +181,7 @@ lane-end s base j i h =
 -- one word gains the lanes of another
 pub word-inserted : (s : List ℕ) (base a j x : ℕ) → a < 256 → j < 4 → base + setWords ≤ length s
     → Adds base s (set s (base + (4 * a + j)) (bitOr (getD s (base + (4 * a + j)) 0) x)) (λ p y. eqb p a && inWord j x y)
-unfolding stored place slot inWord
+unfolding stored wordOf slot inWord
 word-inserted s base a j x ha hj l = record {
   frame = framed-set s _ _ (omega arith) (omega arith);
   adds = at;
@@ -221,7 +221,7 @@ word-inserted s base a j x ha hj l = record {
 -- the ends of one word gain the lanes of another
 pub ends-inserted : (s : List ℕ) (base j x : ℕ) → j < 4 → base + setWords ≤ length s
     → Adds base s (set s (base + (1024 + j)) (bitOr (getD s (base + (1024 + j)) 0) x)) (λ a y. inWord j x (some a) && eqNext y none)
-unfolding stored place slot inWord eqNext
+unfolding stored wordOf slot inWord eqNext
 ends-inserted s base j x hj l = record {
   frame = framed-set s _ _ (omega arith) (omega arith);
   adds = at;
@@ -257,7 +257,7 @@ ends-inserted s base j x hj l = record {
 -- a row is taken out: its words are 0, and its bit among the ends is
 pub row-taken : (base a : ℕ) (s t : List ℕ) → a < 256 → base + setWords ≤ length s → Zeroed (base + 4 * a) 4 s t
     → RowTaken base a s (set t (base + (1024 + a / 64)) (bitAnd (getD t (base + (1024 + a / 64)) 0) ((2 ^ 64 - 1) - 1 * 2 ^ (a % 64) % 2 ^ 64)))
-unfolding stored place slot
+unfolding stored wordOf slot
 row-taken base a s t ha l p = record {
   frame = framed-then (framed-wider (omega arith) (omega arith) (p .frame)) (framed-set t _ _ (omega arith) (omega arith));
   taken = at;

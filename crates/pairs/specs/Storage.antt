@@ -12,9 +12,9 @@ use Rattle.words.specs.Bits.{bit}
 use Rattle.completions.specs.Live.{Pairs}
 
 -- the word of a pair within its set
-unfoldable pub place : ℕ → Option ℕ → ℕ
-place a none = 1024 + a / 64
-place a (some b) = 4 * a + b / 64
+unfoldable pub wordOf : ℕ → Option ℕ → ℕ
+wordOf a none = 1024 + a / 64
+wordOf a (some b) = 4 * a + b / 64
 
 -- its bit in that word
 unfoldable pub slot : ℕ → Option ℕ → ℕ
@@ -23,7 +23,7 @@ slot a (some b) = b % 64
 
 -- the set whose words begin at `base`
 unfoldable pub stored : List ℕ → ℕ → Pairs
-stored ws base a c = bit (slot a c) (getD ws (base + place a c) 0)
+stored ws base a c = bit (slot a c) (getD ws (base + wordOf a c) 0)
 
 -- how many words a set takes
 abbrev pub setWords : ℕ

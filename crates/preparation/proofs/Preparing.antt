@@ -29,16 +29,16 @@ module _ (m n : ℕ) (code len : List ℕ) (few : m + n ≤ 8) where
   search-bound ks s₀ s layer next d p = omega (arith, p .grown, bound-256 (live s))
 
   module _ (w v : ℕ) (valuations : v ≡ 2 ^ (m + n)) (low : v ≤ 64 * w) (high : w ≤ 4) where
-    room : (ks : List ℕ) → 2 ^ streams (sheetOf m n code len ks) ≤ 64 * w
-    room ks = streams-low m n code len ks (64 * w) (omega arith)
+    enough : (ks : List ℕ) → 2 ^ streams (sheetOf m n code len ks) ≤ 64 * w
+    enough ks = streams-low m n code len ks (64 * w) (omega arith)
 
     pub search-begin : (ks row s t : List ℕ) → Row w row (allowed (sheetOf m n code len ks)) → Started w row s t → Searching (sheetOf m n code len ks) reachedAt scratchAt t t 0
-    search-begin ks row s t r p = search-start (sheetOf m n code len ks) w (room ks) row s t r p
+    search-begin ks row s t r p = search-start (sheetOf m n code len ks) w (enough ks) row s t r p
 
     pub search-step : (ks s₀ s t rows : List ℕ) (layer next d r : ℕ) → Searching (sheetOf m n code len ks) layer next s₀ s d → Occupied w rows s layer → NextBit rows 0 w 0 r → r < 64 * w
         → Swept (sheetOf m n code len ks) (64 * w) (64 * w) layer next s t → Searching (sheetOf m n code len ks) next layer s₀ t (d + 1)
     search-step ks s₀ s t rows layer next d r p o b h q =
-        rw (add-one d) (search-more (sheetOf m n code len ks) w (room ks) (small ks) (omega arith) layer next s₀ s t rows d r p o b h q)
+        rw (add-one d) (search-more (sheetOf m n code len ks) w (enough ks) (small ks) (omega arith) layer next s₀ s t rows d r p o b h q)
 
   module _ (assumption : Assumed) (below : Below assumption n) (w layer next : ℕ) (s₀ s rows : List ℕ) (d r : ℕ)
       (p : Searching (sheetOf m n code len (requiredOf assumption)) layer next s₀ s d) (o : Occupied w rows s layer) (b : NextBit rows 0 w 0 r) (done : 64 * w ≤ r) where

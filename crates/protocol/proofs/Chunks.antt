@@ -14,7 +14,7 @@ rest-printed x (finished f) sheet seen wrote st = rw (append-nil seen) (f sheet 
 rest-printed x (fed {chunk = chunk} {text = text} {others = others} {chunks = chunks} g r) sheet seen wrote st =
     rw (← append-assoc seen chunk (flatten chunks), ← append-assoc wrote text others) (rest-printed x r sheet (seen ++ chunk) (wrote ++ text) (g sheet seen wrote st))
 rest-printed x (stopped {chunks = chunks} o) sheet seen wrote st =
-    let f : Over sheet seen wrote = rw o at (st .place) in
+    let f : Over sheet seen wrote = rw o at (st .stage) in
     rw (append-nil wrote) (f (flatten chunks))
 
 pub any-chunks : AnyChunks

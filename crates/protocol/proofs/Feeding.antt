@@ -22,7 +22,7 @@ use Rattle.line_scan.specs.Lines.{linesFrom}
 use Rattle.line_scan.specs.Scan.{Scanned}
 use Rattle.line_scan.specs.declared.Pending.{Pending}
 use Rattle.line_end.specs.Printed.{Written, ended, Printed, refusedSheet, journal}
-use Rattle.line_end.specs.LineEnd.{Serves, Onward, Ends, LineEnded, room}
+use Rattle.line_end.specs.LineEnd.{Serves, Onward, Ends, LineEnded, mostBytes}
 use Rattle.line_end.specs.declared.Ended.{Ended}
 use Rattle.protocol.specs.Machine.{Midway, Over, Stands}
 use Rattle.protocol.specs.declared.Progress.{Progress}
@@ -117,16 +117,16 @@ over-all sheet seen chunk wrote i f rest =
 module _ (sheet : List ℕ) (x : Sheet) (s : Progress) (t seen wrote : List ℕ) (st : Stands sheet x s t seen wrote) where
   pub stands-over : (chunk : List ℕ) → s .over ≡ true → Stands sheet x s t (seen ++ chunk) (wrote ++ [])
   stands-over chunk o =
-      let f : Over sheet seen wrote = rw o at (st .place) in
-      record { accepts = st .accepts; place = rw (o, append-nil wrote) (over-all sheet seen chunk wrote 0 (rw (append-nil seen) f)) }
+      let f : Over sheet seen wrote = rw o at (st .stage) in
+      record { accepts = st .accepts; stage = rw (o, append-nil wrote) (over-all sheet seen chunk wrote 0 (rw (append-nil seen) f)) }
 
   pub over-last : s .over ≡ true → Printed sheet seen (wrote ++ [])
   over-last o =
-      let f : Over sheet seen wrote = rw o at (st .place) in
+      let f : Over sheet seen wrote = rw o at (st .stage) in
       rw (append-nil wrote) (rw (append-nil seen) at (f []))
 
   pub stands-midway : s .over ≡ false → Midway sheet x (s .line) (s .pending) (held t (s .record)) seen wrote
-  stands-midway o = rw o at (st .place)
+  stands-midway o = rw o at (st .stage)
 
 -- ---- the beginning
 
@@ -138,6 +138,6 @@ refused-start sheet input d e q r h w = subst (λ (z : List ℕ). Printed sheet 
 
 -- ---- room
 
-pub room-most : (c : Bool) → room c ≤ 462
-room-most true = omega arith
-room-most false = omega arith
+pub bytes-most : (c : Bool) → mostBytes c ≤ 462
+bytes-most true = omega arith
+bytes-most false = omega arith

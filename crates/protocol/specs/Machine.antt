@@ -33,14 +33,14 @@ pub record Midway (sheet : List ℕ) (x : Sheet) (line : ℕ) (q : Pending) (h :
 abbrev pub Over : List ℕ → List ℕ → List ℕ → Type 0
 Over sheet seen wrote = (rest : List ℕ) → Printed sheet (seen ++ rest) wrote
 
-abbrev pub Place : List ℕ → Sheet → Progress → Held → List ℕ → List ℕ → Bool → Type 0
-Place sheet x s h seen wrote true = Over sheet seen wrote
-Place sheet x s h seen wrote false = Midway sheet x (s .line) (s .pending) h seen wrote
+abbrev pub Stage : List ℕ → Sheet → Progress → Held → List ℕ → List ℕ → Bool → Type 0
+Stage sheet x s h seen wrote true = Over sheet seen wrote
+Stage sheet x s h seen wrote false = Midway sheet x (s .line) (s .pending) h seen wrote
 
 -- where a run with the storage t stands
 pub record Stands (sheet : List ℕ) (x : Sheet) (s : Progress) (t seen wrote : List ℕ) : Type 0 where
   pub accepts : AcceptedSheet sheet x
-  pub place : Place sheet x s (held t (s .record)) seen wrote (s .over)
+  pub stage : Stage sheet x s (held t (s .record)) seen wrote (s .over)
 
 -- ---- What the functions give
 

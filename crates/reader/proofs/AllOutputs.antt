@@ -90,7 +90,7 @@ one-more s code len code′ len′ e k h g =
 -- what the loop keeps: k outputs were read, and the next one is at `at`
 pub record OutputsTo (bs : List ℕ) (s n : ℕ) (len code : List ℕ) (at k : ℕ) : Type 0 where
   pub count : k ≤ n
-  pub place : at ≤ length bs
+  pub inside : at ≤ length bs
   pub held : PackedOutputs s k len code
   pub rest : readOutputs s n (drop 8 bs) ≡ after (treesOf s code len k) (readOutputs s (n - k) (drop at bs))
 
@@ -118,15 +118,15 @@ module _ (bs : List ℕ) (s n : ℕ) (len code : List ℕ) (at k : ℕ) (kept : 
       let t : treeOf (parse s [] x) ≡ r .expr = ap treeOf e in
       let f = treesOf s code len k in
       let z = kept .held in
-      let here : codeAt new (set len k l) k ≡ x = copied len code k l x new (i .size) (i .short) (z .sizes) (z .room) (omega arith) (z .small) put in
-      let same : (j : ℕ) → j < k → codeAt new (set len k l) j ≡ codeAt code len j = not-touched len code k l x new (i .size) (i .short) (z .sizes) (z .room) (omega arith) (z .small) put in
+      let here : codeAt new (set len k l) k ≡ x = copied len code k l x new (i .size) (i .short) (z .sizes) (z .code-size) (omega arith) (z .small) put in
+      let same : (j : ℕ) → j < k → codeAt new (set len k l) j ≡ codeAt code len j = not-touched len code k l x new (i .size) (i .short) (z .sizes) (z .code-size) (omega arith) (z .small) put in
       record {
         count = omega arith;
-        place = i .inside;
+        inside = i .inside;
         held =
             record {
               sizes = length-set len k l ∙ z .sizes;
-              room = put .same-length ∙ z .room;
+              code-size = put .same-length ∙ z .code-size;
               small = set-more (λ j v. v ≤ 64) len k l (omega (arith, z .sizes)) (i .short) (z .small);
               parts =
                   below-more (λ (j : ℕ). Parses s (codeAt new (set len k l) j)) k
@@ -164,7 +164,7 @@ module _ (bs : List ℕ) (s n : ℕ) (len code : List ℕ) (at k : ℕ) (kept : 
   pub all-held : n ≤ k → PackedOutputs s n len code
   all-held h =
       let z = kept .held in
-      record { sizes = z .sizes; room = z .room; small = λ j b. z .small j (omega arith); parts = λ j b. z .parts j (omega arith) }
+      record { sizes = z .sizes; code-size = z .code-size; small = λ j b. z .small j (omega arith); parts = λ j b. z .parts j (omega arith) }
 
 after-none : (o : Outputs) → after [] o ≡ o
 after-none (trees ts) = refl
@@ -175,8 +175,8 @@ unfolding treesOf
 begins bs s n len code h i j =
     record {
       count = omega arith;
-      place = h;
-      held = record { sizes = i; room = j; small = λ k b. absurd (omega arith); parts = λ k b. absurd (omega arith) };
+      inside = h;
+      held = record { sizes = i; code-size = j; small = λ k b. absurd (omega arith); parts = λ k b. absurd (omega arith) };
       rest = ap (λ (z : ℕ). readOutputs s z (drop 8 bs)) (omega arith) ∙ sym (after-none (readOutputs s (n - 0) (drop 8 bs)));
     }
 

@@ -41,7 +41,7 @@ same-part a b i j n h l f =
     getD-take n (drop i a) k 0 (omega arith) ∙ getD-drop i a k 0 ∙ f k (omega arith) ∙ sym (getD-drop j b k 0) ∙ sym (getD-take n (drop j b) k 0 (omega arith)))
 
 -- one expression more is copied, after k that stay as they are
-module _ (len old : List ℕ) (k l : ℕ) (e new : List ℕ) (size : length e ≡ l) (short : l ≤ 64) (sizes : length len ≡ 7) (room : length old ≡ 448) (few : k < 7)
+module _ (len old : List ℕ) (k l : ℕ) (e new : List ℕ) (size : length e ≡ l) (short : l ≤ 64) (sizes : length len ≡ 7) (code-size : length old ≡ 448) (few : k < 7)
     (small : (j : ℕ) → j < k → getD len j 0 ≤ 64) (put : Put (64 * k) e old new) where
   pub copied : codeAt new (set len k l) k ≡ e
   copied =
@@ -61,7 +61,7 @@ usable m n a len code r b x =
     record {
       ranges = r;
       below = b;
-      room = x .room;
+      code-size = x .code-size;
       sizes = x .sizes;
       small = x .small;
       parts = x .parts;

@@ -35,6 +35,6 @@ pub record Put (from : ℕ) (e old new : List ℕ) : Type 0 where
 -- the code holds the expressions of n outputs in a sheet of s streams, 64 bytes for each
 pub record PackedOutputs (s n : ℕ) (len code : List ℕ) : Type 0 where
   pub sizes : length len ≡ 7
-  pub room : length code ≡ 448
+  pub code-size : length code ≡ 448
   pub small : (k : ℕ) → k < n → getD len k 0 ≤ 64
   pub parts : (k : ℕ) → k < n → Parses s (codeAt code len k)

@@ -80,7 +80,7 @@ fn column_of(verdict: Verdict) -> usize
 }
 
 // Where output k's count of a verdict stands.
-fn place_of(k: OutputNo, verdict: Verdict) -> usize
+fn count_index(k: OutputNo, verdict: Verdict) -> usize
     requires { ⌜ k .0 < 7 ⌝ }
     ensures { λ r. ⌜ r ≡ 4 * k .0 + column verdict ⌝ }
 {
@@ -97,7 +97,7 @@ pub fn with_round(r: JournalRecord, n: usize, verdicts: [Told; 7]) -> JournalRec
     while k < n {
         let told = verdicts[k];
         let verdict = told.verdict;
-        let at = place_of(OutputNo(k as u8), verdict);
+        let at = count_index(OutputNo(k as u8), verdict);
         counts[at] = counts[at] + 1;
         k += 1;
     }

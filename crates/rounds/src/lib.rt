@@ -10,7 +10,7 @@ ghost use Rattle.words.specs.Sizes.{Sized};
 ghost use Rattle.completions.specs.Steps.{startSet, stepSet, partBelow};
 ghost use Rattle.pairs.specs.Storage.{stored, live, reached, scratch, reachedAt, scratchAt, storageWords};
 ghost use Rattle.pairs.specs.Changes.{Adds};
-ghost use Rattle.lanes.specs.Around.{room, Before};
+ghost use Rattle.lanes.specs.Around.{stackWords, Before};
 ghost use Rattle.lanes.specs.Coded.{Coded, sheetOf};
 ghost use Rattle.rounds.specs.Rows.{among, Earlier, gains, inRow, heardFirst, brought, Sparse};
 ghost use Rattle.rounds.specs.Round.{Rounded};
@@ -52,7 +52,7 @@ fn bring_row(
     g: usize,
 )
     requires { ⌜ Coded (size .inputs) (size .outputs) (now code) (now len) ⌝ }
-    requires { ⌜ Sized size × (room (size .words) ≤ length (now st)) × (storageWords ≤ length (now s)) × (g < 256) × Earlier before ⌝ }
+    requires { ⌜ Sized size × (stackWords (size .words) ≤ length (now st)) × (storageWords ≤ length (now s)) × (g < 256) × Earlier before ⌝ }
     ensures { λ r. ⌜ ((p : Option ℕ) → Before before p → (ks : List ℕ) → Adds reachedAt (now (s .entry)) (now (s .exit)) (gains (sheetOf (size .inputs) (size .outputs) (now (code .entry)) (now (len .entry)) ks) (inRow (scratch (now (s .entry))) (size .valuations) g) (partBelow (size .valuations)) (live (now (s .entry))) p)) ⌝ }
 {
     let v = size.valuations;
@@ -112,7 +112,7 @@ pub fn first_round(s: &mut [u64], code: &[u8], len: &[usize], m: usize, n: usize
 // The pairs that the scratch set brings; only rows of the groups have any, and st is room to work in.
 fn bring_rows(s: &mut [u64], st: &mut [u64], groups: &[u64], code: &[u8], len: &[usize], size: Size)
     requires { ⌜ Coded (size .inputs) (size .outputs) (now code) (now len) ⌝ }
-    requires { ⌜ Sized size × (room (size .words) ≤ length (now st)) × (length (now groups) ≡ 4) × (storageWords ≤ length (now s)) × Sparse (size .valuations) (now groups) (scratch (now s)) ⌝ }
+    requires { ⌜ Sized size × (stackWords (size .words) ≤ length (now st)) × (length (now groups) ≡ 4) × (storageWords ≤ length (now s)) × Sparse (size .valuations) (now groups) (scratch (now s)) ⌝ }
     ensures { λ r. ⌜ ((ks : List ℕ) → Adds reachedAt (now (s .entry)) (now (s .exit)) (brought (sheetOf (size .inputs) (size .outputs) (now (code .entry)) (now (len .entry)) ks) (scratch (now (s .entry))) (size .valuations) (live (now (s .entry))) (size .valuations))) ⌝ }
 {
     let v = size.valuations;

@@ -22,7 +22,7 @@ use Rattle.sheet.specs.Expression.{Expr, stack, Parsed, tree, broken, ap
 use Rattle.sheet.specs.Expression
 use Rattle.sheet.specs.Header.{markOk, versionOf, countsOk, assumedAt, fieldsOf, headerOf}
 use Rattle.sheet.specs.RuleSheet.{Outputs, trees, breaks, lengthOk, after, andThen, readOutputs, withOutputs, withHeader, readSheet}
-use Rattle.sheet.specs.ReadingChecks.{inputsOf, outputsOf, placeOf, sizeOf, expressionOf, known, needs, heightFrom, badSize, opAt, badByte, badValues, badEnd, leftOver, byteChecks, outputChecks, readingChecks}
+use Rattle.sheet.specs.ReadingChecks.{inputsOf, outputsOf, outputAt, lengthAt, expressionOf, known, needs, heightFrom, badLength, opAt, badByte, badValues, badEnd, leftOver, byteChecks, outputChecks, readingChecks}
 use Rattle.sheet.specs.Decided.{readingOutcome, ReadingDecided}
 use Rattle.sheet.specs.declared.Op.{Op}
 use Rattle.sheet.specs.declared.Op.the-variants.{Const, Not, And, Or, Read, Rejected}
@@ -141,69 +141,69 @@ module _ (bs : List ℕ) where
 
   -- what their reading gives
   abbrev reads : ℕ → ℕ → Outcome
-  reads k r = outputsNo (readOutputs (streams bs k) r (drop (placeOf bs k) bs))
+  reads k r = outputsNo (readOutputs (streams bs k) r (drop (outputAt bs k) bs))
 
   -- the length rule, as the reading tests it
-  size-same : (k : ℕ) → placeOf bs k < length bs → badSize bs k ≡ not (lengthOk (sizeOf bs k) (drop (placeOf bs k + 1) bs))
+  size-same : (k : ℕ) → outputAt bs k < length bs → badLength bs k ≡ not (lengthOk (lengthAt bs k) (drop (outputAt bs k + 1) bs))
   size-same k h =
       simp (
-        lt-ltb (placeOf bs k) (length bs) h,
-        leb-same (placeOf bs k + 1 + sizeOf bs k) (length bs) (sizeOf bs k) (length (drop (placeOf bs k + 1) bs))
-            (λ q. omega (arith, length-drop (placeOf bs k + 1) bs))
-            (λ q. omega (arith, length-drop (placeOf bs k + 1) bs)),
+        lt-ltb (outputAt bs k) (length bs) h,
+        leb-same (outputAt bs k + 1 + lengthAt bs k) (length bs) (lengthAt bs k) (length (drop (outputAt bs k + 1) bs))
+            (λ q. omega (arith, length-drop (outputAt bs k + 1) bs))
+            (λ q. omega (arith, length-drop (outputAt bs k + 1) bs)),
       )
 
-  one-law : (k r : ℕ) → Decided (from (suc k) r) (reads (suc k) r) → placeOf bs k < length bs → (t : Bool) → lengthOk (sizeOf bs k) (drop (placeOf bs k + 1) bs) ≡ t
-      → Decided (test Length (badSize bs k) ∷ (byteChecks bs k 0 (sizeOf bs k) ++ (test Values (badEnd bs k) ∷ from (suc k) r)))
-      (outputsNo (cond t (andThen (parse (streams bs k) [] (expressionOf bs k)) (readOutputs (streams bs k) r (drop (sizeOf bs k) (drop (placeOf bs k + 1) bs)))) (breaks Length)))
-  unfolding placeOf heightFrom
+  one-law : (k r : ℕ) → Decided (from (suc k) r) (reads (suc k) r) → outputAt bs k < length bs → (t : Bool) → lengthOk (lengthAt bs k) (drop (outputAt bs k + 1) bs) ≡ t
+      → Decided (test Length (badLength bs k) ∷ (byteChecks bs k 0 (lengthAt bs k) ++ (test Values (badEnd bs k) ∷ from (suc k) r)))
+      (outputsNo (cond t (andThen (parse (streams bs k) [] (expressionOf bs k)) (readOutputs (streams bs k) r (drop (lengthAt bs k) (drop (outputAt bs k + 1) bs)))) (breaks Length)))
+  unfolding outputAt heightFrom
   one-law k r rec h false q = inl (size-same k h ∙ ap not q, refl)
   one-law k r rec h true q =
-      let n = sizeOf bs k in
-      let ys = drop (placeOf bs k + 1) bs in
+      let n = lengthAt bs k in
+      let ys = drop (outputAt bs k + 1) bs in
       let a = and-split (leb 1 n) (leb n 64 && leb n (length ys)) q in
       let b = and-split (leb n 64) (leb n (length ys)) (a .1) in
       let fits : n ≤ length ys = leb-true n (length ys) (b .1) in
       inr (
         off (size-same k h ∙ ap not q),
         subst (Decided (byteChecks bs k 0 n ++ (test Values (badEnd bs k) ∷ from (suc k) r)))
-            (ap (λ (z : List ℕ). afterParse (parse (streams bs k) [] (expressionOf bs k)) (outputsNo (readOutputs (streams bs k) r z))) (sym (drop-drop n (placeOf bs k + 1) bs))
+            (ap (λ (z : List ℕ). afterParse (parse (streams bs k) [] (expressionOf bs k)) (outputsNo (readOutputs (streams bs k) r z))) (sym (drop-drop n (outputAt bs k + 1) bs))
             ∙ sym (andThen-no (parse (streams bs k) [] (expressionOf bs k)) (readOutputs (streams bs k) r (drop n ys))))
             (expr-law bs k (from (suc k) r) (reads (suc k) r) rec n 0 [] (omega (arith, length-take-le n ys fits)) refl),
       )
 
-  size-missing : (k : ℕ) → length bs ≤ placeOf bs k → badSize bs k ≡ true
-  size-missing k h = simp (le-ltb (placeOf bs k) (length bs) h)
+  size-missing : (k : ℕ) → length bs ≤ outputAt bs k → badLength bs k ≡ true
+  size-missing k h = simp (le-ltb (outputAt bs k) (length bs) h)
 
   last-law : (k : ℕ) → k ≡ outputsOf bs → cond (leftOver bs) (Refused Leftover) Accepted ≡ reads k 0
   unfolding readOutputs
   last-law k h =
-      ap (λ (z : ℕ). cond {A = Outcome} (ltb (placeOf bs z) (length bs)) (Refused Leftover) Accepted) (sym h) ∙ go (ltb (placeOf bs k) (length bs)) refl
+      ap (λ (z : ℕ). cond {A = Outcome} (ltb (outputAt bs z) (length bs)) (Refused Leftover) Accepted) (sym h) ∙ go (ltb (outputAt bs k) (length bs)) refl
     where
-      go : (t : Bool) → ltb (placeOf bs k) (length bs) ≡ t → cond t (Refused Leftover) Accepted ≡ outputsNo (readOutputs (streams bs k) 0 (drop (placeOf bs k) bs))
-      go true q = rw (drop-cons bs (placeOf bs k) 0 (ltb-true _ _ q))
+      go : (t : Bool) → ltb (outputAt bs k) (length bs) ≡ t → cond t (Refused Leftover) Accepted ≡ outputsNo (readOutputs (streams bs k) 0 (drop (outputAt bs k) bs))
+      go true q = rw (drop-cons bs (outputAt bs k) 0 (ltb-true _ _ q))
       go false q = rw (drop-of-length-le bs (ltb-false _ _ q))
 
-  lined : (k r : ℕ) → from k (suc r) ≡ test Length (badSize bs k) ∷ (byteChecks bs k 0 (sizeOf bs k) ++ (test Values (badEnd bs k) ∷ from (suc k) r))
+  lined : (k r : ℕ) → from k (suc r) ≡ test Length (badLength bs k) ∷ (byteChecks bs k 0 (lengthAt bs k) ++ (test Values (badEnd bs k) ∷ from (suc k) r))
   unfolding outputChecks
-  lined k r = ap (λ (z : List Check). test Length (badSize bs k) ∷ z) (append-assoc (byteChecks bs k 0 (sizeOf bs k)) (test Values (badEnd bs k) ∷ outputChecks bs (suc k) r) (test Leftover (leftOver bs) ∷ []))
+  lined k r = ap (λ (z : List Check). test Length (badLength bs k) ∷ z) (append-assoc (byteChecks bs k 0 (lengthAt bs k)) (test Values (badEnd bs k) ∷ outputChecks bs (suc k) r) (test Leftover (leftOver bs) ∷ []))
 
-  next-law : (k r : ℕ) → Decided (from (suc k) r) (reads (suc k) r) → (t : Bool) → ltb (placeOf bs k) (length bs) ≡ t
-      → Decided (test Length (badSize bs k) ∷ (byteChecks bs k 0 (sizeOf bs k) ++ (test Values (badEnd bs k) ∷ from (suc k) r))) (reads k (suc r))
+  next-law : (k r : ℕ) → Decided (from (suc k) r) (reads (suc k) r) → (t : Bool) → ltb (outputAt bs k) (length bs) ≡ t
+      → Decided (test Length (badLength bs k) ∷ (byteChecks bs k 0 (lengthAt bs k) ++ (test Values (badEnd bs k) ∷ from (suc k) r))) (reads k (suc r))
   unfolding readOutputs
   next-law k r rec true q =
-      let lt : placeOf bs k < length bs = ltb-true _ _ q in
-      let cut : drop (placeOf bs k) bs ≡ sizeOf bs k ∷ drop (placeOf bs k + 1) bs = drop-cons bs (placeOf bs k) 0 lt ∙ ap (λ (n : ℕ). sizeOf bs k ∷ drop n bs) (sym (add-one (placeOf bs k))) in
-      rw cut (one-law k r rec lt (lengthOk (sizeOf bs k) (drop (placeOf bs k + 1) bs)) refl)
+      let lt : outputAt bs k < length bs = ltb-true _ _ q in
+      let cut : drop (outputAt bs k) bs ≡ lengthAt bs k ∷ drop (outputAt bs k + 1) bs = drop-cons bs (outputAt bs k) 0 lt ∙ ap (λ (n : ℕ). lengthAt bs k ∷ drop n bs) (sym (add-one (outputAt bs k))) in
+      rw cut (one-law k r rec lt (lengthOk (lengthAt bs k) (drop (outputAt bs k + 1) bs)) refl)
   next-law k r rec false q =
-      inl (size-missing k (ltb-false (placeOf bs k) (length bs) q), rw (drop-of-length-le bs (ltb-false (placeOf bs k) (length bs) q)))
+      inl (size-missing k (ltb-false (outputAt bs k) (length bs) q), rw (drop-of-length-le bs (ltb-false (outputAt bs k) (length bs) q)))
 
   outputs-law : (r k : ℕ) → k + r ≡ outputsOf bs → Decided (from k r) (reads k r)
   unfolding outputChecks
   outputs-law zero k h = by-test Leftover (leftOver bs) [] Accepted _ refl (last-law k (omega arith))
   outputs-law (suc r) k h =
       subst (λ (cs : List Check). Decided cs (reads k (suc r))) (sym (lined k r))
-      (next-law k r (outputs-law r (suc k) (omega arith)) (ltb (placeOf bs k) (length bs)) refl)
+      (next-law k r (outputs-law r (suc k) (omega arith)) (ltb (outputAt bs k) (length bs)) refl)
 
 -- the whole sheet
 
@@ -234,7 +234,7 @@ header-law bs cs false true true true false false f = inr (false≢true, inr (fa
 
 -- A sheet is refused by the first broken check in the order of the rules, and accepted where none is broken.
 pub reading-decided : ReadingDecided
-unfolding readSheet headerOf assumedAt readingChecks placeOf
+unfolding readSheet headerOf assumedAt readingChecks outputAt
 reading-decided bs =
     header-law bs (from bs 0 (outputsOf bs))
     (ltb (length bs) 8) (markOk bs) (eqb (versionOf bs) 1) (countsOk (inputsOf bs) (outputsOf bs)) (eqb (getD bs 7 0) 255) (ltb (getD bs 7 0) (outputsOf bs))

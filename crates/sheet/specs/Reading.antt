@@ -67,7 +67,7 @@ pub record Parses (s : ℕ) (e : List ℕ) : Type 0 where
 pub record Usable (x : Sheet) : Type 0 where
   pub ranges : Ranges (x .inputs) (x .outputs)
   pub below : Below (x .assumed) (x .outputs)
-  pub room : length (x .code) ≡ 448
+  pub code-size : length (x .code) ≡ 448
   pub sizes : length (x .len) ≡ 7
   pub small : (k : ℕ) → k < x .outputs → getD (x .len) k 0 ≤ 64
   pub parts : (k : ℕ) → k < x .outputs → Parses (x .inputs + x .outputs) (codeAt (x .code) (x .len) k)

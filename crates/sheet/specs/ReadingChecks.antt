@@ -21,16 +21,16 @@ abbrev pub outputsOf : List ℕ → ℕ
 outputsOf bs = getD bs 6 0
 
 -- where output k's length byte stands: after the header, and after the outputs before it
-unfoldable pub placeOf : List ℕ → ℕ → ℕ
-placeOf bs zero = 8
-placeOf bs (suc k) = placeOf bs k + 1 + getD bs (placeOf bs k) 0
+unfoldable pub outputAt : List ℕ → ℕ → ℕ
+outputAt bs zero = 8
+outputAt bs (suc k) = outputAt bs k + 1 + getD bs (outputAt bs k) 0
 
 -- output k's length byte, and its expression's bytes
-abbrev pub sizeOf : List ℕ → ℕ → ℕ
-sizeOf bs k = getD bs (placeOf bs k) 0
+abbrev pub lengthAt : List ℕ → ℕ → ℕ
+lengthAt bs k = getD bs (outputAt bs k) 0
 
 abbrev pub expressionOf : List ℕ → ℕ → List ℕ
-expressionOf bs k = take (sizeOf bs k) (drop (placeOf bs k + 1) bs)
+expressionOf bs k = take (lengthAt bs k) (drop (outputAt bs k + 1) bs)
 
 -- an operation that may stand in a sheet of s streams
 unfoldable pub known : ℕ → Op → Bool
@@ -56,10 +56,10 @@ heightFrom d [] = d
 heightFrom d (b ∷ bs) = heightFrom (d + 1 - needs (opOf b)) bs
 
 -- output k's length is missing, 0, over 64, or goes past the end
-abbrev pub badSize : List ℕ → ℕ → Bool
-badSize bs k =
-    not (ltb (placeOf bs k) (length bs)
-    && (leb 1 (sizeOf bs k) && (leb (sizeOf bs k) 64 && leb (placeOf bs k + 1 + sizeOf bs k) (length bs))))
+abbrev pub badLength : List ℕ → ℕ → Bool
+badLength bs k =
+    not (ltb (outputAt bs k) (length bs)
+    && (leb 1 (lengthAt bs k) && (leb (lengthAt bs k) 64 && leb (outputAt bs k + 1 + lengthAt bs k) (length bs))))
 
 -- byte i of output k's expression, as an operation
 abbrev pub opAt : List ℕ → ℕ → ℕ → Op
@@ -79,7 +79,7 @@ badEnd bs k = not (eqb (heightFrom 0 (expressionOf bs k)) 1)
 
 -- bytes are left over behind the last output
 abbrev pub leftOver : List ℕ → Bool
-leftOver bs = ltb (placeOf bs (outputsOf bs)) (length bs)
+leftOver bs = ltb (outputAt bs (outputsOf bs)) (length bs)
 
 -- the checks of output k's expression, from byte i on, r bytes: byte by byte 7 before 8
 unfoldable pub byteChecks : List ℕ → ℕ → ℕ → ℕ → List Check
@@ -90,7 +90,7 @@ byteChecks bs k i (suc r) = test Byte (badByte bs k i) ∷ (test Values (badValu
 unfoldable pub outputChecks : List ℕ → ℕ → ℕ → List Check
 outputChecks bs k zero = []
 outputChecks bs k (suc r) =
-    test Length (badSize bs k) ∷ (byteChecks bs k 0 (sizeOf bs k) ++ (test Values (badEnd bs k) ∷ outputChecks bs (suc k) r))
+    test Length (badLength bs k) ∷ (byteChecks bs k 0 (lengthAt bs k) ++ (test Values (badEnd bs k) ∷ outputChecks bs (suc k) r))
 
 -- rules 1 to 9 of a sheet, in their order
 unfoldable pub readingChecks : List ℕ → List Check

@@ -93,7 +93,7 @@ loaded-wrong n ns e =
 -- the record's slice has 30 numbers, and the answer's room for 16
 pub record Sizes (rec ans : List ℕ) : Type 0 where
   pub thirty : length rec ≡ 30
-  pub room : 16 ≤ length ans
+  pub sixteen : 16 ≤ length ans
 
 pub right-sizes : (rec ans : List ℕ) → length rec ≡ 30 → 16 ≤ length ans → sized rec ans ≡ true
 right-sizes rec ans e h = simp (eq-eqb (length rec) 30 e, le-leb 16 (length ans) h)
@@ -104,5 +104,5 @@ sizes-tested rec ans r e h =
     let both : sized rec ans ≡ true = sym e ∙ not-false r h in
     record {
       thirty = eqb-true (length rec) 30 (and-split (eqb (length rec) 30) (leb 16 (length ans)) both .0);
-      room = leb-true 16 (length ans) (and-split (eqb (length rec) 30) (leb 16 (length ans)) both .1);
+      sixteen = leb-true 16 (length ans) (and-split (eqb (length rec) 30) (leb 16 (length ans)) both .1);
     }

@@ -63,14 +63,14 @@ fn tally_line(out: &mut [u8], at: usize, counts: &[u32], shares: &[u32], k: Outp
     ensures { λ r. ⌜ Wrote (now (out .entry)) at (tallyLine (countAt (now (counts .entry))) (now (shares .entry)) (k .0)) (now (out .exit)) r ⌝ }
     ensures { λ r. ⌜ r ≤ at + 59 ⌝ }
 {
-    let place = k.0 as usize;
-    let first = 4 * place;
+    let index = k.0 as usize;
+    let first = 4 * index;
     let output = output_number(out, at, k);
     let trues = spaced(out, output, counts[first]);
     let falses = spaced(out, trues, counts[first + 1]);
     let opens = spaced(out, falses, counts[first + 2]);
     let brokens = spaced(out, opens, counts[first + 3]);
-    let share = spaced(out, brokens, shares[place]);
+    let share = spaced(out, brokens, shares[index]);
     byte(out, share, b'\n')
 }
 
@@ -125,8 +125,8 @@ pub fn line_refusal(out: &mut [u8], at: usize, r: Refusal, line: u64) -> usize
 {
     let start = refused(out, at, r);
     let word = bytes(out, start, b" line ");
-    let place = decimal(out, word, line);
-    byte(out, place, b'\n')
+    let index = decimal(out, word, line);
+    byte(out, index, b'\n')
 }
 
 // `refused R sheet`: at most 10 + 6 + 1 bytes.

@@ -53,15 +53,15 @@ farthest-of mask next up came none =
 
 -- ---- one output that is read
 
-pub ahead-none : (mask other : ℕ) (up : Bool) (r : ℕ) → mask ≡ 0 → BehindAll mask other up r
-ahead-none mask other up r e = record { reads = λ o h b. absurd (true≢false (sym b ∙ ap (bit o) e ∙ bit-none o)) }
+pub behind-none : (mask other : ℕ) (up : Bool) (r : ℕ) → mask ≡ 0 → BehindAll mask other up r
+behind-none mask other up r e = record { reads = λ o h b. absurd (true≢false (sym b ∙ ap (bit o) e ∙ bit-none o)) }
 
-pub ahead-unbounded : (mask other : ℕ) (up : Bool) (r : ℕ) → 54 < r → BehindAll mask other up r
-ahead-unbounded mask other up r h =
+pub behind-unbounded : (mask other : ℕ) (up : Bool) (r : ℕ) → 54 < r → BehindAll mask other up r
+behind-unbounded mask other up r h =
     record { reads = λ o k b. record { bounded = λ l. absurd (omega arith); key = λ l. absurd (omega arith) } }
 
-pub ahead-of : (mask other : ℕ) (up : Bool) (far r : ℕ) → Farthest mask up far → other ≤ 54 → 8 * far + other < 8 + r → BehindAll mask other up r
-ahead-of mask other up far r f h k =
+pub behind-of : (mask other : ℕ) (up : Bool) (far r : ℕ) → Farthest mask up far → other ≤ 54 → 8 * far + other < 8 + r → BehindAll mask other up r
+behind-of mask other up far r f h k =
     record { reads = λ o l b. record { bounded = λ x. h; key = λ x. let g = f .reads o l b in omega arith } }
 
 behind-more : {up : Bool} {o other r x : ℕ} → Behind up o other r → r ≤ x → Behind up o other x

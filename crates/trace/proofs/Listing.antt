@@ -15,7 +15,7 @@ use Rattle.trace.specs.Order.{Bounded, inSweep, RoundIn, Due, Listed, Or
 pub record Listing (lead : List ℕ) (n i : ℕ) (outputs : List ℕ) (count : ℕ) : Type 0 where
   pub end : i ≤ 56
   pub few : count ≤ i
-  pub room : length outputs ≡ 56
+  pub size : length outputs ≡ 56
   pub below : (p : ℕ) → p < count → getD outputs p 0 < n
   pub bounded : (p : ℕ) → p < count → Bounded lead (getD outputs p 0)
   pub before : (p : ℕ) → p < count → 7 * (getD lead (getD outputs p 0) 0 % 8) + getD outputs p 0 < i
@@ -27,7 +27,7 @@ listing-start lead n outputs e =
     record {
       end = omega arith;
       few = omega arith;
-      room = e;
+      size = e;
       below = λ p h. absurd (omega arith);
       bounded = λ p h. absurd (omega arith);
       before = λ p h. absurd (omega arith);
@@ -39,7 +39,7 @@ module _ (lead : List ℕ) (n i : ℕ) (outputs : List ℕ) (count : ℕ) (n-le 
   pub listing-end : 56 ≤ i → Ordered lead n outputs count
   listing-end h =
       record {
-        room = omega (arith, l .few, l .end);
+        few = omega (arith, l .few, l .end);
         below = l .below;
         bounded = l .bounded;
         rising = l .rising;
@@ -53,7 +53,7 @@ module _ (lead : List ℕ) (n i : ℕ) (outputs : List ℕ) (count : ℕ) (n-le 
         record {
           end = omega arith;
           few = omega (arith, l .few);
-          room = l .room;
+          size = l .size;
           below = l .below;
           bounded = l .bounded;
           before = λ p h. omega (arith, l .before p h);
@@ -74,7 +74,7 @@ module _ (lead : List ℕ) (n i : ℕ) (outputs : List ℕ) (count : ℕ) (n-le 
 
       last : getD new count 0 ≡ i % 7
       unfolding new
-      last = getD-set-same outputs count (i % 7) 0 (omega (arith, l .few, l .room))
+      last = getD-set-same outputs count (i % 7) 0 (omega (arith, l .few, l .size))
 
       kept : (p : ℕ) → p < count → getD new p 0 ≡ getD outputs p 0
       unfolding new
@@ -83,7 +83,7 @@ module _ (lead : List ℕ) (n i : ℕ) (outputs : List ℕ) (count : ℕ) (n-le 
       -- a fact of the entries before and of the new one
       each : (P : ℕ → Type 0) → ((p : ℕ) → p < count → P (getD outputs p 0)) → P (i % 7) → (p : ℕ) → p < count + 1 → P (getD new p 0)
       unfolding new
-      each P f x = set-more (λ p s. P s) outputs count (i % 7) (omega (arith, l .few, l .room)) x f
+      each P f x = set-more (λ p s. P s) outputs count (i % 7) (omega (arith, l .few, l .size)) x f
 
       pub listing-push : Listing lead n (i + 1) (set outputs count (i % 7)) (count + 1)
       unfolding new
@@ -91,7 +91,7 @@ module _ (lead : List ℕ) (n i : ℕ) (outputs : List ℕ) (count : ℕ) (n-le 
           record {
             end = omega arith;
             few = omega (arith, l .few);
-            room = length-set outputs count (i % 7) ∙ l .room;
+            size = length-set outputs count (i % 7) ∙ l .size;
             below = each (λ s. s < n) (l .below) (due .below);
             bounded = each (λ s. Bounded lead s) (l .bounded) (due .bounded);
             before = each (λ s. 7 * (getD lead s 0 % 8) + s < i + 1) (λ p h. omega (arith, l .before p h)) (omega (arith, due .at));

@@ -36,7 +36,7 @@ pub setting-of : (x : Sheet) → Usable x → Setting (countsOf x) (x .code) (x 
 setting-of x u =
     record {
       outputs = u .ranges .outputs;
-      room = u .room;
+      code-size = u .code-size;
       sizes = u .sizes;
       small = u .small;
       parses = λ k h. u .parts k h .parses;

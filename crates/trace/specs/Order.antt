@@ -69,7 +69,7 @@ pub record Listed (outputs : List ℕ) (count s : ℕ) : Type 0 where
 
 -- the outputs with bounded leads, by the places of their keys in a block
 pub record Ordered (lead : List ℕ) (n : ℕ) (outputs : List ℕ) (count : ℕ) : Type 0 where
-  pub room : count ≤ 56
+  pub few : count ≤ 56
   pub below : (p : ℕ) → p < count → getD outputs p 0 < n
   pub bounded : (p : ℕ) → p < count → Bounded lead (getD outputs p 0)
   pub rising : (p r : ℕ) → p ≤ r → r < count → getD lead (getD outputs p 0) 0 % 8 ≤ getD lead (getD outputs r 0) 0 % 8

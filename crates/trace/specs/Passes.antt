@@ -38,7 +38,7 @@ sides counts code len letters = right (counts .inputs) (treeIn (streamsOf counts
 -- a sheet of so many inputs and outputs that was read
 pub record Setting (counts : Counts) (code len : List ℕ) : Type 0 where
   pub outputs : counts .outputs ≤ 7
-  pub room : length code ≡ 448
+  pub code-size : length code ≡ 448
   pub sizes : length len ≡ 7
   pub small : (k : ℕ) → k < counts .outputs → getD len k 0 ≤ 64
   pub parses : (k : ℕ) → k < counts .outputs → parse (streamsOf counts) [] (codeAt code len k) ≡ tree (treeIn (streamsOf counts) code len k)

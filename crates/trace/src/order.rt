@@ -25,7 +25,7 @@ fn farthest(mask: u8, up: bool) -> u8
 }
 
 // The least lead for reads of a mask, of an output with the lead `other`.
-fn ahead(mask: u8, other: u8, up: bool) -> u8
+fn behind(mask: u8, other: u8, up: bool) -> u8
     ensures { λ r. ⌜ BehindAll mask other up r ⌝ }
 {
     if mask == 0 {
@@ -60,7 +60,7 @@ fn raised(masks: &[u8; 49], old: &[u8; 7], n: usize, up: bool, settled: u8, s: u
     let mut q: usize = 0;
     while q < n {
         if !is_in(settled, q) {
-            lead = larger(lead, ahead(masks[7 * s + q], old[q], up));
+            lead = larger(lead, behind(masks[7 * s + q], old[q], up));
         }
         q += 1;
     }

@@ -22,7 +22,7 @@ is-circular-requires c κs =
     let after-enum-told = c .before .before .before .before .before in
     let after-read-sheet = after-enum-told .before .before in
     let u = rw (after-enum-told .enum-told .given .1) at (after-read-sheet .read-sheet .ensures .1 .0) in
-    (u .ranges .inputs, u .ranges .outputs, u .room, u .sizes, u .small)
+    (u .ranges .inputs, u .ranges .outputs, u .code-size, u .sizes, u .small)
 
 refused-sheet-requires : tie.Need-refused-sheet-requires
 refused-sheet-requires c κs = search needs

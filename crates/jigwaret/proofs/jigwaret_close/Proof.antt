@@ -87,7 +87,7 @@ cast-n c = omega (arith, few (c .before .before .before .before .before))
 put-verdicts-requires : tie.Need-put-verdicts-requires
 put-verdicts-requires c κs =
     let t = c .before .before .before .before .before .before .before in
-    (omega (arith, few t), omega (arith, few t, fits (c .before .before .before .before .before .before .before .before .before .before .before .before) .room))
+    (omega (arith, few t), omega (arith, few t, fits (c .before .before .before .before .before .before .before .before .before .before .before .before) .sixteen))
 
 slice-aggregate-put-numbers : tie.Need-slice-aggregate-put-numbers
 slice-aggregate-put-numbers c = search (needs, seven-shares (c .before .before .before .before .before .before .before .before .before .before .before .before .before .before .before))
@@ -101,8 +101,8 @@ put-numbers-requires c κs =
     let p = c .before .before .before .before .before .before .before .before .before .before .before .before .before .before .before in
     let n = outputsOf (now (a .sheet)) in
     let put = after-put-verdicts .put-verdicts in
-    let same = front-size n (now (a .answer)) (put .last .0) (verdictNumbers (p .close .result .verdicts) n) (omega (arith, few t, fits d .room)) (omega (arith, numbers-size (p .close .result .verdicts) n (omega (arith, few t, seven-verdicts t)))) (put .ensures) in
-    (omega (arith, few t, seven-shares p), omega (arith, few t, fits d .room, same))
+    let same = front-size n (now (a .answer)) (put .last .0) (verdictNumbers (p .close .result .verdicts) n) (omega (arith, few t, fits d .sixteen)) (omega (arith, numbers-size (p .close .result .verdicts) n (omega (arith, few t, seven-verdicts t)))) (put .ensures) in
+    (omega (arith, few t, seven-shares p), omega (arith, few t, fits d .sixteen, same))
 
 same-length : tie.Need-same-length
 same-length c = search needs

@@ -51,7 +51,7 @@ store-requires : tie.Need-store-requires
 store-requires c κs = fits (c .before .before .before .before .before .before .before) .thirty
 
 slice-write-answer : tie.Need-slice-write-answer
-slice-write-answer c = omega (arith, fits (c .before .before .before .before .before .before .before .before .before .before) .room)
+slice-write-answer c = omega (arith, fits (c .before .before .before .before .before .before .before .before .before .before) .sixteen)
 
 same-length : tie.Need-same-length
 same-length c = search needs
@@ -95,7 +95,7 @@ returns-3 c =
       answer = p .result;
       result = p .ensures;
       number = sym (ap outcomeNo e);
-      written = written (numbersOf (p .result .record)) (paste (now (a .answer)) 0 (p .result .live ∷ []) 1) z (p .result .outcome) e (c .before .before .store .ensures) (set-first (now (a .answer)) (p .result .live) (omega (arith, fits d .room)));
+      written = written (numbersOf (p .result .record)) (paste (now (a .answer)) 0 (p .result .live ∷ []) 1) z (p .result .outcome) e (c .before .before .store .ensures) (set-first (now (a .answer)) (p .result .live) (omega (arith, fits d .sixteen)));
     })
 
 pub jigwaret-prepare-spec : {M : Type 1} → statement M

@@ -82,7 +82,7 @@ cast-put-verdicts : tie.Need-cast-put-verdicts
 cast-put-verdicts c = omega (arith, few (c .before .before .before .before .before .before .before))
 
 put-verdicts-requires : tie.Need-put-verdicts-requires
-put-verdicts-requires c κs = (omega (arith, few (c .before .before .before .before .before .before .before)), omega (arith, few (c .before .before .before .before .before .before .before), fits (c .before .before .before .before .before .before .before .before .before .before .before .before .before .before .before) .room))
+put-verdicts-requires c κs = (omega (arith, few (c .before .before .before .before .before .before .before)), omega (arith, few (c .before .before .before .before .before .before .before), fits (c .before .before .before .before .before .before .before .before .before .before .before .before .before .before .before) .sixteen))
 
 same-length : tie.Need-same-length
 same-length c = search needs

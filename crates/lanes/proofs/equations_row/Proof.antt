@@ -2,7 +2,7 @@
 use Prim.Native.Nat.{_<_}
 use native.Mathlib.Omega.{arith}
 use borrow.Author.Needs.{needs}
-use Rattle.lanes.proofs.RowLaws.{room-two, room-four}
+use Rattle.lanes.proofs.RowLaws.{stack-two, stack-four}
 use Rattle.lanes.proofs.equations_row.Statement.{statement}
 use Rattle.lanes.proofs.equations_row.Tie as tie
 use Rattle.lanes.proofs.equations_row.Reads as reads
@@ -13,7 +13,7 @@ use Rattle.lanes.proofs.expression.two_equations.Reads as two-equations
 two-equations-requires : tie.Need-two-equations-requires
 two-equations-requires c κs =
     let q = c .before .before .before .before .before .before .before .pre in
-    (q .0, (q .1 .1, omega (arith, room-two _ (c .before .before .if1 .taken))))
+    (q .0, (q .1 .1, omega (arith, stack-two _ (c .before .before .if1 .taken))))
 
 same-length : tie.Need-same-length
 same-length c = search needs
@@ -28,7 +28,7 @@ four-equations-requires : tie.Need-four-equations-requires
 four-equations-requires c κs =
     let q = c .before .before .before .before .before .before .before .pre in
     let g : 2 < c .before .before .before .before .before .before .before .args .w = omega (arith, c .before .before .if1 .left) in
-    (q .0, (q .1 .1, omega (arith, room-four _ g)))
+    (q .0, (q .1 .1, omega (arith, stack-four _ g)))
 
 same-length-3 : tie.Need-same-length-3
 same-length-3 c = search needs

@@ -2,7 +2,7 @@
 use mathlib.Core.Path.{refl, sym}
 use native.Mathlib.Omega.{arith}
 use Rattle.effects.proofs.Rounding.{sheet-outputs}
-use Rattle.line_end.proofs.LineEnds.{refused-ends, closing-ends, room-least, over-bound}
+use Rattle.line_end.proofs.LineEnds.{refused-ends, closing-ends, bytes-least, over-bound}
 use borrow.Author.Needs.{needs}
 use Rattle.line_end.proofs.closing_line.Statement.{statement}
 use Rattle.line_end.proofs.closing_line.Tie as tie
@@ -20,7 +20,7 @@ enum-known-outcome : tie.Need-enum-known-outcome
 enum-known-outcome c = search needs
 
 refused-line-requires : tie.Need-refused-line-requires
-refused-line-requires c κs = omega (arith, room-least (c .before .before .before .before .before .before .before .args .journal .closed))
+refused-line-requires c κs = omega (arith, bytes-least (c .before .before .before .before .before .before .before .args .rec .closed))
 
 enum-told : tie.Need-enum-told
 enum-told c = search needs
@@ -54,7 +54,7 @@ returns c =
     let a = after-answer-closing .before .before .before .args in
     let f = c .before .before .refused-line .ensures in (
       λ sheet b part o sv l. refused-ends sheet _ b _ part _ _ _ _ _ _ _ _ l (rw (after-outcome .outcome .given .1) at (after-answer-closing .answer-closing .ensures .0 sheet b o sv)) (f .0) (f .2),
-      over-bound (r .over) (r .record .closed) (a .journal .closed) (a .at) (r .at) (f .0) (f .1),
+      over-bound (r .over) (r .record .closed) (a .rec .closed) (a .at) (r .at) (f .0) (f .1),
     )
 
 same-length-2 : tie.Need-same-length-2

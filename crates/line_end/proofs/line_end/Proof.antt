@@ -1,7 +1,7 @@
 -- `line_end::line_end` meets its contract.
 use native.Mathlib.Omega.{arith}
 use Rattle.line_scan.proofs.Standing.{dot-closing, spoiled-malformed}
-use Rattle.line_end.proofs.LineEnds.{malformed-ends, room-least, over-bound}
+use Rattle.line_end.proofs.LineEnds.{malformed-ends, bytes-least, over-bound}
 use borrow.Author.Needs.{needs}
 use Rattle.line_end.proofs.line_end.Statement.{statement}
 use Rattle.line_end.proofs.line_end.Tie as tie
@@ -27,7 +27,7 @@ enum-told-2 : tie.Need-enum-told-2
 enum-told-2 c = search needs
 
 malformed-line-requires : tie.Need-malformed-line-requires
-malformed-line-requires c κs = omega (arith, room-least (c .before .before .before .before .before .args .journal .closed))
+malformed-line-requires c κs = omega (arith, bytes-least (c .before .before .before .before .before .args .rec .closed))
 
 same-length : tie.Need-same-length
 same-length c = search needs
@@ -63,7 +63,7 @@ returns-3 c =
     let a = c .before .before .before .before .before .before .before .before .args in
     let f = c .before .before .malformed-line .ensures in (
       λ sheet b part o sv h. malformed-ends sheet _ b _ part _ _ _ _ _ _ _ sv (spoiled-malformed _ part (rw told at h)) (f .0) (f .2),
-      over-bound (r .over) (r .record .closed) (a .journal .closed) (a .at) (r .at) (f .0) (f .1),
+      over-bound (r .over) (r .record .closed) (a .rec .closed) (a .at) (r .at) (f .0) (f .1),
     )
 
 pub line-end-spec : {M : Type 1} → statement M

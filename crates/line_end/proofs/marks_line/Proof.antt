@@ -3,7 +3,7 @@ use mathlib.Core.Path.{refl}
 use native.Mathlib.Omega.{arith}
 use Rattle.text.proofs.WroteLaws.{wrote-none}
 use Rattle.line_scan.proofs.Standing.{marked-blank, marked-round, marked-short}
-use Rattle.line_end.proofs.LineEnds.{malformed-ends, blank-ends, room-least, over-bound}
+use Rattle.line_end.proofs.LineEnds.{malformed-ends, blank-ends, bytes-least, over-bound}
 use borrow.Author.Needs.{needs}
 use Rattle.line_end.proofs.marks_line.Statement.{statement}
 use Rattle.line_end.proofs.marks_line.Tie as tie
@@ -23,7 +23,7 @@ returns c = (
 )
 
 malformed-line-requires : tie.Need-malformed-line-requires
-malformed-line-requires c κs = omega (arith, room-least (c .before .before .before .before .before .before .args .journal .closed))
+malformed-line-requires c κs = omega (arith, bytes-least (c .before .before .before .before .before .before .args .rec .closed))
 
 same-length : tie.Need-same-length
 same-length c = search needs
@@ -34,7 +34,7 @@ returns-2 c =
     let a = c .before .before .before .before .before .before .before .before .before .args in
     let f = c .before .before .malformed-line .ensures in (
       λ sheet b part o sv h. malformed-ends sheet _ b _ part _ _ _ _ _ _ _ sv (marked-short _ part _ h (c .before .before .before .before .before .before .if1 .left) (c .before .before .before .before .if2 .taken)) (f .0) (f .2),
-      over-bound (r .over) (r .record .closed) (a .journal .closed) (a .at) (r .at) (f .0) (f .1),
+      over-bound (r .over) (r .record .closed) (a .rec .closed) (a .at) (r .at) (f .0) (f .1),
     )
 
 round-line-requires : tie.Need-round-line-requires

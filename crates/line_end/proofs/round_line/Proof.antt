@@ -1,7 +1,7 @@
 -- `line_end::round_line` meets its contract.
 use mathlib.Core.Path.{refl}
 use native.Mathlib.Omega.{arith}
-use Rattle.line_end.proofs.LineEnds.{refused-ends, round-ends, room-least, over-bound}
+use Rattle.line_end.proofs.LineEnds.{refused-ends, round-ends, bytes-least, over-bound}
 use borrow.Author.Needs.{needs}
 use Rattle.line_end.proofs.round_line.Statement.{statement}
 use Rattle.line_end.proofs.round_line.Tie as tie
@@ -19,7 +19,7 @@ enum-known-outcome : tie.Need-enum-known-outcome
 enum-known-outcome c = search needs
 
 refused-line-requires : tie.Need-refused-line-requires
-refused-line-requires c κs = omega (arith, room-least (c .before .before .before .before .before .before .before .before .before .before .args .journal .closed))
+refused-line-requires c κs = omega (arith, bytes-least (c .before .before .before .before .before .before .before .before .before .before .args .rec .closed))
 
 enum-told : tie.Need-enum-told
 enum-told c = search needs
@@ -47,7 +47,7 @@ returns c =
     let a = after-answer-round .before .before .before .before .args in
     let f = c .before .before .refused-line .ensures in (
       λ sheet b part o sv l. refused-ends sheet _ b _ part _ _ _ _ _ _ _ _ l (rw (after-outcome .outcome .given .1) at (after-answer-round .answer-round .ensures .0 sheet b o sv)) (f .0) (f .2),
-      over-bound (r .over) (r .record .closed) (a .journal .closed) (a .at) (r .at) (f .0) (f .1),
+      over-bound (r .over) (r .record .closed) (a .rec .closed) (a .at) (r .at) (f .0) (f .1),
     )
 
 same-length-3 : tie.Need-same-length-3

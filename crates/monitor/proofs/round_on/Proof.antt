@@ -34,7 +34,7 @@ round-requires c κs =
     let a = start .args in
     let d = rw (c .before .before .enum-told .given .1) at (c .before .before .before .before .check-round .ensures) in
     let y = round-ready (a .x .inputs) (a .x .outputs) (length (now (a .storage))) (a .r) (a .known) (a .value) d in
-    (start .pre .1 .usable, y .long, y .right, y .room)
+    (start .pre .1 .usable, y .long, y .right, y .rounds-left)
 
 returns : tie.Need-returns
 returns c =

@@ -2,7 +2,7 @@
 use mathlib.Core.Option.{some}
 use native.Mathlib.Omega.{arith}
 use borrow.Author.Needs.{needs}
-use Rattle.pairs.specs.Storage.{place, slot}
+use Rattle.pairs.specs.Storage.{wordOf, slot}
 use Rattle.pairs.proofs.Sets.{inserted}
 use Rattle.pairs.proofs.insert.Statement.{statement}
 use Rattle.pairs.proofs.insert.Tie as tie
@@ -35,7 +35,7 @@ same-length : tie.Need-same-length
 same-length c = search needs
 
 returns : tie.Need-returns
-unfolding place slot
+unfolding wordOf slot
 returns c = inserted _ _ _ (some (c .before .args .b)) (c .before .pre .0) (c .before .pre .1) (omega arith)
 
 pub insert-spec : {M : Type 1} → statement M

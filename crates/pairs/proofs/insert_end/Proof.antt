@@ -2,7 +2,7 @@
 use mathlib.Core.Option.{none}
 use native.Mathlib.Omega.{arith}
 use borrow.Author.Needs.{needs}
-use Rattle.pairs.specs.Storage.{place, slot}
+use Rattle.pairs.specs.Storage.{wordOf, slot}
 use Rattle.pairs.proofs.Sets.{inserted}
 use Rattle.pairs.proofs.insert_end.Statement.{statement}
 use Rattle.pairs.proofs.insert_end.Tie as tie
@@ -32,7 +32,7 @@ same-length : tie.Need-same-length
 same-length c = search needs
 
 returns : tie.Need-returns
-unfolding place slot
+unfolding wordOf slot
 returns c = inserted _ _ _ none (c .before .pre .0) tt (omega arith)
 
 pub insert-end-spec : {M : Type 1} → statement M

@@ -8,7 +8,7 @@ use Rattle.lola.specs.Equations.{holds}
 use Rattle.pairs.specs.Changes.{rowBit}
 use Rattle.lanes.specs.Around.{unless}
 use Rattle.lanes.specs.Coded.{sheetOf}
-use Rattle.lanes.proofs.RowLaws.{room-most}
+use Rattle.lanes.proofs.RowLaws.{stack-most}
 use Rattle.predecessors.proofs.Rows.{lanes-row}
 use Rattle.predecessors.proofs.Uniting.{united-old, united-as}
 use Rattle.predecessors.proofs.unite.Statement.{statement}
@@ -38,7 +38,7 @@ slice-aggregate-predecessors c = search needs
 predecessors-requires : tie.Need-predecessors-requires
 predecessors-requires c κs =
     let q = c .before .before .before .before .before .before .before .before .before .before .before .pre in
-    (q .0, (q .1 .0 .wide .most, refl, omega (arith, room-most (c .before .before .before .before .before .before .before .before .before .before .before .args .size .words))))
+    (q .0, (q .1 .0 .wide .most, refl, omega (arith, stack-most (c .before .before .before .before .before .before .before .before .before .before .before .args .size .words))))
 
 slice-aggregate-gain : tie.Need-slice-aggregate-gain
 slice-aggregate-gain c = search needs

@@ -8,8 +8,8 @@ use lib.Seq.{take-all}
 use borrow.Author.Needs.{needs}
 use denote.Ref.{now}
 use Rattle.claims.specs.Session.{held}
-use Rattle.line_end.specs.LineEnd.{room}
-use Rattle.protocol.proofs.Feeding.{Way, seen-more, wrote-more, byte-more, line-more, line-over, over-all, stands-over, stands-midway, room-most}
+use Rattle.line_end.specs.LineEnd.{mostBytes}
+use Rattle.protocol.proofs.Feeding.{Way, seen-more, wrote-more, byte-more, line-more, line-over, over-all, stands-over, stands-midway, bytes-most}
 use Rattle.protocol.proofs.feed.Statement.{statement}
 use Rattle.protocol.proofs.feed.Tie as tie
 use Rattle.protocol.proofs.feed.Reads as reads
@@ -20,7 +20,7 @@ use Rattle.line_scan.proofs.Pending.scan.Reads as scan-reads
 
 abbrev Inv-loop : tie.InvT-loop
 Inv-loop x storage₀ chunk out₀ m line₀ record₀ pending₀ at₀ i₀ storage out line «record» pending at i =
-    (i ≤ length chunk) × (m ≡ x .inputs) × (at + room («record» .closed) ≤ 462 + 8 * i) × (length out ≡ length out₀) × (length storage ≡ length storage₀)
+    (i ≤ length chunk) × (m ≡ x .inputs) × (at + mostBytes («record» .closed) ≤ 462 + 8 * i) × (length out ≡ length out₀) × (length storage ≡ length storage₀)
     × Way x line₀ pending₀ (held storage₀ record₀) line pending (held storage «record») (take i chunk) (take at out)
 
 abbrev μ-loop : tie.MeasureT-loop
@@ -30,7 +30,7 @@ returns : tie.Need-returns Inv-loop μ-loop
 returns c = (λ sheet seen wrote st. stands-over sheet _ _ _ seen wrote st _ (c .if1 .taken), omega arith)
 
 loop-holds : tie.Need-loop-holds Inv-loop μ-loop
-loop-holds c = (omega arith, refl, omega (arith, room-most (c .before .before .before .before .before .args .s .record .closed)), refl, refl, λ sheet seen wrote o m. rw (append-nil seen, append-nil wrote) m)
+loop-holds c = (omega arith, refl, omega (arith, bytes-most (c .before .before .before .before .before .args .s .record .closed)), refl, refl, λ sheet seen wrote o m. rw (append-nil seen, append-nil wrote) m)
 
 shared-slice-read-b : tie.Need-shared-slice-read-b Inv-loop μ-loop
 shared-slice-read-b c = search needs
@@ -85,7 +85,7 @@ returns-2 c =
           let le = e .ensures .0 sheet (m .book) (m .part) (st .accepts) (m .serves) (m .scanned) in
           record {
             accepts = st .accepts;
-            place = rw (wrote-more wrote _ _ (le .text) _ _ (le .wrote))
+            stage = rw (wrote-more wrote _ _ (le .text) _ _ (le .wrote))
                 (over-all sheet seen (now (start .args .chunk)) _ (l .i + 1)
                 (rw (seen-more seen (now (start .args .chunk)) (l .i) (tested .loop-test .taken)) (line-over sheet _ _ _ _ _ _ m _ _ _ _ _ le _ (after-if2 .if2 .left) (c .if3 .taken))));
           },
@@ -127,7 +127,7 @@ returns-3 c =
       λ sheet seen wrote st.
           record {
             accepts = st .accepts;
-            place = rw (take-all (l .i) (now (start .args .chunk)) (c .loop-test .left)) at (l .inv .5 sheet seen wrote (st .accepts) (stands-midway sheet _ _ _ seen wrote st (c .before .before .if1 .left)));
+            stage = rw (take-all (l .i) (now (start .args .chunk)) (c .loop-test .left)) at (l .inv .5 sheet seen wrote (st .accepts) (stands-midway sheet _ _ _ seen wrote st (c .before .before .if1 .left)));
           },
       omega (arith, l .inv .2, l .inv .3, l .inv .0, start .pre .1),
     )

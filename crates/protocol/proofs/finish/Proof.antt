@@ -5,7 +5,7 @@ use Prim.Native.Nat.{ℕ}
 use native.Mathlib.Omega.{arith}
 use borrow.Author.Needs.{needs}
 use Rattle.line_end.specs.Printed.{Printed}
-use Rattle.protocol.proofs.Feeding.{over-last, stands-midway, none-last, line-last, room-most}
+use Rattle.protocol.proofs.Feeding.{over-last, stands-midway, none-last, line-last, bytes-most}
 use Rattle.protocol.proofs.finish.Statement.{statement}
 use Rattle.protocol.proofs.finish.Tie as tie
 use Rattle.protocol.proofs.finish.Reads as reads
@@ -30,7 +30,7 @@ returns-2 c = (
 line-end-requires : tie.Need-line-end-requires
 line-end-requires c κs =
     let start = c .before .before .before .before .before .before .before .before in
-    (start .pre .0, omega (arith, room-most (start .args .s .record .closed), start .pre .1))
+    (start .pre .0, omega (arith, bytes-most (start .args .s .record .closed), start .pre .1))
 
 same-length : tie.Need-same-length
 same-length c = search needs
@@ -49,7 +49,7 @@ returns-3 c =
           let m = stands-midway sheet _ _ _ seen wrote st (after-if1 .if1 .left) in
           let le = e .ensures .0 sheet (m .book) (m .part) (st .accepts) (m .serves) (m .scanned) in
           subst (λ (z : List ℕ). Printed sheet seen (wrote ++ z)) (sym (le .wrote .text)) (line-last sheet _ _ _ _ seen wrote m _ _ _ _ _ le (after-is-blank .is-blank .ensures .1 (after-if2 .if2 .left) _ (m .part) (m .scanned))),
-      omega (arith, e .ensures .1, room-most (start .args .s .record .closed), start .pre .1),
+      omega (arith, e .ensures .1, bytes-most (start .args .s .record .closed), start .pre .1),
     )
 
 pub finish-spec : {M : Type 1} → statement M

@@ -60,7 +60,7 @@ returns-2 c =
     let bs = now (start .args .sheet) in
     let x = after-accept-sheet .accept-sheet .result .sheet in
     let p = c .before .before .before .prepare-on in
-    (rw e ((bs, acc), refl, record { accepts = acc; place = midway-start bs x _ _ acc (serves-prepared bs x acc _ _ (p .result) (start .pre .0) (p .ensures bs acc)) (after-empty .empty .ensures _) }), omega arith)
+    (rw e ((bs, acc), refl, record { accepts = acc; stage = midway-start bs x _ _ acc (serves-prepared bs x acc _ _ (p .result) (start .pre .0) (p .ensures bs acc)) (after-empty .empty .ensures _) }), omega arith)
 
 pub start-spec : {M : Type 1} → statement M
 start-spec =

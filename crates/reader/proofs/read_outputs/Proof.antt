@@ -61,7 +61,7 @@ put-requires c κs =
     let p = c .before .before .before .before .before .before .before in
     let a = p .before .before .before .before .args in
     let i = lies (now (a .s)) (a .streams) (a .n) (p .loop .len) (p .loop .code) (p .loop .at) (p .loop .k) (p .loop .inv) _ (sym (c .before .before .before .before .before .read-output .ensures) ∙ c .before .before .before .got .given .1) in
-    simp add-sub-cancel-left (omega (arith, i .size, i .short, p .loop .inv .held .room))
+    simp add-sub-cancel-left (omega (arith, i .size, i .short, p .loop .inv .held .code-size))
 
 enum-known-got-2 : tie.Need-enum-known-got-2 Inv-loop μ-loop
 enum-known-got-2 c = search needs
@@ -76,7 +76,7 @@ same-length-2 : tie.Need-same-length-2 Inv-loop μ-loop
 same-length-2 c =
     let turn = c .before .before .before .before .before in
     let start = turn .before .before .before .before in
-    turn .loop .inv .held .room ∙ sym (start .pre .3)
+    turn .loop .inv .held .code-size ∙ sym (start .pre .3)
 
 returns : tie.Need-returns Inv-loop μ-loop
 returns c =
@@ -103,7 +103,7 @@ same-length-3 : tie.Need-same-length-3 Inv-loop μ-loop
 same-length-3 c = c .before .before .loop .inv .held .sizes ∙ sym (c .before .before .before .before .before .before .pre .2)
 
 same-length-4 : tie.Need-same-length-4 Inv-loop μ-loop
-same-length-4 c = c .before .before .loop .inv .held .room ∙ sym (c .before .before .before .before .before .before .pre .3)
+same-length-4 c = c .before .before .loop .inv .held .code-size ∙ sym (c .before .before .before .before .before .before .pre .3)
 
 returns-2 : tie.Need-returns-2 Inv-loop μ-loop
 returns-2 c =
@@ -115,7 +115,7 @@ same-length-5 : tie.Need-same-length-5 Inv-loop μ-loop
 same-length-5 c = c .before .before .loop .inv .held .sizes ∙ sym (c .before .before .before .before .before .before .pre .2)
 
 same-length-6 : tie.Need-same-length-6 Inv-loop μ-loop
-same-length-6 c = c .before .before .loop .inv .held .room ∙ sym (c .before .before .before .before .before .before .pre .3)
+same-length-6 c = c .before .before .loop .inv .held .code-size ∙ sym (c .before .before .before .before .before .before .pre .3)
 
 returns-3 : tie.Need-returns-3 Inv-loop μ-loop
 returns-3 c =

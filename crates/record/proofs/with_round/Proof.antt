@@ -25,8 +25,8 @@ array-copy-out-told c = omega arith
 cast-t14 : tie.Need-cast-t14 Inv-loop μ-loop
 cast-t14 c = omega arith
 
-place-of-requires : tie.Need-place-of-requires Inv-loop μ-loop
-place-of-requires c κs = omega arith
+count-index-requires : tie.Need-count-index-requires Inv-loop μ-loop
+count-index-requires c κs = omega arith
 
 mul-counts : tie.Need-mul-counts Inv-loop μ-loop
 mul-counts c =
@@ -46,7 +46,7 @@ add-counts c =
     let v = toldAt (a .t3) (turn .loop .k) in
     let at = 4 * turn .loop .k + column v in
     let l = column-lt v in
-    rw (c .place-of .ensures)
+    rw (c .count-index .ensures)
     (omega (arith, turn .loop .inv .1 .beyond at (omega arith), countable (a .n) (a .r) (record-is (a .n) (a .r) (start .pre .1)) (start .pre .2) at (omega arith)))
 
 mul-counts-2 : tie.Need-mul-counts-2 Inv-loop μ-loop
@@ -70,7 +70,7 @@ loop-again c =
     let turn = c .before .before .before in
     let a = turn .before .before .args in
     let f : length (a .r .counts) ≡ 28 = search needs in
-    rw (c .place-of .ensures) (omega arith, counted-more (turn .loop .k) (a .t3) (a .r .counts) (turn .loop .counts) (omega (arith, f)) (turn .loop .inv .1))
+    rw (c .count-index .ensures) (omega arith, counted-more (turn .loop .k) (a .t3) (a .r .counts) (turn .loop .counts) (omega (arith, f)) (turn .loop .inv .1))
 
 add-t24 : tie.Need-add-t24 Inv-loop μ-loop
 add-t24 c = omega arith
@@ -90,7 +90,7 @@ with-round-spec =
     loop-holds
     array-copy-out-told
     cast-t14
-    place-of-requires
+    count-index-requires
     mul-counts
     array-read-counts
     add-counts

@@ -3,7 +3,7 @@ use mathlib.Core.Option.{none}
 use native.Mathlib.Omega.{arith}
 use borrow.Author.Needs.{needs}
 use Rattle.lanes.specs.Around.{unless}
-use Rattle.lanes.proofs.RowLaws.{room-most}
+use Rattle.lanes.proofs.RowLaws.{stack-most}
 use Rattle.rounds.proofs.bring_first.Statement.{statement}
 use Rattle.rounds.proofs.bring_first.Tie as tie
 use Rattle.rounds.proofs.bring_first.Reads as reads
@@ -21,7 +21,7 @@ bring-row-requires : tie.Need-bring-row-requires
 unfolding unless
 bring-row-requires c κs =
     let q = c .before .before .before .before .before .before .pre in
-    (q .0, (q .1 .0, room-most _, q .1 .1, omega arith, record { round = none; reads = c .before2 .ensures }))
+    (q .0, (q .1 .0, stack-most _, q .1 .1, omega arith, record { round = none; reads = c .before2 .ensures }))
 
 same-length : tie.Need-same-length
 same-length c = search needs

@@ -2,7 +2,7 @@
 use Prim.Native.Nat.{_<_, _≤_}
 use native.Mathlib.Omega.{arith}
 use borrow.Author.Needs.{needs}
-use Rattle.lanes.proofs.RowLaws.{room-two, room-four}
+use Rattle.lanes.proofs.RowLaws.{stack-two, stack-four}
 use Rattle.rounds.proofs.bring_pairs.Statement.{statement}
 use Rattle.rounds.proofs.bring_pairs.Tie as tie
 
@@ -14,7 +14,7 @@ bring-rows-requires c κs =
     let start = c .before .before .before .before .before .before .before .before in
     let a = start .args in
     let h : a .size .words ≤ 2 = omega (arith, start .pre .1 .0 .wide .count) in
-    (start .pre .0, (start .pre .1 .0, omega (arith, room-two _ h), start .pre .1 .1, start .pre .1 .2, start .pre .1 .3))
+    (start .pre .0, (start .pre .1 .0, omega (arith, stack-two _ h), start .pre .1 .1, start .pre .1 .2, start .pre .1 .3))
 
 same-length : tie.Need-same-length
 same-length c = search needs
@@ -30,7 +30,7 @@ bring-rows-requires-2 c κs =
     let start = c .before .before .before .before .before .before .before .before in
     let a = start .args in
     let h : 2 < a .size .words = omega (arith, start .pre .1 .0 .wide .count) in
-    (start .pre .0, (start .pre .1 .0, omega (arith, room-four _ h), start .pre .1 .1, start .pre .1 .2, start .pre .1 .3))
+    (start .pre .0, (start .pre .1 .0, omega (arith, stack-four _ h), start .pre .1 .1, start .pre .1 .2, start .pre .1 .3))
 
 same-length-2 : tie.Need-same-length-2
 same-length-2 c = search needs

@@ -37,7 +37,7 @@ seen-requires : tie.Need-seen-requires Inv-loop μ-loop
 seen-requires c κs =
     let q = c .before .before .before .before .before .before .before .before .pre .1 in
     let z = q .4 .reads in
-    (omega (arith, q .0 .most-valuations), omega (arith, z .place, z .beside .small))
+    (omega (arith, q .0 .most-valuations), omega (arith, z .shifted, z .beside .small))
 
 gain-row-requires : tie.Need-gain-row-requires Inv-loop μ-loop
 gain-row-requires c κs =

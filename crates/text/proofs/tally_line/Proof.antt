@@ -13,8 +13,8 @@ use Rattle.text.proofs.output_number.Reads as output-number-reads
 use Rattle.text.proofs.put.byte.Reads as byte-reads
 use Rattle.text.proofs.put.spaced.Reads as spaced-reads
 
-cast-place : tie.Need-cast-place
-cast-place c = search needs
+cast-index : tie.Need-cast-index
+cast-index c = search needs
 
 mul-first : tie.Need-mul-first
 mul-first c = search needs
@@ -114,7 +114,7 @@ pub tally-line-spec : {M : Type 1} → statement M
 tally-line-spec =
     tie.close
     (tie.spec
-    cast-place
+    cast-index
     mul-first
     output-number-requires
     mul-spaced

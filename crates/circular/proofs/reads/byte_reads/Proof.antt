@@ -4,7 +4,7 @@ use native.Mathlib.Omega.{arith}
 use borrow.Author.Needs.{needs}
 use Rattle.words.proofs.BitLaws.{bit-none}
 use Rattle.lola.specs.ByteReads.{opReads}
-use Rattle.circular.proofs.Masks.{op-low, place-le, read-word}
+use Rattle.circular.proofs.Masks.{op-low, offset-le, read-word}
 use Rattle.circular.proofs.reads.byte_reads.Statement.{statement}
 use Rattle.circular.proofs.reads.byte_reads.Tie as tie
 
@@ -28,14 +28,14 @@ add-result c =
     let after-op = c .before .before .before in
     let after-operation = after-op .before .before in
     let start = after-operation .before in
-    let low = rw (sym (after-operation .operation .ensures) ∙ after-op .op .given .1) at (op-low (start .args .byte)) in omega (arith, place-le (after-op .op .given .0 .1 .0), c .offset-number .ensures)
+    let low = rw (sym (after-operation .operation .ensures) ∙ after-op .op .given .1) at (op-low (start .args .byte)) in omega (arith, offset-le (after-op .op .given .0 .1 .0), c .offset-number .ensures)
 
 shl-result : tie.Need-shl-result
 shl-result c =
     let after-op = c .before .before .before in
     let after-operation = after-op .before .before in
     let start = after-operation .before in
-    let low = rw (sym (after-operation .operation .ensures) ∙ after-op .op .given .1) at (op-low (start .args .byte)) in omega (arith, place-le (after-op .op .given .0 .1 .0), c .offset-number .ensures)
+    let low = rw (sym (after-operation .operation .ensures) ∙ after-op .op .given .1) at (op-low (start .args .byte)) in omega (arith, offset-le (after-op .op .given .0 .1 .0), c .offset-number .ensures)
 
 enum-told : tie.Need-enum-told
 enum-told c = search needs

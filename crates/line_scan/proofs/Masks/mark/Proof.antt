@@ -6,8 +6,8 @@ use Rattle.line_scan.proofs.Masks.mark.Tie as tie
 use Rattle.line_scan.proofs.Masks.mark.Reads as reads
 use Rattle.line_scan.proofs.Masks.mark.Lts as lts
 
-shl-place : tie.Need-shl-place
-shl-place c = search needs
+shl-bit : tie.Need-shl-bit
+shl-bit c = search needs
 
 add-count : tie.Need-add-count
 add-count c = search needs
@@ -27,4 +27,4 @@ returns-4 c =
     λ m part l d h. no-mark m part _ (λ z. d) (mark-none _ (others .0 .0 .1) (others .0 .1) (others .1))
 
 pub mark-spec : {M : Type 1} → statement M
-mark-spec = tie.close (tie.spec shl-place add-count returns returns-2 returns-3 returns-4)
+mark-spec = tie.close (tie.spec shl-bit add-count returns returns-2 returns-3 returns-4)

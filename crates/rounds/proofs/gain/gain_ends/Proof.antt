@@ -53,7 +53,7 @@ enders-requires : tie.Need-enders-requires Inv-loop μ-loop
 enders-requires c κs =
     let q = c .before .before .before .before .before .before .before .before .before .before .pre in
     let z = q .1 .4 .reads in
-    (q .0, (q .1 .0 .wide .most, refl, q .1 .1, omega (arith, z .place, z .beside .small)))
+    (q .0, (q .1 .0 .wide .most, refl, q .1 .1, omega (arith, z .shifted, z .beside .small)))
 
 loop-holds : tie.Need-loop-holds Inv-loop μ-loop
 loop-holds c =

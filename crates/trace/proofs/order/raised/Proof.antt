@@ -25,20 +25,20 @@ loop-holds c = (omega arith, raised-none _ _ _ _ _ _)
 is-in-requires : tie.Need-is-in-requires Inv-loop μ-loop
 is-in-requires c κs = search needs
 
-mul-ahead : tie.Need-mul-ahead Inv-loop μ-loop
-mul-ahead c = search needs
+mul-behind : tie.Need-mul-behind Inv-loop μ-loop
+mul-behind c = search needs
 
-add-ahead : tie.Need-add-ahead Inv-loop μ-loop
-add-ahead c = search needs
+add-behind : tie.Need-add-behind Inv-loop μ-loop
+add-behind c = search needs
 
-element-copy-out-ahead : tie.Need-element-copy-out-ahead Inv-loop μ-loop
-element-copy-out-ahead c = search needs
+element-copy-out-behind : tie.Need-element-copy-out-behind Inv-loop μ-loop
+element-copy-out-behind c = search needs
 
-element-copy-out-ahead-2 : tie.Need-element-copy-out-ahead-2 Inv-loop μ-loop
-element-copy-out-ahead-2 c = search needs
+element-copy-out-behind-2 : tie.Need-element-copy-out-behind-2 Inv-loop μ-loop
+element-copy-out-behind-2 c = search needs
 
-ahead-requires : tie.Need-ahead-requires Inv-loop μ-loop
-ahead-requires c κs = search needs
+behind-requires : tie.Need-behind-requires Inv-loop μ-loop
+behind-requires c κs = search needs
 
 larger-requires : tie.Need-larger-requires Inv-loop μ-loop
 larger-requires c κs = search needs
@@ -74,11 +74,11 @@ raised-spec =
     element-copy-out-lead
     loop-holds
     is-in-requires
-    mul-ahead
-    add-ahead
-    element-copy-out-ahead
-    element-copy-out-ahead-2
-    ahead-requires
+    mul-behind
+    add-behind
+    element-copy-out-behind
+    element-copy-out-behind-2
+    behind-requires
     larger-requires
     add-q
     loop-less

@@ -32,7 +32,7 @@ part-value-bit-start c = search needs
 part-value-bit-end : tie.Need-part-value-bit-end
 part-value-bit-end c =
     let start = c .before .before .before .before .before .before .before in
-    omega (arith, start .pre .0 .small (start .args .s) (start .pre .2), start .pre .0 .outputs, start .pre .0 .room)
+    omega (arith, start .pre .0 .small (start .args .s) (start .pre .2), start .pre .0 .outputs, start .pre .0 .code-size)
 
 value-bit-requires : tie.Need-value-bit-requires
 value-bit-requires c κs =

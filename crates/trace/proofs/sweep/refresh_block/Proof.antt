@@ -26,7 +26,7 @@ mul-s : tie.Need-mul-s Inv-loop μ-loop
 mul-s c = search needs
 
 element-copy-out-s : tie.Need-element-copy-out-s Inv-loop μ-loop
-element-copy-out-s c = let start = c .before .before .before .before .before .before in omega (arith, start .pre .2 .room)
+element-copy-out-s c = let start = c .before .before .before .before .before .before in omega (arith, start .pre .2 .few)
 
 element-copy-out-round-in : tie.Need-element-copy-out-round-in Inv-loop μ-loop
 element-copy-out-round-in c = let start = c .before .before .before .before .before .before .before in omega (arith, start .pre .0 .outputs, start .pre .2 .below (c .before .before .loop .p) (omega arith))

@@ -1,11 +1,11 @@
--- `record::place_of` meets its contract.
+-- `record::count_index` meets its contract.
 use native.Mathlib.Omega.{arith}
 use borrow.Author.Needs.{needs}
 use Rattle.record.proofs.Tallies.{column-lt}
-use Rattle.record.proofs.place_of.Statement.{statement}
-use Rattle.record.proofs.place_of.Tie as tie
-use Rattle.record.proofs.place_of.Reads as reads
-use Rattle.record.proofs.place_of.Lts as lts
+use Rattle.record.proofs.count_index.Statement.{statement}
+use Rattle.record.proofs.count_index.Tie as tie
+use Rattle.record.proofs.count_index.Reads as reads
+use Rattle.record.proofs.count_index.Lts as lts
 use Rattle.record.proofs.column_of.Reads as column-of-reads
 
 cast-result : tie.Need-cast-result
@@ -23,5 +23,5 @@ add-result c = omega (arith, column-lt (c .before .before .args .verdict))
 returns : tie.Need-returns
 returns c = search needs
 
-pub place-of-spec : {M : Type 1} → statement M
-place-of-spec = tie.close (tie.spec cast-result mul-result column-of-requires add-result returns)
+pub count-index-spec : {M : Type 1} → statement M
+count-index-spec = tie.close (tie.spec cast-result mul-result column-of-requires add-result returns)

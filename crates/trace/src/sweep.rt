@@ -91,26 +91,33 @@ fn try_refresh(
     refresh(code, len, counts, letters, &mut buf[..], s, t);
 }
 
-// Refreshes the places of one block.
+// One block of a sweep, up or down, on a sheet with so many inputs and outputs, `count` of which have bounded leads.
+struct Block {
+    counts: Counts,
+    up: bool,
+    count: usize,
+    number: usize,
+}
+
+// Refreshes the places of a block.
 fn refresh_block(
     code: &[u8],
     len: &[usize],
-    counts: Counts,
     letters: &[u8],
     buf: &mut [u8],
     lead: &[u8; 7],
     outputs: &[usize; 56],
-    count: usize,
-    up: bool,
-    block: usize,
+    block: Block,
 )
-    requires { ⌜ Setting counts (now code) (now len) × RoundBytes counts (now letters) (now buf) × Ordered (now lead) (counts .outputs) (now outputs) count ⌝ }
-    ensures { λ r. ⌜ Sweeps (counts .outputs) (length (now (letters .entry))) (sides counts (now (code .entry)) (now (len .entry)) (now (letters .entry))) (now (lead .entry)) up (Done (now (lead .entry)) up (length (now (letters .entry))) (now (outputs .entry)) block 0) (Done (now (lead .entry)) up (length (now (letters .entry))) (now (outputs .entry)) block count) (now (buf .entry)) (now (buf .exit)) ⌝ }
+    requires { ⌜ Setting (block .counts) (now code) (now len) × RoundBytes (block .counts) (now letters) (now buf) × Ordered (now lead) (block .counts .outputs) (now outputs) (block .count) ⌝ }
+    ensures { λ r. ⌜ Sweeps (block .counts .outputs) (length (now (letters .entry))) (sides (block .counts) (now (code .entry)) (now (len .entry)) (now (letters .entry))) (now (lead .entry)) (block .up) (Done (now (lead .entry)) (block .up) (length (now (letters .entry))) (now (outputs .entry)) (block .number) 0) (Done (now (lead .entry)) (block .up) (length (now (letters .entry))) (now (outputs .entry)) (block .number) (block .count)) (now (buf .entry)) (now (buf .exit)) ⌝ }
 {
+    let counts = block.counts;
+    let count = block.count;
     let mut p: usize = 0;
     while p < count {
         let s = outputs[p];
-        let t = round_in(block, lead[s], letters.len(), up);
+        let t = round_in(block.number, lead[s], letters.len(), block.up);
         try_refresh(code, len, counts, letters, &mut buf[..], s, t);
         p += 1;
     }
@@ -136,41 +143,17 @@ fn sweep(
         return;
     }
     let end = letters.len() + 7;
-    let mut block: usize = 1;
-    while block < end {
-        refresh_block(
-            code,
-            len,
+    let mut number: usize = 1;
+    while number < end {
+        let block = Block {
             counts,
-            letters,
-            &mut buf[..],
-            lead,
-            &outputs,
-            count,
             up,
-            block,
-        );
-        block += 1;
+            count,
+            number,
+        };
+        refresh_block(code, len, letters, &mut buf[..], lead, &outputs, block);
+        number += 1;
     }
-}
-
-// A sweep over the outputs that aren't settled and whose leads are bounded; those that are settled then.
-fn settle_more(
-    code: &[u8],
-    len: &[usize],
-    counts: Counts,
-    letters: &[u8],
-    buf: &mut [u8],
-    masks: &[u8; 49],
-    up: bool,
-    settled: u8,
-) -> u8
-    requires { ⌜ Setting counts (now code) (now len) × RoundBytes counts (now letters) (now buf) ⌝ }
-    ensures { λ r. ⌜ Extends (counts .outputs) (length (now (letters .entry))) (sides counts (now (code .entry)) (now (len .entry)) (now (letters .entry))) (now (masks .entry)) (InSet settled) (InSet r) (now (buf .entry)) (now (buf .exit)) ⌝ }
-{
-    let lead = leads(masks, counts.outputs, up, settled);
-    sweep(code, len, counts, letters, &mut buf[..], &lead, up);
-    settle(&lead, settled)
 }
 
 // Sweeps up and down by turns, at most 14, until all outputs are settled; whether they are.
@@ -191,16 +174,10 @@ fn sweeps(
         if settled == ALL {
             return true;
         }
-        settled = settle_more(
-            code,
-            len,
-            counts,
-            letters,
-            &mut buf[..],
-            masks,
-            k % 2 == 0,
-            settled,
-        );
+        let up = k % 2 == 0;
+        let lead = leads(masks, counts.outputs, up, settled);
+        sweep(code, len, counts, letters, &mut buf[..], &lead, up);
+        settled = settle(&lead, settled);
         k += 1;
     }
     settled == ALL

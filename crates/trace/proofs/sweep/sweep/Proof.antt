@@ -11,12 +11,12 @@ use Rattle.trace.proofs.sweep.sweep.Statement.{statement}
 use Rattle.trace.proofs.sweep.sweep.Tie as tie
 
 abbrev Inv-loop : tie.InvT-loop
-Inv-loop code len counts letters buf₀ lead up outputs count end block₀ buf block =
-    (block ≤ end)
-    × Sweeps (counts .outputs) (length letters) (sides counts code len letters) lead up InSet (Done lead up (length letters) outputs block 0) buf₀ buf
+Inv-loop code len counts letters buf₀ lead up outputs count end number₀ buf number =
+    (number ≤ end)
+    × Sweeps (counts .outputs) (length letters) (sides counts code len letters) lead up InSet (Done lead up (length letters) outputs number 0) buf₀ buf
 
 abbrev μ-loop : tie.MeasureT-loop
-μ-loop code len counts letters buf₀ lead up outputs count end block₀ buf block = end - block
+μ-loop code len counts letters buf₀ lead up outputs count end number₀ buf number = end - number
 
 order-of-requires : tie.Need-order-of-requires Inv-loop μ-loop
 order-of-requires c κs = search needs
@@ -35,8 +35,8 @@ refresh-block-requires c κs =
     let start = c .before .before .before .before .before .before .before .before .before .before .before in
     (start .pre .0, bytes-kept (c .before .before .before .loop .inv .1 .kept) (start .pre .1), c .before .before .before .before .before .before .order-of .ensures)
 
-add-block : tie.Need-add-block Inv-loop μ-loop
-add-block c = search needs
+add-number : tie.Need-add-number Inv-loop μ-loop
+add-number c = search needs
 
 loop-less : tie.Need-loop-less Inv-loop μ-loop
 loop-less c = search needs
@@ -64,7 +64,7 @@ sweep-spec =
     add-end
     loop-holds
     refresh-block-requires
-    add-block
+    add-number
     loop-less
     loop-again
     same-length

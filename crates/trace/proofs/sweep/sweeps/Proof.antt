@@ -2,11 +2,12 @@
 use Prim.Native.Nat.{_-_, _≤_}
 use native.Mathlib.Omega.{arith}
 use lib.ListN.{length}
+use borrow.Author.Needs.{needs}
 use borrow.Author.Tests.{eqb-true}
 use Rattle.trace.specs.Order.{InSet}
 use Rattle.trace.specs.Passes.{Extends, sides}
 use Rattle.trace.proofs.Passes.{bytes-kept}
-use Rattle.trace.proofs.Sweeps.{extends-start, extends-then, extends-all}
+use Rattle.trace.proofs.Sweeps.{extends-start, extends-sweep, extends-then, extends-all}
 use Rattle.trace.proofs.sweep.sweeps.Statement.{statement}
 use Rattle.trace.proofs.sweep.sweeps.Tie as tie
 
@@ -25,8 +26,17 @@ same-length c = c .before .before .loop .inv .1 .kept .same-length
 returns : tie.Need-returns Inv-loop μ-loop
 returns c = let start = c .before .before .before .before .before .before .before in extends-all _ _ _ _ _ _ _ _ _ (start .pre .0 .outputs) (λ e. c .if1 .taken) (c .before .before .loop .inv .1)
 
-settle-more-requires : tie.Need-settle-more-requires Inv-loop μ-loop
-settle-more-requires c κs = let start = c .before .before .before .before .before .before .before .before in (start .pre .0, bytes-kept (c .before .before .before .loop .inv .1 .kept) (start .pre .1))
+leads-requires : tie.Need-leads-requires Inv-loop μ-loop
+leads-requires c κs = c .before .before .before .before .before .before .before .pre .0 .outputs
+
+sweep-requires : tie.Need-sweep-requires Inv-loop μ-loop
+sweep-requires c κs =
+    let turn = c .before .before .before .before .before in
+    let start = turn .before .before .before .before .before in
+    (start .pre .0, bytes-kept (turn .loop .inv .1 .kept) (start .pre .1))
+
+settle-requires : tie.Need-settle-requires Inv-loop μ-loop
+settle-requires c κs = search needs
 
 add-k : tie.Need-add-k Inv-loop μ-loop
 add-k c = omega arith
@@ -36,9 +46,13 @@ loop-less c = omega arith
 
 loop-again : tie.Need-loop-again Inv-loop μ-loop
 loop-again c =
-    let after-settle-more = c .before .before in
-    let turn = after-settle-more .before .before .before .before in
-    (omega arith, extends-then _ _ _ _ _ _ _ _ _ _ (turn .loop .inv .1) (after-settle-more .settle-more .ensures))
+    let after-sweep = c .before .before .before .before in
+    let after-leads = after-sweep .before .before .before in
+    let turn = after-leads .before .before .before in
+    let start = turn .before .before .before .before .before in
+    let a = start .args in
+    let more = extends-sweep _ _ (sides (a .counts) (a .code .now) (a .len .now) (a .letters .now)) _ _ _ _ _ _ _ (start .pre .0 .outputs) (after-leads .leads .ensures) (c .settle .ensures) (after-sweep .sweep .ensures) in
+    (omega arith, extends-then _ _ _ _ _ _ _ _ _ _ (turn .loop .inv .1) more)
 
 same-length-2 : tie.Need-same-length-2 Inv-loop μ-loop
 same-length-2 c = c .before .loop .inv .1 .kept .same-length
@@ -55,7 +69,9 @@ sweeps-spec =
     loop-holds
     same-length
     returns
-    settle-more-requires
+    leads-requires
+    sweep-requires
+    settle-requires
     add-k
     loop-less
     loop-again

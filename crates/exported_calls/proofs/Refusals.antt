@@ -1,0 +1,120 @@
+-- The first demand for callers in C and Rust: the entries' checks decide one outcome, and its number is what is returned.
+use mathlib.Core.Path.{_≡_, refl, sym, ap, _∙_}
+use mathlib.Core.Bool.{Bool, true, false}
+use mathlib.Core.List.{List, [], _∷_}
+use Prim.Native.Nat.{ℕ, _<_}
+use native.Mathlib.Omega.{arith}
+use lib.ListN.{length}
+use lib.Seq.{paste}
+use Rattle.outcomes.specs.Numbers.{outcomeNo}
+use Rattle.outcomes.specs.Decided.{Check, Decided}
+use Rattle.outcomes.specs.declared.Outcome.{Outcome}
+use Rattle.outcomes.specs.declared.Outcome.the-variants.{Accepted, Refused}
+use Rattle.outcomes.proofs.Decisions.{decided-once}
+use Rattle.sheet.specs.ReadingChecks.{outputsOf}
+use Rattle.circular.specs.SheetChecks.{sheetChecks}
+use Rattle.trace.specs.EvaluationChecks.{evaluationChecks}
+use Rattle.trace.specs.Evaluated.{Evaluated}
+use Rattle.checks.specs.JournalChecks.{prepareChecks, roundChecks, closingChecks}
+use Rattle.slices.specs.Slices.{recordOf, marked, numbersOf, verdictNumbers, sized}
+use Rattle.effects.specs.declared.PrepareAnswer.{PrepareAnswer}
+use Rattle.effects.specs.declared.RoundAnswer.{RoundAnswer}
+use Rattle.effects.specs.declared.ClosingAnswer.{ClosingAnswer}
+use Rattle.monitor.specs.Entries.{Prepares, Rounds}
+use Rattle.jigwaret.specs.Journal.{Slices, slices, SlicesAfter, markChecks, MarkRefused, ByMark, BySizes, PreparationNumbered, RoundNumbered, ClosingNumbered}
+use Rattle.exported_calls.specs.Refusals.{Untouched, ExportedRefusals}
+
+-- ---- one number
+
+-- two outcomes that the same checks decide have one number
+one-number : (cs : List Check) (o p : Outcome) (r q : ℕ) → Decided cs o → Decided cs p → r ≡ outcomeNo o → q ≡ outcomeNo p → r ≡ q
+one-number cs o p r q d e f g = f ∙ ap outcomeNo (decided-once cs o p d e) ∙ sym g
+
+-- by the sizes and by the mark, which are those of the slices handed over
+one-by-sizes : (b : Bool) (D E : Type 0) (s t u : List ℕ) (y z : Slices) (r q : ℕ) → (D → E → r ≡ q) → BySizes b D s t y r → BySizes b E s u z q → r ≡ q
+one-by-sizes true D E s t u y z r q f d e = f d e
+one-by-sizes false D E s t u y z r q f d e = d .0 ∙ sym (e .0)
+
+one-by-mark : (b : Bool) (D E X Y : Type 0) (r q : ℕ) → (D → E → r ≡ q) → (X → Y → r ≡ q) → ByMark b D X → ByMark b E Y → r ≡ q
+one-by-mark true D E X Y r q f g d e = f d e
+one-by-mark false D E X Y r q f g d e = g d e
+
+one-mark-refused : (bs s t u : List ℕ) (y z : Slices) (r q : ℕ) → MarkRefused bs s t y r → MarkRefused bs s u z q → r ≡ q
+one-mark-refused bs s t u y z r q d e = one-number (markChecks bs (length s)) (d .outcome) (e .outcome) r q (d .decided) (e .decided) (d .number) (e .number)
+
+-- ---- what a refusal leaves
+
+-- a number above 0 is a refusal's, which leaves the slices and what was lent
+buffer-left : (bs ls old new : List ℕ) (o : Outcome) (r : ℕ) → r ≡ outcomeNo o → 0 < r → Evaluated bs ls old new o → new ≡ old
+buffer-left bs ls old new Accepted r n h d = absurd (omega arith)
+buffer-left bs ls old new (Refused e) r n h d = d
+
+module _ (bs s t : List ℕ) (z : Slices) (r : ℕ) (h : 0 < r) where
+  abbrev n : ℕ
+  n = outputsOf bs
+
+  preparation-left : PreparationNumbered bs s t z r → Untouched s t z
+  preparation-left d = go (a .outcome) (d .number) (d .result .result) (d .written)
+    where
+      a : PrepareAnswer
+      a = d .answer
+
+      go : (o : Outcome) → r ≡ outcomeNo o → Prepares bs s t a o → SlicesAfter (numbersOf (a .record)) (paste (z .ans) 0 (a .live ∷ []) 1) z o → Untouched s t z
+      go Accepted k p w = absurd (omega arith)
+      go (Refused e) k p w = (p .0, w .0, w .1)
+
+  round-left : (known val : ℕ) → RoundNumbered bs s t known val z r → Untouched s t z
+  round-left known val d = go (a .outcome) (d .number) (d .result .result) (d .written)
+    where
+      a : RoundAnswer
+      a = d .answer
+
+      go : (o : Outcome) → r ≡ outcomeNo o → Rounds bs s t (recordOf (z .rec)) known val a o → SlicesAfter (numbersOf (a .record)) (paste (z .ans) 0 (verdictNumbers (a .verdicts) n) n) z o → Untouched s t z
+      go Accepted k p w = absurd (omega arith)
+      go (Refused e) k p w = (p .0, w .0, w .1)
+
+  closing-left : ClosingNumbered bs s z r → Untouched s s z
+  closing-left d = go (a .outcome) (d .number) (d .written)
+    where
+      a : ClosingAnswer
+      a = d .answer
+
+      go : (o : Outcome) → r ≡ outcomeNo o → SlicesAfter (numbersOf (a .record)) (paste (paste (z .ans) 0 (verdictNumbers (a .verdicts) n) n) n (a .shares) n) z o → Untouched s s z
+      go Accepted k w = absurd (omega arith)
+      go (Refused e) k w = (refl, w .0, w .1)
+
+-- by the sizes and by the mark
+left-by-sizes : (b : Bool) (D : Type 0) (s t : List ℕ) (z : Slices) (r : ℕ) → (D → Untouched s t z) → BySizes b D s t z r → Untouched s t z
+left-by-sizes true D s t z r f d = f d
+left-by-sizes false D s t z r f d = (d .1, d .2, d .3)
+
+left-by-mark : (b : Bool) (D : Type 0) (bs s t : List ℕ) (z : Slices) (r : ℕ) → (D → Untouched s t z) → ByMark b D (MarkRefused bs s t z r) → Untouched s t z
+left-by-mark true D bs s t z r f d = f d
+left-by-mark false D bs s t z r f d = d .kept
+
+-- ---- the demand
+
+pub exported-refusals : ExportedRefusals
+exported-refusals = record {
+  check = λ bs r q d e. one-number (sheetChecks bs) (d .outcome) (e .outcome) r q (d .decided) (e .decided) (d .number) (e .number);
+  evaluation = λ bs ls old new other r q d e.
+      one-number (evaluationChecks bs ls (length old)) (d .outcome) (e .outcome) r q (d .call .decided) (e .call .decided) (d .number) (e .number);
+  evaluation-refused = λ bs ls old new r d h. buffer-left bs ls old new (d .outcome) r (d .number) h (d .call .result);
+  preparation = λ bs s t u rec ans rec₁ ans₁ rec₂ ans₂ r q.
+      one-by-sizes (sized rec ans) _ _ s t u (slices rec rec₁ ans ans₁) (slices rec rec₂ ans ans₂) r q
+      (λ d e. one-number (prepareChecks bs (length s)) _ _ r q (d .result .decided) (e .result .decided) (d .number) (e .number));
+  preparation-refused = λ bs s t z r d h. left-by-sizes (sized (z .rec) (z .ans)) _ s t z r (preparation-left bs s t z r h) d;
+  round = λ bs s t u rec ans rec₁ ans₁ rec₂ ans₂ known val r q.
+      one-by-sizes (sized rec ans) _ _ s t u (slices rec rec₁ ans ans₁) (slices rec rec₂ ans ans₂) r q
+      (one-by-mark (marked rec) _ _ _ _ r q
+      (λ d e. one-number (roundChecks bs (length s) (recordOf rec) known val) _ _ r q (d .result .decided) (e .result .decided) (d .number) (e .number))
+      (one-mark-refused bs s t u _ _ r q));
+  round-refused = λ bs s t known val z r d h.
+      left-by-sizes (sized (z .rec) (z .ans)) _ s t z r (left-by-mark (marked (z .rec)) _ bs s t z r (round-left bs s t z r h known val)) d;
+  closing = λ bs s rec ans rec₁ ans₁ rec₂ ans₂ r q.
+      one-by-sizes (sized rec ans) _ _ s s s (slices rec rec₁ ans ans₁) (slices rec rec₂ ans ans₂) r q
+      (one-by-mark (marked rec) _ _ _ _ r q
+      (λ d e. one-number (closingChecks bs (length s) (recordOf rec)) _ _ r q (d .result .decided) (e .result .decided) (d .number) (e .number))
+      (one-mark-refused bs s s s _ _ r q));
+  closing-refused = λ bs s z r d h. left-by-sizes (sized (z .rec) (z .ans)) _ s s z r (left-by-mark (marked (z .rec)) _ bs s s z r (closing-left bs s s z r h)) d;
+}

@@ -2,9 +2,8 @@
 use mathlib.Core.Path.{_≡_, refl}
 use mathlib.Core.Bool.{Bool, true, false}
 use mathlib.Core.List.{[], _∷_}
-use Prim.Native.Nat.{ℕ, zero, suc, _<_, _≤_}
+use Prim.Native.Nat.{ℕ, _<_, _≤_}
 use native.Mathlib.Omega.{arith}
-use native.Mathlib.Decide.{decLt}
 use Rattle.outcomes.specs.Decided.{Decided}
 use Rattle.outcomes.specs.declared.Outcome.the-variants.{Accepted}
 use Rattle.outcomes.proofs.Decisions.{all-passed}
@@ -14,20 +13,6 @@ use Rattle.letters.specs.Masks.{badMasks}
 use Rattle.pairs.specs.Storage.{storageWords}
 use Rattle.checks.specs.JournalChecks.{tooShort, roundRules, closingRules}
 
-not-below : (a b : ℕ) → (a < b → ⊥) → b ≤ a
-not-below a b n = go (decLt a b)
-  where
-    go : Dec (a < b) → b ≤ a
-    go (yes h) = absurd (n h)
-    go (no h) = omega arith
-
-not-above : (a b : ℕ) → (b ≤ a → ⊥) → a < b
-not-above a b n = go (decLt a b)
-  where
-    go : Dec (a < b) → a < b
-    go (yes h) = h
-    go (no h) = absurd (n (omega arith))
-
 is-true : (t : Bool) → (t ≡ false → ⊥) → t ≡ true
 is-true true n = refl
 is-true false n = absurd (n refl)
@@ -36,12 +21,8 @@ is-false : (t : Bool) → (t ≡ true → ⊥) → t ≡ false
 is-false true n = absurd (n refl)
 is-false false n = refl
 
-nonzero : (t : ℕ) → (t ≡ 0 → ⊥) → 1 ≤ t
-nonzero zero h = absurd (h refl)
-nonzero (suc t) h = omega arith
-
 pub enough : (lent : ℕ) → Decided (tooShort lent ∷ []) Accepted → storageWords ≤ lent
-enough lent d = not-below lent storageWords (all-passed (tooShort lent ∷ []) d .0)
+enough lent d = omega (arith, all-passed (tooShort lent ∷ []) d .0)
 
 -- what an accepted round may take for granted
 pub record RoundReady (m n lent : ℕ) (r : JournalRecord) (known val : ℕ) : Type 0 where
@@ -55,11 +36,11 @@ pub round-ready : (m n lent : ℕ) (r : JournalRecord) (known val : ℕ) → Dec
 round-ready m n lent r known val d =
     let p = all-passed (roundRules m n lent r known val) d in
     record {
-      long = not-below lent storageWords (p .0);
+      long = omega (arith, p .0);
       right = is-true (recordOk n r) (p .1 .0);
       shut = is-false (r .closed) (p .1 .1 .0);
       masks = is-false (badMasks m known val) (p .1 .1 .1 .0);
-      rounds-left = not-above (r .rounds) maxRounds (p .1 .1 .1 .1 .0);
+      rounds-left = omega (arith, p .1 .1 .1 .1 .0);
     }
 
 -- and an accepted closing
@@ -72,4 +53,4 @@ pub record ClosingReady (n lent : ℕ) (r : JournalRecord) : Type 0 where
 pub closing-ready : (n lent : ℕ) (r : JournalRecord) → Decided (closingRules n lent r) Accepted → ClosingReady n lent r
 closing-ready n lent r d =
     let p = all-passed (closingRules n lent r) d in
-    record { long = not-below lent storageWords (p .0); right = is-true (recordOk n r) (p .1 .0); shut = is-false (r .closed) (p .1 .1 .0); some = nonzero (r .rounds) (p .1 .1 .1 .0) }
+    record { long = omega (arith, p .0); right = is-true (recordOk n r) (p .1 .0); shut = is-false (r .closed) (p .1 .1 .0); some = omega (arith, p .1 .1 .1 .0) }

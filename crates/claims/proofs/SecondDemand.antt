@@ -56,14 +56,8 @@ second-demand bs ls old new z =
     let both = passed-both (sheetChecks bs) (runChecks (inputsOf bs) ls (length old)) (z .decided) in
     let ran = all-passed (runChecks (inputsOf bs) ls (length old)) (both .1) in
     let letters : Letters (x .inputs) ls = rw (counts-of bs x e .0) (letters-in (inputsOf bs) ls (ran .1)) in
-    let long : length (take (length ls) new) ≡ length ls = length-take-le (length ls) new (omega (arith, w .same-length, enough (length ls) (length old) (λ h. ran .0 (inr (inr h))))) in
+    let fits : length old < length ls → ⊥ = λ h. ran .0 (inr (inr h)) in
+    let long : length (take (length ls) new) ≡ length ls = length-take-le (length ls) new (omega (arith, w .same-length, fits)) in
     let one = accepted-one-trace bs x (both .0) e ls letters in
     let t : TraceOf x ls (joined (x .inputs) ls (take (length ls) new)) = record { letters = joined-letters x ls (take (length ls) new) letters (omega (arith, long)); satisfies = w .satisfies } in
     (x, e, (t, λ vs h. one .only vs (joined (x .inputs) ls (take (length ls) new)) h t))
-  where
-    enough : (a b : ℕ) → (b < a → ⊥) → a ≤ b
-    enough a b n = go (decLt b a)
-      where
-        go : Dec (b < a) → a ≤ b
-        go (yes h) = absurd (n h)
-        go (no h) = omega arith

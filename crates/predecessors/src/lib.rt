@@ -15,7 +15,7 @@ ghost use Rattle.pairs.specs.Storage.{stored, scratchAt, storageWords};
 ghost use Rattle.pairs.specs.Changes.{rowBit};
 ghost use Rattle.lola.specs.Equations.{holds};
 ghost use Rattle.lanes.specs.Around.{unless};
-ghost use Rattle.lanes.specs.Coded.{Coded, sheetOf};
+ghost use Rattle.predecessors.specs.BySize.{CodedBy, sheetBy};
 ghost use Rattle.predecessors.specs.Rows.{meets, Row, United};
 use sheet::Assumed;
 use words::Size;
@@ -24,7 +24,7 @@ use words::Size;
 fn allowed_word(size: Size, assumed: Assumed, j: usize) -> u64
     requires { ⌜ Sized size × (j < size .words) ⌝ }
     requires { ⌜ Below assumed (size .outputs) ⌝ }
-    ensures { λ r. ⌜ ((code len : List ℕ) (i : ℕ) → i < 64 → bit i r ≡ allowed (sheetOf (size .inputs) (size .outputs) code len (requiredOf assumed)) (64 * j + i)) ⌝ }
+    ensures { λ r. ⌜ ((code len : List ℕ) (i : ℕ) → i < 64 → bit i r ≡ allowed (sheetBy size code len (requiredOf assumed)) (64 * j + i)) ⌝ }
 {
     let m = size.inputs;
     let low = words::lanes_below(size.valuations, j);
@@ -41,7 +41,7 @@ fn allowed_word(size: Size, assumed: Assumed, j: usize) -> u64
 pub fn fill_allowed(row: &mut [u64], size: Size, assumed: Assumed)
     requires { ⌜ Sized size × (length (now row) ≡ 4) ⌝ }
     requires { ⌜ Below assumed (size .outputs) ⌝ }
-    ensures { λ r. ⌜ ((code len : List ℕ) → Row (size .words) (now (row .exit)) (allowed (sheetOf (size .inputs) (size .outputs) code len (requiredOf assumed)))) ⌝ }
+    ensures { λ r. ⌜ ((code len : List ℕ) → Row (size .words) (now (row .exit)) (allowed (sheetBy size code len (requiredOf assumed)))) ⌝ }
 {
     let w = size.words;
     let mut j: usize = 0;
@@ -78,7 +78,14 @@ fn gain(row: &mut [u64], ok: &[u64], x: &[u64], w: usize)
     }
 }
 
-// The row gains the a of ok that may stand before b and c or, where last, before b and the end.
+// A pair: b and c or, where last, b and the end.
+struct Pair {
+    pub b: usize,
+    pub last: bool,
+    pub c: usize,
+}
+
+// The row gains the a of ok that may stand before the pair.
 fn unite(
     row: &mut [u64],
     st: &mut [u64],
@@ -86,25 +93,30 @@ fn unite(
     code: &[u8],
     len: &[usize],
     size: Size,
-    b: usize,
-    last: bool,
-    c: usize,
+    pair: Pair,
 )
-    requires { ⌜ Coded (size .inputs) (size .outputs) (now code) (now len) ⌝ }
-    requires { ⌜ Sized size × (length (now row) ≡ 4) × (length (now ok) ≡ 4) × (256 ≤ length (now st)) × (b < 256) × (c < 256) ⌝ }
-    ensures { λ r. ⌜ ((ks : List ℕ) → United (size .words) (now (row .entry)) (now (row .exit)) (λ a. rowBit (now (ok .entry)) 0 a && holds (sheetOf (size .inputs) (size .outputs) (now (code .entry)) (now (len .entry)) ks) (some a) b (unless last c))) ⌝ }
+    requires { ⌜ CodedBy size (now code) (now len) ⌝ }
+    requires { ⌜ (length (now row) ≡ 4) × (length (now ok) ≡ 4) × (256 ≤ length (now st)) × (pair .b < 256) × (pair .c < 256) ⌝ }
+    ensures { λ r. ⌜ ((ks : List ℕ) → United (size .words) (now (row .entry)) (now (row .exit)) (λ a. rowBit (now (ok .entry)) 0 a && holds (sheetBy size (now (code .entry)) (now (len .entry)) ks) (some a) (pair .b) (unless (pair .last) (pair .c)))) ⌝ }
 {
     let w = size.words;
     if covers(row, ok, w) {
         return;
     }
-    let env = lanes::ahead(b, last, c);
+    let env = lanes::ahead(pair.b, pair.last, pair.c);
     let mut x = [0u64; 4];
-    lanes::predecessors(&mut x, st, code, len, size, env, b);
+    lanes::predecessors(&mut x, st, code, len, size, env, pair.b);
     gain(row, ok, &x, w);
 }
 
-// The same for each valuation of the layer's row b.
+// Row b of a layer, which has pairs of a sheet of that size.
+pub struct LayerRow {
+    pub size: Size,
+    pub layer: usize,
+    pub b: usize,
+}
+
+// The row gains the a of ok that may stand before b and a valuation of the layer's row.
 fn unite_valuations(
     row: &mut [u64],
     st: &mut [u64],
@@ -112,19 +124,22 @@ fn unite_valuations(
     s: &[u64],
     code: &[u8],
     len: &[usize],
-    size: Size,
-    layer: usize,
-    b: usize,
+    at: LayerRow,
 )
-    requires { ⌜ Coded (size .inputs) (size .outputs) (now code) (now len) ⌝ }
-    requires { ⌜ Sized size × (length (now row) ≡ 4) × (length (now ok) ≡ 4) × (256 ≤ length (now st)) × (b < 256) × (layer ≤ scratchAt) × (storageWords ≤ length (now s)) ⌝ }
-    ensures { λ r. ⌜ ((ks : List ℕ) → United (size .words) (now (row .entry)) (now (row .exit)) (λ a. rowBit (now (ok .entry)) 0 a && anyBelow (64 * size .words) (λ c. stored (now (s .entry)) layer b (some c) && holds (sheetOf (size .inputs) (size .outputs) (now (code .entry)) (now (len .entry)) ks) (some a) b (some c)))) ⌝ }
+    requires { ⌜ CodedBy (at .size) (now code) (now len) ⌝ }
+    requires { ⌜ (length (now row) ≡ 4) × (length (now ok) ≡ 4) × (256 ≤ length (now st)) × (at .b < 256) × (at .layer ≤ scratchAt) × (storageWords ≤ length (now s)) ⌝ }
+    ensures { λ r. ⌜ ((ks : List ℕ) → United (at .size .words) (now (row .entry)) (now (row .exit)) (λ a. rowBit (now (ok .entry)) 0 a && anyBelow (64 * at .size .words) (λ c. stored (now (s .entry)) (at .layer) (at .b) (some c) && holds (sheetBy (at .size) (now (code .entry)) (now (len .entry)) ks) (some a) (at .b) (some c)))) ⌝ }
 {
-    let w = size.words;
-    let mut c = pairs::next_member(s, layer, b, w, 0);
+    let w = at.size.words;
+    let mut c = pairs::next_member(s, at.layer, at.b, w, 0);
     while c < 64 * w {
-        unite(row, st, ok, code, len, size, b, false, c);
-        c = pairs::next_member(s, layer, b, w, c + 1);
+        let pair = Pair {
+            b: at.b,
+            last: false,
+            c: c,
+        };
+        unite(row, st, ok, code, len, at.size, pair);
+        c = pairs::next_member(s, at.layer, at.b, w, c + 1);
     }
 }
 
@@ -136,17 +151,20 @@ pub fn unite_row(
     s: &[u64],
     code: &[u8],
     len: &[usize],
-    size: Size,
-    layer: usize,
-    b: usize,
+    at: LayerRow,
 )
-    requires { ⌜ Coded (size .inputs) (size .outputs) (now code) (now len) ⌝ }
-    requires { ⌜ Sized size × (length (now row) ≡ 4) × (length (now ok) ≡ 4) × (256 ≤ length (now st)) × (b < 256) × (layer ≤ scratchAt) × (storageWords ≤ length (now s)) ⌝ }
-    ensures { λ r. ⌜ ((ks : List ℕ) → United (size .words) (now (row .entry)) (now (row .exit)) (λ a. rowBit (now (ok .entry)) 0 a && meets (sheetOf (size .inputs) (size .outputs) (now (code .entry)) (now (len .entry)) ks) (64 * size .words) (stored (now (s .entry)) layer) a b)) ⌝ }
+    requires { ⌜ CodedBy (at .size) (now code) (now len) ⌝ }
+    requires { ⌜ (length (now row) ≡ 4) × (length (now ok) ≡ 4) × (256 ≤ length (now st)) × (at .b < 256) × (at .layer ≤ scratchAt) × (storageWords ≤ length (now s)) ⌝ }
+    ensures { λ r. ⌜ ((ks : List ℕ) → United (at .size .words) (now (row .entry)) (now (row .exit)) (λ a. rowBit (now (ok .entry)) 0 a && meets (sheetBy (at .size) (now (code .entry)) (now (len .entry)) ks) (64 * at .size .words) (stored (now (s .entry)) (at .layer)) a (at .b))) ⌝ }
 {
-    unite_valuations(row, st, ok, s, code, len, size, layer, b);
-    if !pairs::has_end(s, layer, b) {
+    unite_valuations(row, st, ok, s, code, len, at);
+    if !pairs::has_end(s, at.layer, at.b) {
         return;
     }
-    unite(row, st, ok, code, len, size, b, true, 0);
+    let pair = Pair {
+        b: at.b,
+        last: true,
+        c: 0,
+    };
+    unite(row, st, ok, code, len, at.size, pair);
 }

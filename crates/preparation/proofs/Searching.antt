@@ -26,7 +26,7 @@ use Rattle.pairs.proofs.Sets.{framed-before, framed-beyond, zeroed-none, set-ex
 use Rattle.predecessors.specs.Rows.{Row}
 use Rattle.predecessors.proofs.Uniting.{empty-row}
 use Rattle.preparation.specs.Searched.{Searched, Reach}
-use Rattle.preparation.specs.Search.{joiners, enders, Joins, Occupied, Apart, Started, Swept}
+use Rattle.preparation.specs.Search.{joiners, enders, Joins, Empty, Occupied, Apart, Started, Swept}
 use Rattle.preparation.proofs.Layers.{fresh, joining-same, within-next, fresh-next, all-found, reach-is}
 use Rattle.preparation.proofs.Joining.{beyond-none}
 
@@ -62,7 +62,7 @@ rows-started w row s t hw p = record {
         go (no h) = ap (λ (u : Bool). u && rowBit row 0 x) (le-ltb x (64 * w) (omega arith))
 
 -- an empty set has no rows
-pub rows-none : (w base : ℕ) (s : List ℕ) → ((x : ℕ) (y : Option ℕ) → x < 256 → Within 256 y → stored s base x y ≡ false) → Occupied w (replicate 4 0) s base
+pub rows-none : (w base : ℕ) (s : List ℕ) → Empty s base → Occupied w (replicate 4 0) s base
 rows-none w base s f = record { none-there = λ x y hx hy h. f x y hx hy; some-there = λ x h e. contrary e (empty-row 4 x) }
 
 module _ (x : RuleSheet) (n v : ℕ) (hn : n ≤ 256) where
@@ -80,7 +80,7 @@ module _ (x : RuleSheet) (n v : ℕ) (hn : n ≤ 256) where
 pub record Searching (x : RuleSheet) (layer next : ℕ) (s₀ s : List ℕ) (d : ℕ) : Type 0 where
   pub frame : Framed liveAt storageWords s₀ s
   pub newest : (a : ℕ) (y : Option ℕ) → a < 256 → Within 256 y → stored s layer a y ≡ fresh x d a y
-  pub free : (a : ℕ) (y : Option ℕ) → a < 256 → Within 256 y → stored s next a y ≡ false
+  pub free : Empty s next
   pub grown : d ≤ countPairs 256 (live s)
   pub grows : (a : ℕ) (y : Option ℕ) → a < 256 → Within 256 y → stored s layer a y ≡ true → d < countPairs 256 (live s)
   pub last : (e : ℕ) → d ≡ suc e → (a : ℕ) × (b : Option ℕ) × T (fresh x e a b)
@@ -131,7 +131,7 @@ module _ (x : RuleSheet) (w : ℕ) (low : 2 ^ streams x ≤ 64 * w) where
     newest-now a y ha hy = q .gained a y ha hy ∙ ap₂ _||_ (p .free a y ha hy) (same a y ha hy) ∙ sym (fresh-next x small (64 * w) low high d a y ha hy)
 
     -- every row of the layer is taken out
-    free-now : (a : ℕ) (y : Option ℕ) → a < 256 → Within 256 y → stored t layer a y ≡ false
+    free-now : Empty t layer
     free-now a y ha hy = q .left a y ha hy ∙ go (decLt a (64 * w))
       where
         go : Dec (a < 64 * w) → (stored s layer a y && not (ltb a (64 * w))) ≡ false
@@ -172,13 +172,13 @@ apart-turned a b (inr h) = inl h
 -- ---- the end of the search
 
 -- the words of a set with no pair are 0
-words-none : (s : List ℕ) (base : ℕ) → ((k : ℕ) → getD s k 0 < 2 ^ 64) → ((a : ℕ) (y : Option ℕ) → a < 256 → Within 256 y → stored s base a y ≡ false) → (k : ℕ) → k < setWords → getD s (base + k) 0 ≡ 0
+words-none : (s : List ℕ) (base : ℕ) → ((k : ℕ) → getD s k 0 < 2 ^ 64) → Empty s base → (k : ℕ) → k < setWords → getD s (base + k) 0 ≡ 0
 unfolding stored
 words-none s base fit f k h = set-ext s [] base 0 (λ k h. fit (base + k)) (λ k h. omega arith) (λ a y ha hy. f a y ha hy ∙ sym (bit-none (slot a y))) k h
 
 module _ (x : RuleSheet) (small : 2 ^ streams x ≤ 256) (w layer next : ℕ) (s₀ s rows : List ℕ) (d k : ℕ) (p : Searching x layer next s₀ s d)
     (o : Occupied w rows s layer) (n : NextBit rows 0 w 0 k) (done : 64 * w ≤ k) (a₀ : ℕ) (ha₀ : a₀ < 256) (ok : allowed x a₀ ≡ true) where
-  gone : (a : ℕ) (b : Option ℕ) → a < 256 → Within 256 b → stored s layer a b ≡ false
+  gone : Empty s layer
   gone a b ha hb = o .none-there a b ha hb (λ h. n .skipped a (omega arith) (omega arith))
 
   empty : (a : ℕ) (b : Option ℕ) → a < 256 → Within 256 b → fresh x d a b ≡ false
@@ -211,7 +211,7 @@ module _ (x : RuleSheet) (small : 2 ^ streams x ≤ 256) (w layer next : ℕ) (s
   module _ (s₁ row : List ℕ) (r : ℕ) (places : Apart layer next) (low : (reachedAt ≤ layer) × (layer ≤ scratchAt) × (reachedAt ≤ next) × (next ≤ scratchAt)) (fit : (k : ℕ) → getD s k 0 < 2 ^ 64)
       (st : Started w row s₁ s₀) (c : r ≡ countPairs 256 (live s)) (bd : r ≤ maxPairs) where
     -- the two sets fill the words behind the live set
-    zero-now : (i base : ℕ) → base ≤ i → i < base + setWords → ((a : ℕ) (y : Option ℕ) → a < 256 → Within 256 y → stored s base a y ≡ false) → getD s i 0 ≡ 0
+    zero-now : (i base : ℕ) → base ≤ i → i < base + setWords → Empty s base → getD s i 0 ≡ 0
     zero-now i base h l f = let e : i ≡ base + (i - base) = omega arith in ap (λ (j : ℕ). getD s j 0) e ∙ words-none s base fit f (i - base) (omega arith)
 
     wiped : (i : ℕ) → reachedAt ≤ i → i < storageWords → Apart layer next → Dec (i < scratchAt) → getD s i 0 ≡ 0

@@ -11,7 +11,7 @@ use Rattle.words.specs.Bits.{bit}
 use Rattle.sheet.specs.RuleSheet.{RuleSheet}
 use Rattle.completions.specs.Live.{Pairs, allowed}
 use Rattle.completions.specs.Steps.{Within}
-use Rattle.pairs.specs.Storage.{stored, live, reached, scratch, setWords, liveAt, reachedAt, storageWords}
+use Rattle.pairs.specs.Storage.{stored, live, reached, setWords, liveAt, reachedAt, scratchAt, storageWords}
 use Rattle.pairs.specs.Changes.{Framed, rowBit}
 use Rattle.predecessors.specs.Rows.{meets}
 
@@ -51,6 +51,10 @@ pub record Joins (base : ℕ) (s t : List ℕ) (P : Pairs) : Type 0 where
   pub live : (x : ℕ) (y : Option ℕ) → x < 256 → Within 256 y → live t x y ≡ (live s x y || P x y)
   pub next : (x : ℕ) (y : Option ℕ) → x < 256 → Within 256 y → stored t base x y ≡ (stored s base x y || P x y)
 
+-- the set at `base` has no pair
+abbrev pub Empty : List ℕ → ℕ → Type 0
+Empty s base = (x : ℕ) (y : Option ℕ) → x < 256 → Within 256 y → stored s base x y ≡ false
+
 -- the rows of the set at `base` that have a pair are below 64 w, and they are the bits of the w words
 pub record Occupied (w : ℕ) (rows s : List ℕ) (base : ℕ) : Type 0 where
   pub none-there : (x : ℕ) (y : Option ℕ) → x < 256 → Within 256 y → (x < 64 * w → rowBit rows 0 x ≡ false) → stored s base x y ≡ false
@@ -65,7 +69,7 @@ pub record Started (w : ℕ) (row s t : List ℕ) : Type 0 where
   pub frame : Framed liveAt storageWords s t
   pub live : (x : ℕ) (y : Option ℕ) → x < 256 → Within 256 y → live t x y ≡ enders (64 * w) row x y
   pub layer : (x : ℕ) (y : Option ℕ) → x < 256 → Within 256 y → reached t x y ≡ enders (64 * w) row x y
-  pub next : (x : ℕ) (y : Option ℕ) → x < 256 → Within 256 y → scratch t x y ≡ false
+  pub next : Empty t scratchAt
 
 -- the layer's rows below v are taken out, and what may stand before their pairs is live and in the next layer
 pub record Swept (x : RuleSheet) (n v layer next : ℕ) (s t : List ℕ) : Type 0 where

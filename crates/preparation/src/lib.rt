@@ -6,16 +6,17 @@ ghost use mathlib.Core.Option.{none, some};
 ghost use lib.Dec.{eqb};
 ghost use lib.ListN.{length};
 ghost use Prim.Native.Nat.{ℕ, _*_, _<_, _≤_};
-ghost use Rattle.words.specs.Sizes.{Sized};
 ghost use Rattle.sheet.specs.RuleSheet.{requiredOf};
 ghost use Rattle.sheet.specs.Reading.{Below};
 ghost use Rattle.completions.specs.Live.{allowed};
 ghost use Rattle.pairs.specs.Storage.{stored, live, reachedAt, scratchAt, storageWords};
 ghost use Rattle.pairs.specs.Changes.{eqNext};
 ghost use Rattle.lanes.specs.Coded.{Coded, sheetOf};
+ghost use Rattle.predecessors.specs.BySize.{CodedBy, sheetBy};
 ghost use Rattle.predecessors.specs.Rows.{Row};
-ghost use Rattle.preparation.specs.Search.{joinersAt, newcomers, newcomersIn, enders, Joins, Occupied, Apart, Started, Swept};
+ghost use Rattle.preparation.specs.Search.{newcomers, newcomersIn, enders, Joins, Empty, Occupied, Apart, Started, Swept};
 ghost use Rattle.preparation.specs.Searched.{Searched, Reach};
+use predecessors::LayerRow;
 use sheet::Assumed;
 use words::Size;
 
@@ -81,57 +82,47 @@ fn join_ends(s: &mut [u64], row: &[u64], w: usize)
     }
 }
 
-// All new pairs before b.
-fn join_before(
-    s: &mut [u64],
-    rows: &mut [u64],
-    st: &mut [u64],
-    ok: &[u64],
-    code: &[u8],
-    len: &[usize],
-    size: Size,
-    layer: usize,
-    next: usize,
-    b: usize,
-)
-    requires { ⌜ Coded (size .inputs) (size .outputs) (now code) (now len) ⌝ }
-    requires { ⌜ Sized size × (length (now ok) ≡ 4) × (length (now rows) ≡ 4) × (256 ≤ length (now st)) × (b < 256) × (layer ≤ scratchAt) × (reachedAt ≤ next) × (next ≤ scratchAt) × (storageWords ≤ length (now s)) ⌝ }
-    ensures { λ r. ⌜ ((ks : List ℕ) → Row (size .words) (now (ok .entry)) (allowed (sheetOf (size .inputs) (size .outputs) (now (code .entry)) (now (len .entry)) ks)) → Joins next (now (s .entry)) (now (s .exit)) (joinersAt (sheetOf (size .inputs) (size .outputs) (now (code .entry)) (now (len .entry)) ks) (64 * size .words) b (live (now (s .entry))) (stored (now (s .entry)) layer))) ⌝ }
-    ensures { λ r. ⌜ (Occupied (size .words) (now (rows .entry)) (now (s .entry)) next → Occupied (size .words) (now (rows .exit)) (now (s .exit)) next) ⌝ }
-{
-    let w = size.words;
-    let mut row = [0u64; 4];
-    predecessors::unite_row(&mut row, st, ok, s, code, len, size, layer, b);
-    join_row(s, rows, &row, w, next, b);
+// A stage of the search over a sheet of that size: the places of the layer whose pairs are taken up, and of the next layer.
+struct Stage {
+    pub size: Size,
+    pub layer: usize,
+    pub next: usize,
 }
 
-// All new pairs before the pairs of the layer, whose rows are taken out.
+// All new pairs before the pairs of the layer join, and the layer's rows are taken out. Returns the next layer's rows.
 fn sweep(
     s: &mut [u64],
-    rows: &mut [u64],
     st: &mut [u64],
     occupied: &[u64],
     ok: &[u64],
     code: &[u8],
     len: &[usize],
-    size: Size,
-    layer: usize,
-    next: usize,
-)
-    requires { ⌜ Coded (size .inputs) (size .outputs) (now code) (now len) ⌝ }
-    requires { ⌜ Sized size × (length (now occupied) ≡ 4) × (length (now ok) ≡ 4) × (length (now rows) ≡ 4) × (256 ≤ length (now st)) × (storageWords ≤ length (now s)) ⌝ }
-    requires { ⌜ (reachedAt ≤ layer) × (layer ≤ scratchAt) × (reachedAt ≤ next) × (next ≤ scratchAt) × Apart layer next ⌝ }
-    requires { ⌜ Occupied (size .words) (now occupied) (now s) layer ⌝ }
-    ensures { λ r. ⌜ ((ks : List ℕ) → Row (size .words) (now (ok .entry)) (allowed (sheetOf (size .inputs) (size .outputs) (now (code .entry)) (now (len .entry)) ks)) → Swept (sheetOf (size .inputs) (size .outputs) (now (code .entry)) (now (len .entry)) ks) (64 * size .words) (64 * size .words) layer next (now (s .entry)) (now (s .exit))) ⌝ }
-    ensures { λ r. ⌜ (Occupied (size .words) (now (rows .entry)) (now (s .entry)) next → Occupied (size .words) (now (rows .exit)) (now (s .exit)) next) ⌝ }
+    stage: Stage,
+) -> [u64; 4]
+    requires { ⌜ CodedBy (stage .size) (now code) (now len) ⌝ }
+    requires { ⌜ (length (now occupied) ≡ 4) × (length (now ok) ≡ 4) × (256 ≤ length (now st)) × (storageWords ≤ length (now s)) ⌝ }
+    requires { ⌜ (reachedAt ≤ stage .layer) × (stage .layer ≤ scratchAt) × (reachedAt ≤ stage .next) × (stage .next ≤ scratchAt) × Apart (stage .layer) (stage .next) ⌝ }
+    requires { ⌜ Occupied (stage .size .words) (now occupied) (now s) (stage .layer) ⌝ }
+    ensures { λ r. ⌜ ((ks : List ℕ) → Row (stage .size .words) (now (ok .entry)) (allowed (sheetBy (stage .size) (now (code .entry)) (now (len .entry)) ks)) → Swept (sheetBy (stage .size) (now (code .entry)) (now (len .entry)) ks) (64 * stage .size .words) (64 * stage .size .words) (stage .layer) (stage .next) (now (s .entry)) (now (s .exit))) ⌝ }
+    ensures { λ r. ⌜ (Empty (now (s .entry)) (stage .next) → Occupied (stage .size .words) r (now (s .exit)) (stage .next)) ⌝ }
 {
+    let size = stage.size;
     let w = size.words;
+    let mut rows = [0u64; 4];
     let mut b = pairs::next_bit(occupied, 0, w, 0);
     while b < 64 * w {
-        join_before(s, rows, st, ok, code, len, size, layer, next, b);
-        pairs::take_row(s, layer, b);
+        let mut row = [0u64; 4];
+        let at = LayerRow {
+            size: size,
+            layer: stage.layer,
+            b: b,
+        };
+        predecessors::unite_row(&mut row, st, ok, s, code, len, at);
+        join_row(s, &mut rows, &row, w, stage.next, b);
+        pairs::take_row(s, stage.layer, b);
         b = pairs::next_bit(occupied, 0, w, b + 1);
     }
+    rows
 }
 
 // The ends of the row's valuations are live and the first layer; there is no other pair.
@@ -153,11 +144,10 @@ pub struct Found {
 
 // Leaves the live pairs of a sheet of that size in the live set, and the other two sets empty.
 fn search(s: &mut [u64], code: &[u8], len: &[usize], size: Size, assumed: Assumed) -> Found
-    requires { ⌜ Coded (size .inputs) (size .outputs) (now code) (now len) ⌝ }
-    requires { ⌜ Below assumed (size .outputs) ⌝ }
-    requires { ⌜ Sized size × (storageWords ≤ length (now s)) ⌝ }
-    ensures { λ r. ⌜ Searched (sheetOf (size .inputs) (size .outputs) (now (code .entry)) (now (len .entry)) (requiredOf assumed)) (now (s .entry)) (now (s .exit)) (r .live) ⌝ }
-    ensures { λ r. ⌜ Reach (sheetOf (size .inputs) (size .outputs) (now (code .entry)) (now (len .entry)) (requiredOf assumed)) (r .reach) × (r .reach < r .live) ⌝ }
+    requires { ⌜ CodedBy size (now code) (now len) ⌝ }
+    requires { ⌜ Below assumed (size .outputs) × (storageWords ≤ length (now s)) ⌝ }
+    ensures { λ r. ⌜ Searched (sheetBy size (now (code .entry)) (now (len .entry)) (requiredOf assumed)) (now (s .entry)) (now (s .exit)) (r .live) ⌝ }
+    ensures { λ r. ⌜ Reach (sheetBy size (now (code .entry)) (now (len .entry)) (requiredOf assumed)) (r .reach) × (r .reach < r .live) ⌝ }
 {
     let w = size.words;
     let mut st = [0u64; 256];
@@ -169,20 +159,12 @@ fn search(s: &mut [u64], code: &[u8], len: &[usize], size: Size, assumed: Assume
     let mut next: usize = pairs::SCRATCH;
     let mut layers: usize = 0;
     while pairs::next_bit(&occupied, 0, w, 0) < 64 * w {
-        let mut rows = [0u64; 4];
-        sweep(
-            s,
-            &mut rows,
-            &mut st,
-            &occupied,
-            &ok,
-            code,
-            len,
-            size,
-            layer,
-            next,
-        );
-        occupied = rows;
+        let stage = Stage {
+            size: size,
+            layer: layer,
+            next: next,
+        };
+        occupied = sweep(s, &mut st, &occupied, &ok, code, len, stage);
         let swept = layer;
         layer = next;
         next = swept;

@@ -7,14 +7,14 @@ use lib.ListN.{length-set, length}
 use borrow.Author.Needs.{needs}
 use Rattle.sheet.specs.RuleSheet.{requiredOf}
 use Rattle.completions.specs.Live.{allowed}
-use Rattle.lanes.specs.Coded.{sheetOf}
+use Rattle.predecessors.specs.BySize.{sheetBy}
 use Rattle.predecessors.proofs.Rows.{LanesTo, lanes-none, lanes-more, lanes-all}
 use Rattle.predecessors.proofs.fill_allowed.Statement.{statement}
 use Rattle.predecessors.proofs.fill_allowed.Tie as tie
 
 abbrev Inv-loop : tie.InvT-loop
 Inv-loop row₀ size assumed w j₀ row j =
-    (j ≤ w) × (length row ≡ length row₀) × ((code len : List ℕ) → LanesTo row₀ row (λ a u. allowed (sheetOf (size .inputs) (size .outputs) code len (requiredOf assumed)) a) j)
+    (j ≤ w) × (length row ≡ length row₀) × ((code len : List ℕ) → LanesTo row₀ row (λ a u. allowed (sheetBy size code len (requiredOf assumed)) a) j)
 
 abbrev μ-loop : tie.MeasureT-loop
 μ-loop row₀ size assumed w j₀ row j = w - j

@@ -7,8 +7,8 @@ use borrow.Author.Needs.{needs}
 use Rattle.lola.specs.Equations.{holds}
 use Rattle.pairs.specs.Changes.{rowBit}
 use Rattle.lanes.specs.Around.{unless}
-use Rattle.lanes.specs.Coded.{sheetOf}
 use Rattle.lanes.proofs.RowLaws.{stack-most}
+use Rattle.predecessors.specs.BySize.{sheetBy}
 use Rattle.predecessors.proofs.Rows.{lanes-row}
 use Rattle.predecessors.proofs.Uniting.{united-old, united-as}
 use Rattle.predecessors.proofs.unite.Statement.{statement}
@@ -38,7 +38,7 @@ slice-aggregate-predecessors c = search needs
 predecessors-requires : tie.Need-predecessors-requires
 predecessors-requires c κs =
     let q = c .before .before .before .before .before .before .before .before .before .before .before .pre in
-    (q .0, (q .1 .0 .wide .most, refl, omega (arith, stack-most (c .before .before .before .before .before .before .before .before .before .before .before .args .size .words))))
+    (q .0 .coded, (q .0 .sized .wide .most, refl, omega (arith, stack-most (c .before .before .before .before .before .before .before .before .before .before .before .args .size .words))))
 
 slice-aggregate-gain : tie.Need-slice-aggregate-gain
 slice-aggregate-gain c = search needs
@@ -60,7 +60,7 @@ returns-2 c =
     let q = after-ahead .before .before .before .before .before .before .before .before .before .args in
     united-as _ _ _ _ _ (c .before .before .gain .ensures)
     (λ a l. ap (λ (u : Bool). rowBit (q .ok .now) 0 a && u)
-    (lanes-row _ _ (λ a. holds (sheetOf (q .size .inputs) (q .size .outputs) (q .code .now) (q .len .now) ks) (some a) (q .b) (unless (q .last) (q .c))) (after-predecessors .predecessors .ensures _ (after-ahead .ahead .ensures) ks) a l))
+    (lanes-row _ _ (λ a. holds (sheetBy (q .size) (q .code .now) (q .len .now) ks) (some a) (q .pair .b) (unless (q .pair .last) (q .pair .c))) (after-predecessors .predecessors .ensures _ (after-ahead .ahead .ensures) ks) a l))
 
 pub unite-spec : {M : Type 1} → statement M
 unite-spec =

@@ -29,7 +29,7 @@ returns c = λ ks. united-no-end _ _ _ _ _ _ _ _ (sym (c .before .has-end .ensur
 unite-requires : tie.Need-unite-requires
 unite-requires c κs =
     let start = c .before .before .before .before .before .before .before .before .before .before .before .before .before .before .before .before .before in
-    (start .pre .0, (start .pre .1 .0, omega arith, start .pre .1 .2, omega arith, omega arith, omega arith))
+    (start .pre .0, (omega arith, start .pre .1 .1, omega arith, omega arith, omega arith))
 
 same-length-4 : tie.Need-same-length-4
 same-length-4 c = search needs

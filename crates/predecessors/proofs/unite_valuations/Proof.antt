@@ -6,18 +6,18 @@ use native.Mathlib.Omega.{arith}
 use lib.ListN.{length}
 use borrow.Author.Needs.{needs}
 use Rattle.lanes.specs.Around.{unless}
-use Rattle.lanes.specs.Coded.{sheetOf}
+use Rattle.predecessors.specs.BySize.{sheetBy}
 use Rattle.predecessors.proofs.Uniting.{Uniting, uniting-first, uniting-more, uniting-all}
 use Rattle.predecessors.proofs.unite_valuations.Statement.{statement}
 use Rattle.predecessors.proofs.unite_valuations.Tie as tie
 
 abbrev Inv-loop : tie.InvT-loop
-Inv-loop row₀ st₀ ok s code len size layer b w c₀ row st c =
+Inv-loop row₀ st₀ ok s code len at w c₀ row st c =
     (c ≤ 64 * w) × (length row ≡ length row₀) × (length st ≡ length st₀)
-    × ((ks : List ℕ) → Uniting (sheetOf (size .inputs) (size .outputs) code len ks) w ok s layer b row₀ row c)
+    × ((ks : List ℕ) → Uniting (sheetBy (at .size) code len ks) w ok s (at .layer) (at .b) row₀ row c)
 
 abbrev μ-loop : tie.MeasureT-loop
-μ-loop row₀ st₀ ok s code len size layer b w c₀ row st c = 64 * w - c
+μ-loop row₀ st₀ ok s code len at w c₀ row st c = 64 * w - c
 
 next-member-requires : tie.Need-next-member-requires Inv-loop μ-loop
 next-member-requires c κs = search needs
@@ -31,7 +31,7 @@ mul-loop c = search needs
 unite-requires : tie.Need-unite-requires Inv-loop μ-loop
 unite-requires c κs =
     let start = c .before .before .before .before .before .before .before .before .before .before .before in
-    (start .pre .0, (start .pre .1 .0, omega arith, start .pre .1 .2, omega arith, omega arith, omega arith))
+    (start .pre .0, (omega arith, start .pre .1 .1, omega arith, omega arith, omega arith))
 
 add-next-member : tie.Need-add-next-member Inv-loop μ-loop
 add-next-member c = search needs

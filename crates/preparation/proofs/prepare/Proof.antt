@@ -4,7 +4,8 @@ use borrow.Author.Needs.{needs}
 use Rattle.words.specs.declared.Size.{Size}
 use Rattle.sheet.specs.RuleSheet.{requiredOf}
 use Rattle.sheet.specs.Reading.{Below}
-use Rattle.lanes.specs.Coded.{Coded, sheetOf}
+use Rattle.lanes.specs.Coded.{Coded}
+use Rattle.predecessors.specs.BySize.{sheetBy}
 use Rattle.preparation.specs.Searched.{Searched, Reach}
 use Rattle.preparation.proofs.prepare.Statement.{statement}
 use Rattle.preparation.proofs.prepare.Tie as tie
@@ -17,8 +18,8 @@ search-requires c κs =
     let start = c .before .before .before .before .before in
     let a = start .args in
     let e = c .size-of .ensures .0 in (
-      subst (λ (z : Size). Coded (z .inputs) (z .outputs) (a .code .now) (a .len .now)) (sym e) (start .pre .0),
-      (subst (λ (z : Size). Below (a .assumed) (z .outputs)) (sym e) (start .pre .1 .0), (c .size-of .ensures .1, search needs)),
+      record { sized = c .size-of .ensures .1; coded = subst (λ (z : Size). Coded (z .inputs) (z .outputs) (a .code .now) (a .len .now)) (sym e) (start .pre .0) },
+      (subst (λ (z : Size). Below (a .assumed) (z .outputs)) (sym e) (start .pre .1 .0), search needs),
     )
 
 same-length : tie.Need-same-length
@@ -32,8 +33,8 @@ returns c =
     let e = after-size-of .size-of .ensures .0 in
     let r = after-search .search .ensures in
     let f = after-search .search .result in (
-      subst (λ (z : Size). Searched (sheetOf (z .inputs) (z .outputs) (a .code .now) (a .len .now) (requiredOf (a .assumed))) (a .s .now) (after-search .search .last .0) (f .live)) e (r .0),
-      (subst (λ (z : Size). Reach (sheetOf (z .inputs) (z .outputs) (a .code .now) (a .len .now) (requiredOf (a .assumed))) (f .reach)) e (r .1 .0), r .1 .1),
+      subst (λ (z : Size). Searched (sheetBy z (a .code .now) (a .len .now) (requiredOf (a .assumed))) (a .s .now) (after-search .search .last .0) (f .live)) e (r .0),
+      (subst (λ (z : Size). Reach (sheetBy z (a .code .now) (a .len .now) (requiredOf (a .assumed))) (f .reach)) e (r .1 .0), r .1 .1),
     )
 
 pub prepare-spec : {M : Type 1} → statement M

@@ -9,10 +9,10 @@ use borrow.Author.Needs.{needs}
 use Rattle.sheet.specs.RuleSheet.{requiredOf}
 use Rattle.completions.specs.Live.{allowed}
 use Rattle.pairs.specs.Storage.{reachedAt, scratchAt, storageWords, maxPairs}
-use Rattle.lanes.specs.Coded.{sheetOf}
+use Rattle.predecessors.specs.BySize.{sheetBy}
 use Rattle.predecessors.specs.Rows.{Row}
 use Rattle.preparation.specs.Search.{Occupied, Apart}
-use Rattle.preparation.proofs.Searching.{Searching, rows-started, rows-none, apart-turned}
+use Rattle.preparation.proofs.Searching.{Searching, rows-started, apart-turned}
 use Rattle.preparation.proofs.Preparing.{search-bound, search-begin, search-step, layers-some, search-finish}
 use Rattle.preparation.proofs.search.Statement.{statement}
 use Rattle.preparation.proofs.search.Tie as tie
@@ -21,7 +21,7 @@ abbrev Inv-loop : tie.InvT-loop
 Inv-loop s₀ code len size w st₀ ok occupied₀ layer₀ next₀ layers₀ s st occupied layer next layers =
     (size .valuations ≡ 2 ^ (size .inputs + size .outputs)) × (size .valuations ≤ 64 * w) × (w ≤ 4) × (length ok ≡ 4) × (length occupied ≡ 4) × (length st ≡ 256) × (storageWords ≤ length s) × (length s ≡ length s₀)
     × ((reachedAt ≤ layer) × (layer ≤ scratchAt) × (reachedAt ≤ next) × (next ≤ scratchAt)) × Apart layer next × ((k : ℕ) → getD s k 0 < 2 ^ 64) × Occupied w occupied s layer
-    × ((ks : List ℕ) → Row w ok (allowed (sheetOf (size .inputs) (size .outputs) code len ks)) → Searching (sheetOf (size .inputs) (size .outputs) code len ks) layer next s₀ s layers)
+    × ((ks : List ℕ) → Row w ok (allowed (sheetBy size code len ks)) → Searching (sheetBy size code len ks) layer next s₀ s layers)
 
 abbrev μ-loop : tie.MeasureT-loop
 μ-loop s₀ code len size w st₀ ok occupied₀ layer₀ next₀ layers₀ s st occupied layer next layers = suc maxPairs - layers
@@ -34,17 +34,17 @@ slice-aggregate-fill-allowed c = search needs
 fill-allowed-requires : tie.Need-fill-allowed-requires Inv-loop μ-loop
 fill-allowed-requires c κs =
     let q = c .before .before .before .before .pre in
-    ((q .1 .1 .0, search needs), q .1 .0)
+    ((q .0 .sized, search needs), q .1 .0)
 
 slice-aggregate-start : tie.Need-slice-aggregate-start Inv-loop μ-loop
 slice-aggregate-start c = search needs
 
 start-requires : tie.Need-start-requires Inv-loop μ-loop
-start-requires c κs = let z = c .before .before .before .before .before .before .before .before .pre .1 .1 .0 in (z .wide .most, search needs, search needs)
+start-requires c κs = let z = c .before .before .before .before .before .before .before .before .pre .0 .sized in (z .wide .most, search needs, search needs)
 
 loop-holds : tie.Need-loop-holds Inv-loop μ-loop
 loop-holds c =
-    let z = c .before .before .before .before .before .before .before .before .before .before .before .pre .1 .1 .0 in
+    let z = c .before .before .before .before .before .before .before .before .before .before .before .pre .0 .sized in
     let st = c .before .before .start .ensures in (
       z .power,
       z .wide .under,
@@ -79,51 +79,48 @@ slice-aggregate-sweep-2 c = search needs
 slice-aggregate-sweep-3 : tie.Need-slice-aggregate-sweep-3 Inv-loop μ-loop
 slice-aggregate-sweep-3 c = search needs
 
-slice-aggregate-sweep-4 : tie.Need-slice-aggregate-sweep-4 Inv-loop μ-loop
-slice-aggregate-sweep-4 c = search needs
-
 sweep-requires : tie.Need-sweep-requires Inv-loop μ-loop
 sweep-requires c κs =
-    let h = c .before .before .before .before .before .before .before .before in
+    let h = c .before .before .before .before .before .before .before in
     let i = h .loop .inv in
     let q = h .before .before .before .before .before .before .before .before .before .before .before .before .pre in
-    (q .0, ((q .1 .1 .0, i .4, i .3, search needs, omega arith, i .6), ((i .8 .0, i .8 .1, i .8 .2, i .8 .3, i .9), i .11)))
+    (q .0, ((i .4, i .3, omega arith, i .6), ((i .8 .0, i .8 .1, i .8 .2, i .8 .3, i .9), i .11)))
 
 add-layers : tie.Need-add-layers Inv-loop μ-loop
 add-layers c =
-    let h = c .before .before .before .before .before .before .before .before .before .before .before .before .before in
+    let h = c .before .before .before .before .before .before .before .before .before .before .before in
     let e = h .before .before .before .before .before .before .before .before .before .before .before .before in
-    omega (arith, search-bound _ _ _ _ (e .pre .0 .ranges .streams) _ _ _ _ _ _ (h .loop .inv .12 (requiredOf (e .args .assumed)) (h .before .before .before .before .before .before .before .fill-allowed .ensures _ _)))
+    omega (arith, search-bound _ _ _ _ (e .pre .0 .sized .streams) _ _ _ _ _ _ (h .loop .inv .12 (requiredOf (e .args .assumed)) (h .before .before .before .before .before .before .before .fill-allowed .ensures _ _)))
 
 loop-less : tie.Need-loop-less Inv-loop μ-loop
 loop-less c =
-    let h = c .before .before .before .before .before .before .before .before .before .before .before .before .before in
+    let h = c .before .before .before .before .before .before .before .before .before .before .before in
     let e = h .before .before .before .before .before .before .before .before .before .before .before .before in
-    omega (arith, search-bound _ _ _ _ (e .pre .0 .ranges .streams) _ _ _ _ _ _ (h .loop .inv .12 (requiredOf (e .args .assumed)) (h .before .before .before .before .before .before .before .fill-allowed .ensures _ _)))
+    omega (arith, search-bound _ _ _ _ (e .pre .0 .sized .streams) _ _ _ _ _ _ (h .loop .inv .12 (requiredOf (e .args .assumed)) (h .before .before .before .before .before .before .before .fill-allowed .ensures _ _)))
 
 loop-again : tie.Need-loop-again Inv-loop μ-loop
 loop-again c =
-    let after-if1 = c .before .before .before .before .before .before .before .before .before .before in
+    let after-if1 = c .before .before .before .before .before .before .before .before in
     let after-next-bit = after-if1 .before in
     let h = after-next-bit .before .before in
     let e = h .before .before .before .before .before .before .before .before .before .before .before .before in
     let i = h .loop .inv in
     let q = i .12 (requiredOf (e .args .assumed)) (h .before .before .before .before .before .before .before .fill-allowed .ensures _ _) in
-    let w = c .before .before .before .before .sweep .ensures in (
+    let w = c .before .before .before .sweep .ensures in (
       i .0,
       i .1,
       i .2,
       i .3,
-      omega arith,
+      search (needs, c .before .before .before .sweep .ok),
       omega arith,
       omega arith,
       omega arith,
       (i .8 .2, i .8 .3, i .8 .0, i .8 .1),
       apart-turned _ _ (i .9),
-      λ k. c .before .before .slice-known3 .given k .fits,
-      w .1 (rows-none _ _ _ (q .free)),
+      λ k. c .before .slice-known3 .given k .fits,
+      w .1 (q .free),
       λ ks r.
-          search-step _ _ _ _ (e .pre .0 .ranges .streams) _ _ (i .0) (i .1) (i .2) ks _ _ _ _ _ _ _ _ (i .12 ks r) (i .11) (after-next-bit .next-bit .ensures) (after-if1 .if1 .taken) (w .0 ks r),
+          search-step _ _ _ _ (e .pre .0 .sized .streams) _ _ (i .0) (i .1) (i .2) ks _ _ _ _ _ _ _ _ (i .12 ks r) (i .11) (after-next-bit .next-bit .ensures) (after-if1 .if1 .taken) (w .0 ks r),
     )
 
 count-requires : tie.Need-count-requires Inv-loop μ-loop
@@ -134,7 +131,7 @@ sub-reach c =
     let h = c .before .before .before .before .before in
     let e = h .before .before .before .before .before .before .before .before .before .before .before .before in
     let i = h .loop .inv in
-    layers-some _ _ _ _ (e .pre .0 .ranges .streams) (e .args .assumed) (e .pre .1 .0) _ _ _ _ _ _ _ _ (i .12 (requiredOf (e .args .assumed)) (h .before .before .before .before .before .before .before .fill-allowed .ensures _ _)) (i .11) (c .before .before .before .next-bit .ensures) (c .before .before .if1 .left)
+    layers-some _ _ _ _ (e .pre .0 .sized .streams) (e .args .assumed) (e .pre .1 .0) _ _ _ _ _ _ _ _ (i .12 (requiredOf (e .args .assumed)) (h .before .before .before .before .before .before .before .fill-allowed .ensures _ _)) (i .11) (c .before .before .before .next-bit .ensures) (c .before .before .if1 .left)
 
 same-length : tie.Need-same-length Inv-loop μ-loop
 same-length c = search needs
@@ -146,7 +143,7 @@ returns c =
     let i = h .loop .inv in
     let n = c .count .ensures in
     let f =
-    search-finish _ _ _ _ (e .pre .0 .ranges .streams) (e .args .assumed) (e .pre .1 .0) _ _ _ _ _ _ _ _ (i .12 (requiredOf (e .args .assumed)) (h .before .before .before .before .before .before .before .fill-allowed .ensures _ _)) (i .11)
+    search-finish _ _ _ _ (e .pre .0 .sized .streams) (e .args .assumed) (e .pre .1 .0) _ _ _ _ _ _ _ _ (i .12 (requiredOf (e .args .assumed)) (h .before .before .before .before .before .before .before .fill-allowed .ensures _ _)) (i .11)
     (c .before .before .before .next-bit .ensures) (c .before .before .if1 .left) _ _ _ (i .9) (i .8) (i .10) (h .before .before .before .start .ensures) (n .0) (n .1) in
     (f .0, (f .1, f .2))
 
@@ -167,7 +164,6 @@ search-spec =
     slice-aggregate-sweep
     slice-aggregate-sweep-2
     slice-aggregate-sweep-3
-    slice-aggregate-sweep-4
     sweep-requires
     add-layers
     loop-less

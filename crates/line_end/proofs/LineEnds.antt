@@ -9,11 +9,12 @@ use lib.Seq.{getD-take}
 use Rattle.outcomes.specs.declared.Refusal.{Refusal}
 use Rattle.outcomes.specs.declared.Refusal.the-variants.{Closed, Line}
 use Rattle.outcomes.specs.declared.Verdict.{Verdict}
+use Rattle.buffer.specs.Wrote.{Wrote, Placed}
+use Rattle.buffer.proofs.PlacedLaws.{placed-wrote}
 use Rattle.sheet.specs.RuleSheet.{RuleSheet, outputs}
 use Rattle.record.specs.Record.{countAt}
 use Rattle.record.specs.declared.JournalRecord.{JournalRecord}
 use Rattle.text.specs.Text.{verdictLine, tallyLines, closingText, lineRefusal}
-use Rattle.text.specs.Wrote.{Wrote}
 use Rattle.text.proofs.TallyLaws.{tally-lines-same}
 use Rattle.claims.specs.Book.{Call, closing, refused, verdicts, closed, Book, counted}
 use Rattle.claims.specs.Session.{Held, held}
@@ -28,14 +29,14 @@ use Rattle.line_end.proofs.Serving.{serves-matches}
 module _ (sheet : List ℕ) (x : RuleSheet) (b : Book) (line : ℕ) (part d : List ℕ) (at : ℕ) (e t : List ℕ) (r : Ended) where
   -- the run is over
   pub refused-ends : (c : Call) (q : Refusal) (h : Held) → readLine (x .inputs) part ≡ calls c → Answered sheet x b c (refused q) h
-      → r .over ≡ true → Wrote d at (lineRefusal q line) e (r .at) → LineEnded sheet x b line part d at e t r
-  refused-ends c q h l a o w = record { text = lineRefusal q line; wrote = w; ends = rw o (λ ls. turnedDown l (a .step)) }
+      → r .over ≡ true → Placed d at (lineRefusal q line) e (r .at) → LineEnded sheet x b line part d at e t r
+  refused-ends c q h l a o w = record { text = lineRefusal q line; wrote = placed-wrote w; ends = rw o (λ ls. turnedDown l (a .step)) }
 
   pub malformed-ends : (j : JournalRecord) (s : List ℕ) → Serves sheet x b (held s j) → readLine (x .inputs) part ≡ malformed
-      → r .over ≡ true → Wrote d at (lineRefusal (cond (j .closed) Closed Line) line) e (r .at) → LineEnded sheet x b line part d at e t r
+      → r .over ≡ true → Placed d at (lineRefusal (cond (j .closed) Closed Line) line) e (r .at) → LineEnded sheet x b line part d at e t r
   malformed-ends j s sv l o w =
       let m = serves-matches sheet x b (held s j) sv in
-      record { text = lineRefusal (malformedRule b) line; wrote = rw (m .shut) at w; ends = rw o (λ ls. unread l) }
+      record { text = lineRefusal (malformedRule b) line; wrote = rw (m .shut) at (placed-wrote w); ends = rw o (λ ls. unread l) }
 
   -- it goes on
   module _ (o : r .over ≡ false) (n : r .line ≡ nextLine line) where
@@ -43,12 +44,12 @@ module _ (sheet : List ℕ) (x : RuleSheet) (b : Book) (line : ℕ) (part d : Li
     blank-ends p sv w = record { text = []; wrote = w; ends = rw (o, n, p) (record { book = b; serves = sv; onward = λ ls u f. passed f }) }
 
     pub round-ends : (c : Call) (vs : List Verdict) → readLine (x .inputs) part ≡ calls c → Answered sheet x b c (verdicts vs) (held t (r .record))
-        → Wrote d at (verdictLine vs) e (r .at) → LineEnded sheet x b line part d at e t r
-    round-ends c vs l a w = record { text = verdictLine vs; wrote = w; ends = rw (o, n) (record { book = a .book; serves = a .serves; onward = λ ls u f. rounded l (a .step) f }) }
+        → Placed d at (verdictLine vs) e (r .at) → LineEnded sheet x b line part d at e t r
+    round-ends c vs l a w = record { text = verdictLine vs; wrote = placed-wrote w; ends = rw (o, n) (record { book = a .book; serves = a .serves; onward = λ ls u f. rounded l (a .step) f }) }
 
     pub closing-ends : (m : ℕ) (vs : List Verdict) (counts shares : List ℕ) → outputs x ≡ m → counts ≡ r .record .counts → readLine (x .inputs) part ≡ calls closing
         → Answered sheet x b closing (closed vs (take m shares)) (held t (r .record))
-        → Wrote d at (closingText m vs (countAt counts) shares) e (r .at) → LineEnded sheet x b line part d at e t r
+        → Placed d at (closingText m vs (countAt counts) shares) e (r .at) → LineEnded sheet x b line part d at e t r
     closing-ends m vs counts shares f g l a w =
         let xs : List ℕ = take m shares in
         let tally : ℕ → Verdict → ℕ = counted (a .book .told) in
@@ -62,7 +63,7 @@ module _ (sheet : List ℕ) (x : RuleSheet) (b : Book) (line : ℕ) (part d : Li
         ∙ ap (tallyLines tally xs 0) (sym f) in
         record {
           text = closingText (outputs x) vs tally xs;
-          wrote = subst (λ (u : List ℕ). Wrote d at (61 ∷ (verdictLine vs ++ u)) e (r .at)) same w;
+          wrote = subst (λ (u : List ℕ). Wrote d at (61 ∷ (verdictLine vs ++ u)) e (r .at)) same (placed-wrote w);
           ends = rw (o, n) (record { book = a .book; serves = a .serves; onward = λ ls u h. shut l (a .step) h });
         }
 

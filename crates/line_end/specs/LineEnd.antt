@@ -2,8 +2,8 @@
 use mathlib.Core.Bool.{Bool, true, false, cond}
 use mathlib.Core.List.{List, _∷_, _++_}
 use Prim.Native.Nat.{ℕ}
+use Rattle.buffer.specs.Wrote.{Wrote}
 use Rattle.sheet.specs.RuleSheet.{RuleSheet}
-use Rattle.text.specs.Wrote.{Wrote}
 use Rattle.claims.specs.Book.{Call, Answer, Book, BookStep, BookRun}
 use Rattle.claims.specs.Session.{Held, held, Session, Matches}
 use Rattle.line_end.specs.Printed.{Written}

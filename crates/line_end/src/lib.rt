@@ -5,12 +5,12 @@ ghost use mathlib.Core.List.{List};
 ghost use Prim.Native.Nat.{ℕ, _+_, _≤_, _<_};
 ghost use lib.ListN.{length};
 ghost use Rattle.outcomes.specs.declared.Refusal.the-variants.{Closed, Line};
+ghost use Rattle.buffer.specs.Wrote.{Placed};
 ghost use Rattle.sheet.specs.Reading.{ruleSheet, whenAccepted};
 ghost use Rattle.circular.specs.SheetChecks.{AcceptedSheet, IsAccepted};
 ghost use Rattle.claims.specs.Book.{Book, round, closing};
 ghost use Rattle.claims.specs.Session.{held, roundSays, closingSays};
 ghost use Rattle.text.specs.Text.{lineRefusal};
-ghost use Rattle.text.specs.Wrote.{Wrote};
 ghost use Rattle.line_scan.specs.Lines.{calls, readLine};
 ghost use Rattle.line_scan.specs.Scan.{Marked, Scanned};
 ghost use Rattle.line_end.specs.Printed.{nextLine};
@@ -41,7 +41,7 @@ fn next_line(line: u64) -> u64
 // A refusal ends the run.
 fn refused_line(e: Refusal, line: u64, rec: JournalRecord, out: &mut [u8], at: usize) -> Ended
     requires { ⌜ at + 40 ≤ length (now out) ⌝ }
-    ensures { λ r. ⌜ (r .over ≡ true) × (r .at ≤ at + 40) × Wrote (now (out .entry)) at (lineRefusal e line) (now (out .exit)) (r .at) ⌝ }
+    ensures { λ r. ⌜ (r .over ≡ true) × (r .at ≤ at + 40) × Placed (now (out .entry)) at (lineRefusal e line) (now (out .exit)) (r .at) ⌝ }
 {
     let to = text::line_refusal(out, at, e, line);
     Ended {
@@ -142,7 +142,7 @@ fn closing_line(
 // A line that is neither blank nor a call: after closing it is refused as any other line is.
 fn malformed_line(line: u64, rec: JournalRecord, out: &mut [u8], at: usize) -> Ended
     requires { ⌜ at + 40 ≤ length (now out) ⌝ }
-    ensures { λ r. ⌜ (r .over ≡ true) × (r .at ≤ at + 40) × Wrote (now (out .entry)) at (lineRefusal (cond (rec .closed) Closed Line) line) (now (out .exit)) (r .at) ⌝ }
+    ensures { λ r. ⌜ (r .over ≡ true) × (r .at ≤ at + 40) × Placed (now (out .entry)) at (lineRefusal (cond (rec .closed) Closed Line) line) (now (out .exit)) (r .at) ⌝ }
 {
     if rec.closed {
         return refused_line(Refusal::Closed, line, rec, out, at);

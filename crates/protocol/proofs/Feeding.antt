@@ -11,11 +11,12 @@ use borrow.Author.Tests.{eq-eqb, ne-eqb}
 use Rattle.outcomes.specs.Decided.{Decided}
 use Rattle.outcomes.specs.declared.Refusal.{Refusal}
 use Rattle.outcomes.specs.declared.Outcome.the-variants.{Refused}
+use Rattle.buffer.specs.Wrote.{Wrote, Placed}
+use Rattle.buffer.proofs.PlacedLaws.{take-placed}
 use Rattle.sheet.specs.Reading.{ruleSheet}
 use Rattle.sheet.specs.declared.Sheet.{Sheet}
 use Rattle.circular.specs.SheetChecks.{sheetChecks, AcceptedSheet}
 use Rattle.text.specs.Text.{sheetRefusal}
-use Rattle.text.specs.Wrote.{Wrote}
 use Rattle.claims.specs.Book.{emptyBook}
 use Rattle.claims.specs.Session.{Held, held}
 use Rattle.line_scan.specs.Lines.{linesFrom}
@@ -133,8 +134,8 @@ module _ (sheet : List ℕ) (x : Sheet) (s : Progress) (t seen wrote : List ℕ)
 pub midway-start : (sheet : List ℕ) (x : Sheet) (q : Pending) (h : Held) → AcceptedSheet sheet x → Serves sheet (ruleSheet x) emptyBook h → Scanned (x .inputs) [] q → Midway sheet x 1 q h [] []
 midway-start sheet x q h o sv s = record { book = emptyBook; part = []; serves = sv; scanned = s; more = λ rest t w. journal (o .decided) (o .reads) w }
 
-pub refused-start : (sheet input d e : List ℕ) (q : Refusal) (r : ℕ) → Decided (sheetChecks sheet) (Refused q) → Wrote d 0 (sheetRefusal q) e r → Printed sheet input (take r e)
-refused-start sheet input d e q r h w = subst (λ (z : List ℕ). Printed sheet input z) (sym (w .text)) (refusedSheet q h)
+pub refused-start : (sheet input d e : List ℕ) (q : Refusal) (r : ℕ) → Decided (sheetChecks sheet) (Refused q) → Placed d 0 (sheetRefusal q) e r → Printed sheet input (take r e)
+refused-start sheet input d e q r h w = subst (λ (z : List ℕ). Printed sheet input z) (sym (take-placed w)) (refusedSheet q h)
 
 -- ---- room
 

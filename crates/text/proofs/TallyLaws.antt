@@ -5,13 +5,13 @@ use Prim.Native.Nat.{ℕ, zero, suc, _+_, _*_, _<_, _≤_}
 use native.Mathlib.Nat.{add-zero, zero-add}
 use native.Mathlib.Omega.{arith}
 use native.Mathlib.Numerals.{add-one}
-use lib.ListN.{getD}
+use lib.ListN.{length, getD}
 use Rattle.outcomes.specs.declared.Verdict.{Verdict}
 use Rattle.outcomes.specs.declared.Verdict.the-variants.{False, True, Open, Broken}
+use Rattle.buffer.specs.Wrote.{Placed}
+use Rattle.buffer.proofs.PlacedLaws.{placed-none, placed-then}
 use Rattle.record.specs.Record.{countAt}
 use Rattle.text.specs.Text.{spaced, tallyLine, tallyLines}
-use Rattle.text.specs.Wrote.{Wrote}
-use Rattle.text.proofs.WroteLaws.{wrote-none, wrote-then}
 
 -- the last of n + 1 tally lines
 tallies-last : (c : ℕ → Verdict → ℕ) (xs : List ℕ) (k n : ℕ) → tallyLines c xs k (suc n) ≡ tallyLines c xs k n ++ tallyLine c xs (k + n)
@@ -22,16 +22,16 @@ tallies-last c xs k (suc n) =
     ∙ ap (λ (j : ℕ). (tallyLine c xs k ++ tallyLines c xs (suc k) n) ++ tallyLine c xs j) (omega arith)
 
 -- the first column
-pub wrote-trues : {d e : List ℕ} {at r : ℕ} (counts : List ℕ) (k : ℕ) → Wrote d at (spaced (getD counts (4 * k) 0)) e r → Wrote d at (spaced (countAt counts k True)) e r
-wrote-trues counts k w = rw (add-zero (4 * k)) w
+pub placed-trues : {d e : List ℕ} {at r : ℕ} (counts : List ℕ) (k : ℕ) → Placed d at (spaced (getD counts (4 * k) 0)) e r → Placed d at (spaced (countAt counts k True)) e r
+placed-trues counts k w = rw (add-zero (4 * k)) w
 
-pub wrote-no-tally : (d : List ℕ) (at : ℕ) (c : ℕ → Verdict → ℕ) (xs : List ℕ) → Wrote d at (tallyLines c xs 0 0) d at
+pub placed-no-tally : (d : List ℕ) (at : ℕ) (c : ℕ → Verdict → ℕ) (xs : List ℕ) → at ≤ length d → Placed d at (tallyLines c xs 0 0) d at
 unfolding tallyLines
-wrote-no-tally d at c xs = wrote-none d at
+placed-no-tally d at c xs h = placed-none d at h
 
-pub wrote-tally : {d e f : List ℕ} (c : ℕ → Verdict → ℕ) (xs : List ℕ) {at to r : ℕ} (n : ℕ) → Wrote d at (tallyLines c xs 0 n) e to
-    → Wrote e to (tallyLine c xs n) f r → Wrote d at (tallyLines c xs 0 (n + 1)) f r
-wrote-tally c xs n v w = rw (add-one, tallies-last c xs 0 n, zero-add n) (wrote-then v w)
+pub placed-tally : {d e f : List ℕ} (c : ℕ → Verdict → ℕ) (xs : List ℕ) {at to r : ℕ} (n : ℕ) → Placed d at (tallyLines c xs 0 n) e to
+    → Placed e to (tallyLine c xs n) f r → Placed d at (tallyLines c xs 0 (n + 1)) f r
+placed-tally c xs n v w = rw (add-one, tallies-last c xs 0 n, zero-add n) (placed-then v w)
 
 -- only what is read counts: the counts and shares of the outputs from k on, below k + n
 module _ (c d : ℕ → Verdict → ℕ) (xs ys : List ℕ) where

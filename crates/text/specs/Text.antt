@@ -1,23 +1,13 @@
 -- What the program prints (01, "The journal program"): verdicts, tallies and refusals as bytes.
 -- Manual: "The program".
-use mathlib.Core.Bool.{cond}
 use mathlib.Core.List.{List, [], _∷_, _++_, map}
-use Prim.Native.Nat.{ℕ, zero, suc, _+_, _/_, _%_}
-use lib.Dec.{ltb}
+use Prim.Native.Nat.{ℕ, zero, suc}
 use lib.ListN.{getD}
 use Rattle.outcomes.specs.Numbers.{refusalNo}
 use Rattle.outcomes.specs.declared.Refusal.{Refusal}
 use Rattle.outcomes.specs.declared.Verdict.{Verdict}
 use Rattle.outcomes.specs.declared.Verdict.the-variants.{False, True, Open, Broken}
-
--- a number of at most k digits in decimal, with no zero in front
-unfoldable pub decimalOf : ℕ → ℕ → List ℕ
-decimalOf zero n = []
-decimalOf (suc k) n = cond (ltb n 10) ((48 + n) ∷ []) (decimalOf k (n / 10) ++ ((48 + n % 10) ∷ []))
-
--- a number of 64 bits has at most 20
-abbrev pub decimal : ℕ → List ℕ
-decimal n = decimalOf 20 n
+use Rattle.buffer.specs.Decimal.{decimal}
 
 -- `0`, `1`, `?` or `!`
 abbrev pub verdictChar : Verdict → ℕ

@@ -1,7 +1,7 @@
 -- `line_end::marks_line` meets its contract.
 use mathlib.Core.Path.{refl}
 use native.Mathlib.Omega.{arith}
-use Rattle.text.proofs.WroteLaws.{wrote-none}
+use Rattle.buffer.proofs.WroteLaws.{wrote-none}
 use Rattle.line_scan.proofs.Standing.{marked-blank, marked-round, marked-short}
 use Rattle.line_end.proofs.LineEnds.{malformed-ends, blank-ends, bytes-least, over-bound}
 use borrow.Author.Needs.{needs}

@@ -1,12 +1,12 @@
 -- `text::closing` meets its contract.
 use native.Mathlib.Omega.{arith}
 use borrow.Author.Needs.{needs}
-use Rattle.text.proofs.WroteLaws.{wrote-then}
+use Rattle.buffer.proofs.PlacedLaws.{placed-then}
 use Rattle.text.proofs.closing.Statement.{statement}
 use Rattle.text.proofs.closing.Tie as tie
 use Rattle.text.proofs.closing.Reads as reads
 use Rattle.text.proofs.closing.Lts as lts
-use Rattle.text.proofs.put.byte.Reads as byte-reads
+use Rattle.buffer.proofs.byte.Reads as byte-reads
 use Rattle.text.proofs.tally_lines.Reads as tally-lines-reads
 use Rattle.text.proofs.verdict_line.Reads as verdict-line-reads
 
@@ -27,7 +27,7 @@ returns c =
     let u = c .before .before .before .before .before .before .before .before .before .before .byte .ensures in
     let v = c .before .before .before .before .before .before .verdict-line .ensures in
     let w = c .before .before .tally-lines .ensures in
-    (wrote-then u (wrote-then (v .0) (w .0)), omega (arith, u .end, v .1, w .1))
+    (placed-then u (placed-then (v .0) (w .0)), omega (arith, u .end, v .1, w .1))
 
 pub closing-spec : {M : Type 1} → statement M
 closing-spec =

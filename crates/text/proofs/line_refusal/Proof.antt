@@ -1,15 +1,15 @@
 -- `text::line_refusal` meets its contract.
 use native.Mathlib.Omega.{arith}
 use borrow.Author.Needs.{needs}
-use Rattle.text.proofs.WroteLaws.{wrote-then}
-use Rattle.text.proofs.DecimalLaws.{decimal-length}
+use Rattle.buffer.proofs.PlacedLaws.{placed-then}
+use Rattle.buffer.proofs.DecimalLaws.{decimal-length}
 use Rattle.text.proofs.line_refusal.Statement.{statement}
 use Rattle.text.proofs.line_refusal.Tie as tie
 use Rattle.text.proofs.line_refusal.Reads as reads
 use Rattle.text.proofs.line_refusal.Lts as lts
-use Rattle.text.proofs.put.byte.Reads as byte-reads
-use Rattle.text.proofs.put.bytes.Reads as bytes-reads
-use Rattle.text.proofs.put.decimal.Reads as decimal-reads
+use Rattle.buffer.proofs.byte.Reads as byte-reads
+use Rattle.buffer.proofs.bytes.Reads as bytes-reads
+use Rattle.buffer.proofs.decimal.Reads as decimal-reads
 use Rattle.text.proofs.refused.Reads as refused-reads
 
 refused-requires : tie.Need-refused-requires
@@ -43,7 +43,7 @@ returns c =
     let v = c .before .before .before .before .before .before .before .before .before .before .bytes .ensures in
     let w = c .before .before .before .before .before .before .decimal .ensures in
     let x = c .before .before .byte .ensures in
-    (wrote-then (u .0) (wrote-then v (wrote-then w x)), omega (arith, u .1, v .end, w .end, x .end, decimal-length 20 (c .before .before .before .before .before .before .before .before .before .before .before .before .before .before .before .before .before .before .args .line) (omega arith) (omega arith)))
+    (placed-then (u .0) (placed-then v (placed-then w x)), omega (arith, u .1, v .end, w .end, x .end, decimal-length 20 (c .before .before .before .before .before .before .before .before .before .before .before .before .before .before .before .before .before .before .args .line) (omega arith) (omega arith)))
 
 pub line-refusal-spec : {M : Type 1} → statement M
 line-refusal-spec =

@@ -3,14 +3,14 @@ use mathlib.Core.Path.{ap}
 use native.Mathlib.Omega.{arith}
 use lib.ListN.{length}
 use borrow.Author.Needs.{needs}
-use Rattle.text.proofs.WroteLaws.{wrote-then}
-use Rattle.text.proofs.DecimalLaws.{decimal-small}
+use Rattle.buffer.proofs.PlacedLaws.{placed-then}
+use Rattle.buffer.proofs.DecimalLaws.{decimal-small}
 use Rattle.text.proofs.output_number.Statement.{statement}
 use Rattle.text.proofs.output_number.Tie as tie
 use Rattle.text.proofs.output_number.Reads as reads
 use Rattle.text.proofs.output_number.Lts as lts
-use Rattle.text.proofs.put.byte.Reads as byte-reads
-use Rattle.text.proofs.put.spaced.Reads as spaced-reads
+use Rattle.buffer.proofs.byte.Reads as byte-reads
+use Rattle.text.proofs.spaced.Reads as spaced-reads
 
 byte-requires : tie.Need-byte-requires
 byte-requires c κs = search needs
@@ -28,7 +28,7 @@ returns : tie.Need-returns
 returns c =
     let after-byte = c .before .before .before .before .before .before .before in
     let start = after-byte .before .before .before in
-    let w = wrote-then (after-byte .byte .ensures) (c .before .before .spaced .ensures .0) in
+    let w = placed-then (after-byte .byte .ensures) (c .before .before .spaced .ensures .0) in
     (w, omega (arith, w .end, ap length (decimal-small (start .args .k .0) (omega arith))))
 
 pub output-number-spec : {M : Type 1} → statement M

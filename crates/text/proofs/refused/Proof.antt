@@ -1,16 +1,16 @@
 -- `text::refused` meets its contract.
 use native.Mathlib.Omega.{arith}
 use borrow.Author.Needs.{needs}
-use Rattle.text.proofs.WroteLaws.{wrote-then}
-use Rattle.text.proofs.DecimalLaws.{decimal-length}
+use Rattle.buffer.proofs.PlacedLaws.{placed-then}
+use Rattle.buffer.proofs.DecimalLaws.{decimal-length}
 use Rattle.text.proofs.RefusalLaws.{refusal-short}
 use Rattle.text.proofs.refused.Statement.{statement}
 use Rattle.text.proofs.refused.Tie as tie
 use Rattle.text.proofs.refused.Reads as reads
 use Rattle.text.proofs.refused.Lts as lts
 use Rattle.outcomes.proofs.refusal_number.Reads as refusal-number-reads
-use Rattle.text.proofs.put.bytes.Reads as bytes-reads
-use Rattle.text.proofs.put.decimal.Reads as decimal-reads
+use Rattle.buffer.proofs.bytes.Reads as bytes-reads
+use Rattle.buffer.proofs.decimal.Reads as decimal-reads
 
 slice-aggregate-bytes : tie.Need-slice-aggregate-bytes
 slice-aggregate-bytes c = search needs
@@ -37,7 +37,7 @@ returns c =
     let after-refusal-number = c .before .before .before in
     let after-bytes = after-refusal-number .before .before .before .before in
     let start = after-bytes .before .before .before .before in
-    let w = wrote-then (after-bytes .bytes .ensures) (rw (after-refusal-number .refusal-number .ensures) at (c .before .before .decimal .ensures)) in
+    let w = placed-then (after-bytes .bytes .ensures) (rw (after-refusal-number .refusal-number .ensures) at (c .before .before .decimal .ensures)) in
     (w, omega (arith, w .end, decimal-length 2 _ (omega arith) (refusal-short (start .args .r))))
 
 pub refused-spec : {M : Type 1} → statement M

@@ -1,13 +1,13 @@
 -- `text::sheet_refusal` meets its contract.
 use native.Mathlib.Omega.{arith}
 use borrow.Author.Needs.{needs}
-use Rattle.text.proofs.WroteLaws.{wrote-then}
+use Rattle.buffer.proofs.PlacedLaws.{placed-then}
 use Rattle.text.proofs.sheet_refusal.Statement.{statement}
 use Rattle.text.proofs.sheet_refusal.Tie as tie
 use Rattle.text.proofs.sheet_refusal.Reads as reads
 use Rattle.text.proofs.sheet_refusal.Lts as lts
-use Rattle.text.proofs.put.byte.Reads as byte-reads
-use Rattle.text.proofs.put.bytes.Reads as bytes-reads
+use Rattle.buffer.proofs.byte.Reads as byte-reads
+use Rattle.buffer.proofs.bytes.Reads as bytes-reads
 use Rattle.text.proofs.refused.Reads as refused-reads
 
 refused-requires : tie.Need-refused-requires
@@ -30,7 +30,7 @@ returns c =
     let u = c .before .before .before .before .before .before .before .before .before .before .before .refused .ensures in
     let v = c .before .before .before .before .before .before .bytes .ensures in
     let w = c .before .before .byte .ensures in
-    (wrote-then (u .0) (wrote-then v w), omega (arith, u .1, v .end, w .end))
+    (placed-then (u .0) (placed-then v w), omega (arith, u .1, v .end, w .end))
 
 pub sheet-refusal-spec : {M : Type 1} → statement M
 sheet-refusal-spec =

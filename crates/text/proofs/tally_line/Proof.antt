@@ -2,16 +2,16 @@
 use native.Mathlib.Omega.{arith}
 use borrow.Author.Needs.{needs}
 use denote.Ref.{now}
+use Rattle.buffer.proofs.PlacedLaws.{placed-then}
 use Rattle.text.specs.Text.{tallyLine}
-use Rattle.text.proofs.TallyLaws.{wrote-trues}
-use Rattle.text.proofs.WroteLaws.{wrote-then}
+use Rattle.text.proofs.TallyLaws.{placed-trues}
 use Rattle.text.proofs.tally_line.Statement.{statement}
 use Rattle.text.proofs.tally_line.Tie as tie
 use Rattle.text.proofs.tally_line.Reads as reads
 use Rattle.text.proofs.tally_line.Lts as lts
 use Rattle.text.proofs.output_number.Reads as output-number-reads
-use Rattle.text.proofs.put.byte.Reads as byte-reads
-use Rattle.text.proofs.put.spaced.Reads as spaced-reads
+use Rattle.buffer.proofs.byte.Reads as byte-reads
+use Rattle.text.proofs.spaced.Reads as spaced-reads
 
 cast-index : tie.Need-cast-index
 cast-index c = search needs
@@ -102,11 +102,11 @@ returns c =
     let p0 = p1 .before .before .before .before .before in
     let a = p0 .before .before .before .before .before .before in
     let w = b .byte .ensures in (
-      wrote-then (p0 .output-number .ensures .0)
-          (wrote-then (wrote-trues (now (a .args .counts)) (a .args .k .0) (p1 .spaced .ensures .0))
-          (wrote-then (p2 .spaced2 .ensures .0)
-          (wrote-then (p3 .spaced3 .ensures .0)
-          (wrote-then (p4 .spaced4 .ensures .0) (wrote-then (p5 .spaced5 .ensures .0) w))))),
+      placed-then (p0 .output-number .ensures .0)
+          (placed-then (placed-trues (now (a .args .counts)) (a .args .k .0) (p1 .spaced .ensures .0))
+          (placed-then (p2 .spaced2 .ensures .0)
+          (placed-then (p3 .spaced3 .ensures .0)
+          (placed-then (p4 .spaced4 .ensures .0) (placed-then (p5 .spaced5 .ensures .0) w))))),
       omega (arith, p0 .output-number .ensures .1, p1 .spaced .ensures .1, p2 .spaced2 .ensures .1, p3 .spaced3 .ensures .1, p4 .spaced4 .ensures .1, p5 .spaced5 .ensures .1, w .end),
     )
 

@@ -3,10 +3,10 @@ use Prim.Native.Nat.{_≤_, _+_, _*_, _-_}
 use native.Mathlib.Omega.{arith}
 use native.Mathlib.Nat.{le-antisymm}
 use borrow.Author.Needs.{needs}
+use Rattle.buffer.specs.Wrote.{Placed}
 use Rattle.record.specs.Record.{countAt}
 use Rattle.text.specs.Text.{tallyLines}
-use Rattle.text.specs.Wrote.{Wrote}
-use Rattle.text.proofs.TallyLaws.{wrote-no-tally, wrote-tally}
+use Rattle.text.proofs.TallyLaws.{placed-no-tally, placed-tally}
 use Rattle.text.proofs.tally_lines.Statement.{statement}
 use Rattle.text.proofs.tally_lines.Tie as tie
 use Rattle.text.proofs.tally_lines.Reads as reads
@@ -14,13 +14,13 @@ use Rattle.text.proofs.tally_lines.Lts as lts
 use Rattle.text.proofs.tally_line.Reads as tally-line-reads
 
 abbrev Inv-loop : tie.InvT-loop
-Inv-loop out₀ at counts shares n to₀ k₀ out to k = (k ≤ n) × (to ≤ at + 59 * k) × Wrote out₀ at (tallyLines (countAt counts) shares 0 k) out to
+Inv-loop out₀ at counts shares n to₀ k₀ out to k = (k ≤ n) × (to ≤ at + 59 * k) × Placed out₀ at (tallyLines (countAt counts) shares 0 k) out to
 
 abbrev μ-loop : tie.MeasureT-loop
 μ-loop out₀ at counts shares n to₀ k₀ out to k = n - k
 
 loop-holds : tie.Need-loop-holds Inv-loop μ-loop
-loop-holds c = (omega arith, omega arith, wrote-no-tally _ _ _ _)
+loop-holds c = (omega arith, omega arith, placed-no-tally _ _ _ _ (omega arith))
 
 cast-t11 : tie.Need-cast-t11 Inv-loop μ-loop
 cast-t11 c = omega arith
@@ -38,7 +38,7 @@ loop-again : tie.Need-loop-again Inv-loop μ-loop
 loop-again c =
     let l = c .before .before .before .before .before in
     let w = c .before .before .tally-line .ensures in
-    (omega arith, omega (arith, w .1), wrote-tally _ _ (l .loop .k) (l .loop .inv .2) (w .0))
+    (omega arith, omega (arith, w .1), placed-tally _ _ (l .loop .k) (l .loop .inv .2) (w .0))
 
 same-length : tie.Need-same-length Inv-loop μ-loop
 same-length c = search needs

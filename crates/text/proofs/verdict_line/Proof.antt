@@ -7,25 +7,25 @@ use native.Mathlib.Nat.{le-antisymm}
 use lib.ListN.{length}
 use borrow.Author.Needs.{needs}
 use Rattle.outcomes.specs.Numbers.{verdictList}
+use Rattle.buffer.specs.Wrote.{Placed}
+use Rattle.buffer.proofs.PlacedLaws.{placed-none, placed-then}
 use Rattle.text.specs.Text.{verdictChar}
-use Rattle.text.specs.Wrote.{Wrote}
-use Rattle.text.proofs.WroteLaws.{wrote-none, wrote-then}
-use Rattle.text.proofs.VerdictLaws.{wrote-verdict}
+use Rattle.text.proofs.VerdictLaws.{placed-verdict}
 use Rattle.text.proofs.verdict_line.Statement.{statement}
 use Rattle.text.proofs.verdict_line.Tie as tie
 use Rattle.text.proofs.verdict_line.Reads as reads
 use Rattle.text.proofs.verdict_line.Lts as lts
-use Rattle.text.proofs.put.byte.Reads as byte-reads
+use Rattle.buffer.proofs.byte.Reads as byte-reads
 use Rattle.text.proofs.verdict_char.Reads as verdict-char-reads
 
 abbrev Inv-loop : tie.InvT-loop
-Inv-loop out₀ at n verdicts to₀ i₀ out to i = (i ≤ n) × (to ≡ at + i) × Wrote out₀ at (map verdictChar (verdictList verdicts i)) out to
+Inv-loop out₀ at n verdicts to₀ i₀ out to i = (i ≤ n) × (to ≡ at + i) × Placed out₀ at (map verdictChar (verdictList verdicts i)) out to
 
 abbrev μ-loop : tie.MeasureT-loop
 μ-loop out₀ at n verdicts to₀ i₀ out to i = n - i
 
 loop-holds : tie.Need-loop-holds Inv-loop μ-loop
-loop-holds c = (omega arith, omega arith, wrote-none _ _)
+loop-holds c = (omega arith, omega arith, placed-none _ _ (omega arith))
 
 array-copy-out-told : tie.Need-array-copy-out-told Inv-loop μ-loop
 array-copy-out-told c = omega arith
@@ -48,7 +48,7 @@ loop-again c =
     let a = turn .before .before .args in
     let l : length (a .t3) ≡ 7 = search needs in
     let w = c .before .before .byte .ensures in
-    (omega arith, omega (arith, w .end), wrote-verdict (a .t3) (turn .loop .i) (omega (arith, l)) (turn .loop .inv .2) (rw (← c .before .before .before .verdict-char .ensures) w))
+    (omega arith, omega (arith, w .end), placed-verdict (a .t3) (turn .loop .i) (omega (arith, l)) (turn .loop .inv .2) (rw (← c .before .before .before .verdict-char .ensures) w))
 
 byte-requires-2 : tie.Need-byte-requires-2 Inv-loop μ-loop
 byte-requires-2 c κs = omega arith
@@ -60,7 +60,7 @@ returns : tie.Need-returns Inv-loop μ-loop
 returns c =
     let l = c .before .before .before .before .before in
     let w = c .before .before .byte2 .ensures in
-    (wrote-then (rw (le-antisymm (l .loop .inv .0) (c .before .before .before .before .loop-test .left)) at (l .loop .inv .2)) w, omega (arith, w .end))
+    (placed-then (rw (le-antisymm (l .loop .inv .0) (c .before .before .before .before .loop-test .left)) at (l .loop .inv .2)) w, omega (arith, w .end))
 
 pub verdict-line-spec : {M : Type 1} → statement M
 verdict-line-spec =

@@ -1,14 +1,14 @@
--- `text::put::spaced` meets its contract.
+-- `text::spaced` meets its contract.
 use native.Mathlib.Omega.{arith}
 use borrow.Author.Needs.{needs}
-use Rattle.text.proofs.WroteLaws.{wrote-then}
-use Rattle.text.proofs.DecimalLaws.{decimal-length}
-use Rattle.text.proofs.put.spaced.Statement.{statement}
-use Rattle.text.proofs.put.spaced.Tie as tie
-use Rattle.text.proofs.put.spaced.Reads as reads
-use Rattle.text.proofs.put.spaced.Lts as lts
-use Rattle.text.proofs.put.byte.Reads as byte-reads
-use Rattle.text.proofs.put.decimal.Reads as decimal-reads
+use Rattle.buffer.proofs.PlacedLaws.{placed-then}
+use Rattle.buffer.proofs.DecimalLaws.{decimal-length}
+use Rattle.text.proofs.spaced.Statement.{statement}
+use Rattle.text.proofs.spaced.Tie as tie
+use Rattle.text.proofs.spaced.Reads as reads
+use Rattle.text.proofs.spaced.Lts as lts
+use Rattle.buffer.proofs.byte.Reads as byte-reads
+use Rattle.buffer.proofs.decimal.Reads as decimal-reads
 
 byte-requires : tie.Need-byte-requires
 byte-requires c κs = search needs
@@ -25,7 +25,7 @@ returns : tie.Need-returns
 returns c =
     let after-byte = c .before .before .before .before .before .before in
     let start = after-byte .before .before .before in
-    let w = wrote-then (after-byte .byte .ensures) (c .before .before .decimal .ensures) in
+    let w = placed-then (after-byte .byte .ensures) (c .before .before .decimal .ensures) in
     (w, omega (arith, w .end, decimal-length 10 (start .args .n) (omega arith) (omega arith)))
 
 pub spaced-spec : {M : Type 1} → statement M

@@ -8,7 +8,7 @@ use native.Mathlib.Omega.{arith}
 use lib.Dec.{ltb}
 use lib.ListN.{length, length-append}
 use borrow.Author.Tests.{lt-ltb, le-ltb, ltb-false}
-use Rattle.text.specs.Text.{decimalOf, decimal}
+use Rattle.buffer.specs.Decimal.{decimalOf, decimal}
 
 -- without its last digit a number has one digit fewer
 digit-down : (k n : ℕ) → 10 ≤ n → n < 10 ^ suc k → (0 < k) × (n / 10 < 10 ^ k)

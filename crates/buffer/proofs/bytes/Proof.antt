@@ -1,26 +1,26 @@
--- `text::put::bytes` meets its contract.
+-- `buffer::bytes` meets its contract.
 use mathlib.Core.Path.{_≡_}
 use Prim.Native.Nat.{_≤_, _+_, _-_}
 use native.Mathlib.Omega.{arith}
 use lib.ListN.{length, take}
 use lib.Seq.{take-all}
 use borrow.Author.Needs.{needs}
-use Rattle.text.specs.Wrote.{Wrote}
-use Rattle.text.proofs.WroteLaws.{wrote-none, wrote-next}
-use Rattle.text.proofs.put.bytes.Statement.{statement}
-use Rattle.text.proofs.put.bytes.Tie as tie
-use Rattle.text.proofs.put.bytes.Reads as reads
-use Rattle.text.proofs.put.bytes.Lts as lts
-use Rattle.text.proofs.put.byte.Reads as byte-reads
+use Rattle.buffer.specs.Wrote.{Placed}
+use Rattle.buffer.proofs.PlacedLaws.{placed-none, placed-next}
+use Rattle.buffer.proofs.bytes.Statement.{statement}
+use Rattle.buffer.proofs.bytes.Tie as tie
+use Rattle.buffer.proofs.bytes.Reads as reads
+use Rattle.buffer.proofs.bytes.Lts as lts
+use Rattle.buffer.proofs.byte.Reads as byte-reads
 
 abbrev Inv-loop : tie.InvT-loop
-Inv-loop out₀ at s to₀ i₀ out to i = (i ≤ length s) × (to ≡ at + i) × Wrote out₀ at (take i s) out to
+Inv-loop out₀ at s to₀ i₀ out to i = (i ≤ length s) × (to ≡ at + i) × Placed out₀ at (take i s) out to
 
 abbrev μ-loop : tie.MeasureT-loop
 μ-loop out₀ at s to₀ i₀ out to i = length s - i
 
 loop-holds : tie.Need-loop-holds Inv-loop μ-loop
-loop-holds c = (omega arith, omega arith, wrote-none _ _)
+loop-holds c = (omega arith, omega arith, placed-none _ _ (omega arith))
 
 shared-slice-read-byte : tie.Need-shared-slice-read-byte Inv-loop μ-loop
 shared-slice-read-byte c = search needs
@@ -38,7 +38,7 @@ loop-again : tie.Need-loop-again Inv-loop μ-loop
 loop-again c =
     let b = c .before .before .before .before .before .before in
     let w = c .before .before .byte .ensures in
-    (omega arith, omega (arith, w .end), wrote-next _ (b .loop .i) (omega arith) (b .loop .inv .2) w)
+    (omega arith, omega (arith, w .end), placed-next _ (b .loop .i) (omega arith) (b .loop .inv .2) w)
 
 same-length : tie.Need-same-length Inv-loop μ-loop
 same-length c = search needs

@@ -2,13 +2,13 @@
 ghost use mathlib.Core.List.{[], _∷_};
 ghost use Prim.Native.Nat.{_+_, _<_, _≤_};
 ghost use lib.ListN.{length};
-ghost use Rattle.text.specs.Text.{decimal, spaced};
-ghost use Rattle.text.specs.Wrote.{Wrote};
+ghost use Rattle.buffer.specs.Decimal.{decimal};
+ghost use Rattle.buffer.specs.Wrote.{Placed};
 
 // One byte.
 pub fn byte(out: &mut [u8], at: usize, b: u8) -> usize
     requires { ⌜ at < length (now out) ⌝ }
-    ensures { λ r. ⌜ Wrote (now (out .entry)) at (b ∷ []) (now (out .exit)) r ⌝ }
+    ensures { λ r. ⌜ Placed (now (out .entry)) at (b ∷ []) (now (out .exit)) r ⌝ }
 {
     out[at] = b;
     at + 1
@@ -17,7 +17,7 @@ pub fn byte(out: &mut [u8], at: usize, b: u8) -> usize
 // All bytes of a slice.
 pub fn bytes(out: &mut [u8], at: usize, s: &[u8]) -> usize
     requires { ⌜ at + length (now s) ≤ length (now out) ⌝ }
-    ensures { λ r. ⌜ Wrote (now (out .entry)) at (now (s .entry)) (now (out .exit)) r ⌝ }
+    ensures { λ r. ⌜ Placed (now (out .entry)) at (now (s .entry)) (now (out .exit)) r ⌝ }
 {
     let mut to = at;
     let mut i = 0;
@@ -31,7 +31,7 @@ pub fn bytes(out: &mut [u8], at: usize, s: &[u8]) -> usize
 // A number in decimal.
 pub fn decimal(out: &mut [u8], at: usize, n: u64) -> usize
     requires { ⌜ at + length (decimal n) ≤ length (now out) ⌝ }
-    ensures { λ r. ⌜ Wrote (now (out .entry)) at (decimal n) (now (out .exit)) r ⌝ }
+    ensures { λ r. ⌜ Placed (now (out .entry)) at (decimal n) (now (out .exit)) r ⌝ }
 {
     if n < 10 {
         byte(out, at, 48 + n as u8)
@@ -39,14 +39,4 @@ pub fn decimal(out: &mut [u8], at: usize, n: u64) -> usize
         let to = decimal(out, at, n / 10);
         byte(out, to, 48 + (n % 10) as u8)
     }
-}
-
-// A space, and a number of at most 10 digits.
-pub fn spaced(out: &mut [u8], at: usize, n: u32) -> usize
-    requires { ⌜ at + 11 ≤ length (now out) ⌝ }
-    ensures { λ r. ⌜ Wrote (now (out .entry)) at (spaced n) (now (out .exit)) r ⌝ }
-    ensures { λ r. ⌜ r ≤ at + 11 ⌝ }
-{
-    let to = byte(out, at, 32);
-    decimal(out, to, n as u64)
 }

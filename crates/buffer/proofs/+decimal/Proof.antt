@@ -1,4 +1,4 @@
--- `text::put::decimal` meets its contract.
+-- `buffer::decimal` meets its contract.
 use mathlib.Core.Path.{ap}
 use Prim.Native.Nat.{ℕ, _<_}
 use native.Mathlib.Omega.{arith}
@@ -6,14 +6,14 @@ use lib.ListN.{length}
 use borrow.Author.Needs.{needs}
 use borrow.Fn.Kinds.{In}
 use borrow.Fn.PlainCycle.{Measures, is, falls, and}
-use Rattle.text.proofs.WroteLaws.{wrote-then}
-use Rattle.text.proofs.DecimalLaws.{decimal-small, decimal-large, decimal-large-length}
-use Rattle.text.proofs.put.decimal.Kinds as decimal-kinds
-use Rattle.text.proofs.put.+decimal.Lts-decimal as decimal-lts
-use Rattle.text.proofs.put.+decimal.{statement}
-use Rattle.text.proofs.put.decimal.Reads as decimal
-use Rattle.text.proofs.put.byte.Reads as byte-reads
-use Rattle.text.proofs.put.+decimal.Tie.{close}
+use Rattle.buffer.proofs.PlacedLaws.{placed-then}
+use Rattle.buffer.proofs.DecimalLaws.{decimal-small, decimal-large, decimal-large-length}
+use Rattle.buffer.proofs.decimal.Kinds as decimal-kinds
+use Rattle.buffer.proofs.+decimal.Lts-decimal as decimal-lts
+use Rattle.buffer.proofs.+decimal.{statement}
+use Rattle.buffer.proofs.decimal.Reads as decimal
+use Rattle.buffer.proofs.byte.Reads as byte-reads
+use Rattle.buffer.proofs.+decimal.Tie.{close}
 
 abbrev μ-decimal : Measures 1 decimal-kinds.ps ℕ
 μ-decimal κs a = a .1 .1 .0
@@ -115,7 +115,7 @@ decimal-returns-2 : (t : ℕ) → decimal-lts.Need-returns-2 (
   decimal.Post,
 ) (decimal-at t) decimal.Post
 decimal-returns-2 t c =
-    rw (decimal-large (c .before .before .before .before .before .before .before .before .before .before .args .n) (c .before .before .before .before .before .before .before .before .if1 .left) (omega arith)) (wrote-then (c .before .before .before .before .before .before .decimal .ensures) (c .before .before .byte2 .ensures))
+    rw (decimal-large (c .before .before .before .before .before .before .before .before .before .before .args .n) (c .before .before .before .before .before .before .before .before .if1 .left) (omega arith)) (placed-then (c .before .before .before .before .before .before .decimal .ensures) (c .before .before .byte2 .ensures))
 
 pub +decimal-spec : {M : Type 1} → statement M
 +decimal-spec = close μ-decimal λ t. decimal-lts.spec (

@@ -13,7 +13,7 @@ use Rattle.buffer.specs.Wrote.{Wrote, Placed}
 
 module _ {d e bs : List ℕ} {at r : ℕ} (p : Placed d at bs e r) where
   front-length : length (take at d) ≡ at
-  front-length = length-take-le at d (omega (arith, p .end, p .room))
+  front-length = length-take-le at d (omega (arith, p .end, p .fits))
 
   head-length : length (take at d ++ bs) ≡ r
   head-length = rw (length-append, front-length) (omega (arith, p .end))
@@ -58,16 +58,16 @@ module _ {d e bs : List ℕ} {at r : ℕ} (p : Placed d at bs e r) where
 -- ---- Placing
 
 pub placed-none : (d : List ℕ) (at : ℕ) → at ≤ length d → Placed d at [] d at
-placed-none d at h = record { end = omega arith; room = h; whole = sym (take-append-drop at d); size = omega arith }
+placed-none d at h = record { end = omega arith; fits = h; whole = sym (take-append-drop at d); size = omega arith }
 
 pub placed-byte : (d : List ℕ) (at b : ℕ) → at < length d → Placed d at (b ∷ []) (set d at b) (at + 1)
-placed-byte d at b h = record { end = omega arith; room = omega arith; whole = rw add-one (set-split d at b h); size = length-set d at b }
+placed-byte d at b h = record { end = omega arith; fits = omega arith; whole = rw add-one (set-split d at b h); size = length-set d at b }
 
 pub placed-then : {d e f xs ys : List ℕ} {at r q : ℕ} → Placed d at xs e r → Placed e r ys f q → Placed d at (xs ++ ys) f q
 placed-then {d} {e} {f} {xs} {ys} {at} {r} {q} v w =
     record {
       end = simp length-append (omega (arith, v .end, w .end));
-      room = omega (arith, w .room, v .size);
+      fits = omega (arith, w .fits, v .size);
       whole =
           w .whole ∙ ap (λ (t : List ℕ). t ++ (ys ++ drop q e)) (take-placed v) ∙ ap (λ (t : List ℕ). (take at d ++ xs) ++ (ys ++ t)) (drop-behind v q (omega (arith, w .end)))
           ∙ append-assoc (take at d) xs (ys ++ drop q d) ∙ ap (λ (t : List ℕ). take at d ++ t) (sym (append-assoc xs ys (drop q d)));

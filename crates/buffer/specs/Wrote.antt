@@ -13,6 +13,6 @@ pub record Wrote (d : List ℕ) (at : ℕ) (bs : List ℕ) (e : List ℕ) (r : �
 -- the same, and what stands after r is as it was: all of e is fixed. `size` follows from the other fields and is there for arithmetic.
 pub record Placed (d : List ℕ) (at : ℕ) (bs : List ℕ) (e : List ℕ) (r : ℕ) : Type 0 where
   pub end : r ≡ at + length bs
-  pub room : r ≤ length d
+  pub fits : r ≤ length d
   pub whole : e ≡ take at d ++ (bs ++ drop r d)
   pub size : length e ≡ length d

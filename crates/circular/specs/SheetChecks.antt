@@ -26,7 +26,3 @@ pub record AcceptedSheet (bs : List ℕ) (x : Sheet) : Type 0 where
   pub reads : readSheet bs ≡ accepted (ruleSheet x)
   pub usable : Usable x
   pub level : CircularSheet (ruleSheet x) → ⊥
-
--- some bytes are accepted and were read as x
-abbrev pub IsAccepted : Sheet → Type 0
-IsAccepted x = (bs : List ℕ) × AcceptedSheet bs x

@@ -10,6 +10,7 @@ use lib.ListN.{length}
 use Rattle.outcomes.specs.Decided.{Check}
 use Rattle.outcomes.proofs.Decisions.{Decidable, decidable-both, decided-some, decided-once}
 use Rattle.sheet.specs.RuleSheet.{Reading, refused, accepted, outputs, readSheet}
+use Rattle.sheet.proofs.Formed.{one-sheet}
 use Rattle.sheet.specs.ReadingChecks.{inputsOf, outputsOf, lengthAt, byteChecks, outputChecks, readingChecks}
 use Rattle.circular.specs.Circular.{CircularSheet, edges}
 use Rattle.circular.specs.SheetChecks.{OfSheet, sheetChecks}
@@ -60,7 +61,7 @@ circular-tested bs = go (readSheet bs) refl
       where
         test : (t : Bool) → circular? (outputs x) (edges x) ≡ t → Dec (OfSheet bs CircularSheet)
         test true f = yes (x, e, circular?-true (outputs x) (edges x) f)
-        test false f = no (λ z. false≢true (sym f ∙ circular?-of (outputs x) (edges x) (let same : z .0 ≡ x = (let g : accepted (z .0) ≡ accepted x = sym (z .1) ∙ e in cc) in subst CircularSheet same (z .2))))
+        test false f = no (λ z. false≢true (sym f ∙ circular?-of (outputs x) (edges x) (subst CircularSheet (one-sheet bs (z .0) x (z .1) e) (z .2))))
 
 sheet-tested : (bs : List ℕ) → Decidable (sheetChecks bs)
 sheet-tested bs = decidable-both (readingChecks bs) _ (reading-tested bs) (circular-tested bs, tt)

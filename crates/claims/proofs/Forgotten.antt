@@ -32,9 +32,9 @@ storage-forgotten x s s′ t t′ a a′ d d′ =
     let there : Subset 256 (live t) (live t′) = holds-same 256 (live t) (live t′) _ (d .lives) (d′ .lives) in
     let back : Subset 256 (live t′) (live t) = holds-same 256 (live t′) (live t) _ (d′ .lives) (d .lives) in (
       record {
-        live = λ b c hb hc. same-test (live t b c) (live t′ b c) (there b c hb hc) (back b c hb hc);
-        reached = λ b c hb hc. empty-same t t′ (d .empty) (d′ .empty) reachedAt b c hb hc (omega arith) (omega arith);
-        scratch = λ b c hb hc. empty-same t t′ (d .empty) (d′ .empty) scratchAt b c hb hc (omega arith) (omega arith);
+        same-live = λ b c hb hc. same-test (live t b c) (live t′ b c) (there b c hb hc) (back b c hb hc);
+        same-reached = λ b c hb hc. empty-same t t′ (d .empty) (d′ .empty) reachedAt b c hb hc (omega arith) (omega arith);
+        same-scratch = λ b c hb hc. empty-same t t′ (d .empty) (d′ .empty) scratchAt b c hb hc (omega arith) (omega arith);
       },
       d .count ∙ pairs-same 256 (live t) (live t′) there back ∙ sym (d′ .count),
       fresh-same (a .record) (a′ .record) (d .fresh) (d′ .fresh),

@@ -57,24 +57,24 @@ zero-none from to t z base b c hb hc l g =
 
 prepared-tidy : (x : RuleSheet) (s t : List ℕ) (p : PrepareAnswer) → Prepared x s t p → Tidy x (held t (p .record))
 prepared-tidy x s t p d = record {
-  reached = λ b c hb hc. within-zero (ltb b (width x)) (partBelow (width x) c) (reached t b c) (zero-none reachedAt storageWords t (d .empty) reachedAt b c hb hc (omega arith) (omega arith));
-  scratch = λ b c hb hc. zero-none reachedAt storageWords t (d .empty) scratchAt b c hb hc (omega arith) (omega arith);
+  within = λ b c hb hc. within-zero (ltb b (width x)) (partBelow (width x) c) (reached t b c) (zero-none reachedAt storageWords t (d .empty) reachedAt b c hb hc (omega arith) (omega arith));
+  cleared = λ b c hb hc. zero-none reachedAt storageWords t (d .empty) scratchAt b c hb hc (omega arith) (omega arith);
 }
 
 round-tidy : (x : RuleSheet) (h k : Held) (m : LetterSet) (a : RoundAnswer) → RoundDone x (h .storage) (k .storage) (h .record) m a → Tidy x h → Tidy x k
 round-tidy x h k m a d y = record {
-  reached = λ b c hb hc.
+  within = λ b c hb hc.
       d .steps b c hb hc
-      ∙ within-next (ltb b (width x)) (partBelow (width x) c) (used (width x) b c) (N b c) (reached (h .storage) b c) (unused (width x) b c) (y .reached b c hb hc)
+      ∙ within-next (ltb b (width x)) (partBelow (width x) c) (used (width x) b c) (N b c) (reached (h .storage) b c) (unused (width x) b c) (y .within b c hb hc)
       ∙ ap (λ (u : Bool). ltb b (width x) && (partBelow (width x) c && u)) (sym (d .steps b c hb hc));
-  scratch = λ b c hb hc. d .cleared b c hb hc ∙ none-left (used (width x) b c) (scratch (h .storage) b c) (y .scratch b c hb hc);
+  cleared = λ b c hb hc. d .cleared b c hb hc ∙ none-left (used (width x) b c) (scratch (h .storage) b c) (y .cleared b c hb hc);
 }
   where
     N : Pairs
     N = nextSet x (live (h .storage)) (h .record .rounds) (reached (h .storage)) (heard x m)
 
 kept-tidy : (x : RuleSheet) (h k : Held) → k .storage ≡ h .storage → Tidy x h → Tidy x k
-kept-tidy x h k e y = record { reached = rw e (y .reached); scratch = rw e (y .scratch) }
+kept-tidy x h k e y = record { within = rw e (y .within); cleared = rw e (y .cleared) }
 
 module _ (bs : List ℕ) (x : RuleSheet) (ok : SheetOk bs x) where
   call-tidy : (h k : Held) (c : Call) (a : Answer) → SessionStep bs h c a k → Tidy x h → Tidy x k

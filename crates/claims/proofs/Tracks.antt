@@ -23,7 +23,7 @@ use Rattle.words.proofs.ListLaws.{zeros}
 use Rattle.words.proofs.Options.{nothing, same-some}
 use Rattle.sheet.specs.RuleSheet.{RuleSheet, outputs, streams, accepted, readSheet}
 use Rattle.sheet.specs.ReadingChecks.{outputsOf}
-use Rattle.sheet.proofs.Formed.{counts-of, read-formed}
+use Rattle.sheet.proofs.Formed.{one-sheet, counts-of, read-formed}
 use Rattle.lola.specs.Equations.{output}
 use Rattle.record.specs.Record.{maxRounds, Fresh, countAt, sumAt, addUp, recordOk, share, sameVerdict}
 use Rattle.record.specs.declared.JournalRecord.{JournalRecord}
@@ -99,7 +99,7 @@ module _ (bs : List ℕ) (x : RuleSheet) (ok : SheetOk bs x) where
   w-small = pow-mono (read-formed bs x (ok .reads) .ranges .streams)
 
   pub same-sheet : (y : RuleSheet) → readSheet bs ≡ accepted y → y ≡ x
-  same-sheet y e = let z : accepted y ≡ accepted x = sym e ∙ ok .reads in cc
+  same-sheet y e = one-sheet bs y x e (ok .reads)
 
   -- the storage and the record are those of the book
   pub record Tracks (b : Book) (h : Held) : Type 0 where

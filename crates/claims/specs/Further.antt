@@ -62,9 +62,9 @@ ShortCompletion =
 
 -- two storages hold the same pairs in each of the three sets
 pub record SameSets (t t′ : List ℕ) : Type 0 where
-  pub live : (b : ℕ) (c : Option ℕ) → b < 256 → Within 256 c → live t b c ≡ live t′ b c
-  pub reached : (b : ℕ) (c : Option ℕ) → b < 256 → Within 256 c → reached t b c ≡ reached t′ b c
-  pub scratch : (b : ℕ) (c : Option ℕ) → b < 256 → Within 256 c → scratch t b c ≡ scratch t′ b c
+  pub same-live : (b : ℕ) (c : Option ℕ) → b < 256 → Within 256 c → live t b c ≡ live t′ b c
+  pub same-reached : (b : ℕ) (c : Option ℕ) → b < 256 → Within 256 c → reached t b c ≡ reached t′ b c
+  pub same-scratch : (b : ℕ) (c : Option ℕ) → b < 256 → Within 256 c → scratch t b c ≡ scratch t′ b c
 
 -- nothing hangs on what the storage held before preparation (01, "Completions and verdicts"): two preparations of a sheet, on any storages s and
 -- s′, leave the same sets and answer with the same number of live pairs and the same record
@@ -93,8 +93,8 @@ StaysInOrder = AfterCalls InOrder
 -- the scratch set is empty, and the reached set has no pair beyond the sheet's valuations: nothing is left in the words that rounds don't write
 -- (builders' choice, docs/LAYOUT)
 pub record Tidy (x : RuleSheet) (h : Held) : Type 0 where
-  pub reached : (b : ℕ) (c : Option ℕ) → b < 256 → Within 256 c → reached (h .storage) b c ≡ pairsWithin (width x) (reached (h .storage)) b c
-  pub scratch : (b : ℕ) (c : Option ℕ) → b < 256 → Within 256 c → scratch (h .storage) b c ≡ false
+  pub within : (b : ℕ) (c : Option ℕ) → b < 256 → Within 256 c → reached (h .storage) b c ≡ pairsWithin (width x) (reached (h .storage)) b c
+  pub cleared : (b : ℕ) (c : Option ℕ) → b < 256 → Within 256 c → scratch (h .storage) b c ≡ false
 
 abbrev pub StaysTidy : Type 0
 StaysTidy = AfterCalls Tidy

@@ -1,7 +1,7 @@
 // The journal program: reads the sheet's file and standard input, and writes what the crate `protocol` makes of them.
 ghost use Prim.Native.Nat.{_+_, _*_, _≤_};
 ghost use lib.ListN.{length};
-ghost use Rattle.circular.specs.SheetChecks.{IsAccepted};
+ghost use Rattle.circular.specs.Accepted.{IsAccepted};
 use libc::STDIN_FILENO;
 use libc::STDOUT_FILENO;
 use outcomes::Outcome;

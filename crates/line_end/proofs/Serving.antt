@@ -10,11 +10,11 @@ use Rattle.outcomes.specs.Decided.{Decided}
 use Rattle.outcomes.specs.declared.Outcome.{Outcome}
 use Rattle.outcomes.specs.declared.Outcome.the-variants.{Accepted, Refused}
 use Rattle.outcomes.proofs.Decisions.{decided-once, decided-accepted, passed-both}
-use Rattle.sheet.specs.RuleSheet.{RuleSheet, accepted, readSheet}
+use Rattle.sheet.specs.RuleSheet.{RuleSheet}
 use Rattle.sheet.specs.ReadingChecks.{outputsOf}
 use Rattle.sheet.specs.Reading.{ruleSheet, whenAccepted}
 use Rattle.sheet.specs.declared.Sheet.{Sheet}
-use Rattle.sheet.proofs.Formed.{counts-of}
+use Rattle.sheet.proofs.Formed.{one-sheet, counts-of}
 use Rattle.circular.specs.SheetChecks.{sheetChecks, AcceptedSheet}
 use Rattle.record.specs.declared.JournalRecord.{JournalRecord}
 use Rattle.pairs.specs.Storage.{storageWords}
@@ -74,16 +74,13 @@ module _ (sheet : List ℕ) (x : Sheet) (o : AcceptedSheet sheet x) where
       → SessionStep sheet (held s r) closing (closingSays (x .outputs) a (a .outcome)) (held s (a .record))
   closing-step s r a d = subst (λ (n : ℕ). SessionStep sheet (held s r) closing (closingSays n a (a .outcome)) (held s (a .record))) same-outputs (a-closing a d)
 
-  same-sheet : (y : RuleSheet) → readSheet sheet ≡ accepted y → y ≡ ruleSheet x
-  same-sheet y e = let z : accepted y ≡ accepted (ruleSheet x) = sym e ∙ o .reads in cc
-
   -- storage that was prepared
   pub serves-prepared : (s t : List ℕ) (p : PrepareAnswer) → storageWords ≤ length s → PrepareCall sheet s t p → Serves sheet (ruleSheet x) emptyBook (held t (p .record))
   serves-prepared s t p l d cs as′ k ss =
       let fits : Decided (prepareChecks sheet (length s)) Accepted = decided-accepted (sheetChecks sheet) (tooShort (length s) ∷ []) Accepted (o .decided) (inr ((λ h. omega arith), refl)) in
       let e : p .outcome ≡ Accepted = decided-once (prepareChecks sheet (length s)) (p .outcome) Accepted (d .decided) fits in
       let z = third-demand sheet s t p d e cs as′ k ss in
-      subst (λ (y : RuleSheet). (b : Book) × BookRun y emptyBook cs as′ b × Matches y b (k .record)) (same-sheet (z .0) (z .1)) (z .2)
+      subst (λ (y : RuleSheet). (b : Book) × BookRun y emptyBook cs as′ b × Matches y b (k .record)) (one-sheet sheet (z .0) (ruleSheet x) (z .1) (o .reads)) (z .2)
 
 -- ---- what an accepted answer says
 

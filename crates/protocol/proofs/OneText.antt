@@ -8,7 +8,8 @@ use Rattle.outcomes.specs.declared.Outcome.the-variants.{Accepted, Refused}
 use Rattle.outcomes.specs.declared.Verdict.{Verdict}
 use Rattle.outcomes.proofs.Decisions.{decided-once}
 use Rattle.outcomes.proofs.NumberLaws.{not-both}
-use Rattle.sheet.specs.RuleSheet.{RuleSheet, outputs, accepted}
+use Rattle.sheet.specs.RuleSheet.{RuleSheet, outputs}
+use Rattle.sheet.proofs.Formed.{one-sheet}
 use Rattle.circular.specs.SheetChecks.{sheetChecks}
 use Rattle.text.specs.Text.{verdictLine, closingText, lineRefusal, sheetRefusal}
 use Rattle.claims.specs.Book.{Call, Answer, refused, verdicts, closed, Book, emptyBook, counted, BookStep}
@@ -109,6 +110,4 @@ one-text sheet input t u (refusedSheet r d) (refusedSheet q e) =
 one-text sheet input t u (refusedSheet r d) (journal e f w) = absurd (not-both (decided-once (sheetChecks sheet) (Refused r) Accepted d e))
 one-text sheet input t u (journal e f w) (refusedSheet r d) = absurd (not-both (decided-once (sheetChecks sheet) (Refused r) Accepted d e))
 one-text sheet input t u (journal {x = x} d e v) (journal {x = y} f g w) =
-    let z : accepted y ≡ accepted x = sym g ∙ e in
-    let p : y ≡ x = cc in
-    written-once x v (subst (λ (k : RuleSheet). Written k emptyBook 1 (linesOf input) u) p w)
+    written-once x v (subst (λ (k : RuleSheet). Written k emptyBook 1 (linesOf input) u) (one-sheet sheet y x g e) w)

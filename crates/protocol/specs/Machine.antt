@@ -7,7 +7,8 @@ use Rattle.outcomes.specs.declared.Outcome.{Outcome}
 use Rattle.outcomes.specs.declared.Outcome.the-variants.{Accepted, Refused}
 use Rattle.sheet.specs.Reading.{ruleSheet}
 use Rattle.sheet.specs.declared.Sheet.{Sheet}
-use Rattle.circular.specs.SheetChecks.{AcceptedSheet, IsAccepted}
+use Rattle.circular.specs.SheetChecks.{AcceptedSheet}
+use Rattle.circular.specs.Accepted.{IsAccepted}
 use Rattle.claims.specs.Book.{Book}
 use Rattle.claims.specs.Session.{Held, held}
 use Rattle.line_scan.specs.Lines.{linesFrom}

@@ -1,7 +1,7 @@
 // The line protocol of the journal program.
 ghost use Prim.Native.Nat.{_+_, _*_, _≤_};
 ghost use lib.ListN.{length, take};
-ghost use Rattle.circular.specs.SheetChecks.{IsAccepted};
+ghost use Rattle.circular.specs.Accepted.{IsAccepted};
 ghost use Rattle.pairs.specs.Storage.{storageWords};
 ghost use Rattle.protocol.specs.Machine.{Begun, Goes, Finishes};
 use line_scan::Pending;

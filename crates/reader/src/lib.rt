@@ -15,12 +15,6 @@ use sheet::OutputNo;
 use sheet::Sheet;
 use sheet::SheetRead;
 
-fn wide(x: u8) -> u32
-    ensures { λ r. ⌜ r ≡ x ⌝ }
-{
-    x as u32
-}
-
 fn has_mark(s: &[u8]) -> bool
     requires { ⌜ 8 ≤ length (now s) ⌝ }
     ensures { λ r. ⌜ r ≡ markOk (now (s .entry)) ⌝ }
@@ -37,11 +31,11 @@ fn has_mark(s: &[u8]) -> bool
     true
 }
 
-fn version(s: &[u8]) -> u32
+fn version(s: &[u8]) -> u64
     requires { ⌜ 8 ≤ length (now s) ⌝ }
     ensures { λ r. ⌜ r ≡ versionOf (now (s .entry)) ⌝ }
 {
-    wide(s[3]) + 256 * wide(s[4])
+    words::wide(s[3]) + 256 * words::wide(s[4])
 }
 
 fn read_assumed(byte: u8, n: u8) -> AssumedRead

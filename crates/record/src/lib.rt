@@ -32,19 +32,13 @@ impl JournalRecord {
     }
 }
 
-fn wide(x: u32) -> u64
-    ensures { λ r. ⌜ r ≡ x ⌝ }
-{
-    x as u64
-}
-
 // The four counts of output k, added up.
 fn sum_at(counts: &[u32], k: OutputNo) -> u64
     requires { ⌜ (k .0 < 7) × (length (now counts) ≡ 28) ⌝ }
     ensures { λ r. ⌜ r ≡ sumAt (now (counts .entry)) (k .0) ⌝ }
 {
     let at = 4 * (k.0 as usize);
-    wide(counts[at]) + wide(counts[at + 1]) + wide(counts[at + 2]) + wide(counts[at + 3])
+    counts[at] as u64 + counts[at + 1] as u64 + counts[at + 2] as u64 + counts[at + 3] as u64
 }
 
 // Rule 18: whether the record can be one of a journal of n outputs.
@@ -55,7 +49,7 @@ pub fn record_ok(r: JournalRecord, n: usize) -> bool
     if JournalRecord::MAX_ROUNDS < r.rounds {
         return false;
     }
-    let t = wide(r.rounds);
+    let t = r.rounds as u64;
     let counts = r.counts;
     let mut k: usize = 0;
     while k < n {
@@ -113,5 +107,5 @@ pub fn share_of(trues: u32, rounds: u32) -> u32
     requires { ⌜ (1 ≤ rounds) × (trues ≤ rounds) ⌝ }
     ensures { λ r. ⌜ r ≡ share trues rounds ⌝ }
 {
-    ((2000 * wide(trues) + wide(rounds)) / (2 * wide(rounds))) as u32
+    ((2000 * (trues as u64) + rounds as u64) / (2 * (rounds as u64))) as u32
 }

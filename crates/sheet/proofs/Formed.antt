@@ -1,4 +1,4 @@
--- What holds of every sheet that is read: its counts are in range, and its reads are of its own streams.
+-- What holds of every sheet that is read: it is the only one, its counts are in range, and its reads are of its own streams.
 use mathlib.Core.Path.{_≡_, refl, sym, ap, _∙_, subst}
 use mathlib.Core.Bool.{Bool, true, false, cond, true≢false}
 use mathlib.Core.List.{List, [], _∷_}
@@ -19,6 +19,10 @@ use Rattle.sheet.specs.declared.Header.the-variants.{Fields, Refused}
 use Rattle.sheet.proofs.Sheets.{tree-at, length-trees}
 use Rattle.sheet.proofs.Headers.{fields, fields-are}
 use Rattle.sheet.proofs.Postfixes.{tree-exactly}
+
+-- bytes read as one sheet
+pub one-sheet : (bs : List ℕ) (x y : RuleSheet) → readSheet bs ≡ accepted x → readSheet bs ≡ accepted y → x ≡ y
+one-sheet bs x y e f = let z : accepted x ≡ accepted y = sym e ∙ f in cc
 
 pub record Formed (x : RuleSheet) : Type 0 where
   pub ranges : Ranges (x .inputs) (outputs x)

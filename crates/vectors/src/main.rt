@@ -5,7 +5,7 @@
 // line `--`. The first case that is cut short or too long ends the run, and nothing is written for it.
 ghost use Prim.Native.Nat.{_+_, _≤_, _<_};
 ghost use lib.ListN.{length};
-ghost use Rattle.circular.specs.SheetChecks.{IsAccepted};
+ghost use Rattle.circular.specs.Accepted.{IsAccepted};
 ghost use Rattle.pairs.specs.Storage.{storageWords};
 use libc::STDIN_FILENO;
 use libc::STDOUT_FILENO;

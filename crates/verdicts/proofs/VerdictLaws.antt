@@ -27,9 +27,8 @@ use Rattle.words.proofs.Bools.{iff, and-split}
 use Rattle.words.proofs.ListLaws.{set-more}
 use Rattle.completions.specs.Live.{Pairs}
 use Rattle.completions.specs.Steps.{anyNext, anyPair, verdictOf, pairsVerdict, endsVerdict}
-use Rattle.pairs.specs.Storage.{reached, reachedAt}
-use Rattle.pairs.specs.Changes.{rowBit}
-use Rattle.pairs.proofs.Sets.{lane-end}
+use Rattle.pairs.specs.Storage.{reached}
+use Rattle.pairs.specs.Changes.{rowBit, EndsWord}
 use Rattle.rounds.specs.Rows.{among}
 use Rattle.rounds.proofs.WordLaws.{heard-lane}
 use Rattle.verdicts.specs.Firsts.{Passing, Words, shows}
@@ -159,10 +158,10 @@ filling-all w g f j h p = record { size = p .size; bits = λ b l. at b l }
         ap (λ (z : ℕ). bit (b % 64) (getD f z 0)) e ∙ p .done (b / 64) (b % 64) (omega arith) (omega arith) ∙ ap g q
 
 -- a word of the end row
-pub ends-lane : (s : List ℕ) (j v mask : ℕ) → ((i : ℕ) → i < 64 → bit i mask ≡ ltb (64 * j + i) v) → (i : ℕ) → i < 64
-    → bit i (bitAnd (getD s (reachedAt + (1024 + j)) 0) mask) ≡ (ltb (64 * j + i) v && reached s (64 * j + i) none)
-ends-lane s j v mask f i h =
-    bit-and i (getD s (reachedAt + (1024 + j)) 0) mask ∙ ap₂ _&&_ (lane-end s reachedAt j i h) (f i h) ∙ and-comm (reached s (64 * j + i) none) (ltb (64 * j + i) v)
+pub ends-lane : (s : List ℕ) (j v mask word : ℕ) → EndsWord (reached s) j word → ((i : ℕ) → i < 64 → bit i mask ≡ ltb (64 * j + i) v) → (i : ℕ) → i < 64
+    → bit i (bitAnd word mask) ≡ (ltb (64 * j + i) v && reached s (64 * j + i) none)
+ends-lane s j v mask word e f i h =
+    bit-and i word mask ∙ ap₂ _&&_ (e i h) (f i h) ∙ and-comm (reached s (64 * j + i) none) (ltb (64 * j + i) v)
 
 -- ---- the test as a row of words
 

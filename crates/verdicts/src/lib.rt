@@ -75,7 +75,7 @@ fn ends(s: &[u64], v: usize, w: usize) -> [u64; 4]
     let mut f = [0u64; 4];
     let mut j: usize = 0;
     while j < w {
-        f[j] = s[pairs::REACHED + (1024 + j)] & words::lanes_below(v, j);
+        f[j] = pairs::ends_word(s, pairs::REACHED, j) & words::lanes_below(v, j);
         j += 1;
     }
     f

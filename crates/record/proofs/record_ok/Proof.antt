@@ -8,10 +8,6 @@ use Rattle.record.specs.Record.{addUp}
 use Rattle.record.proofs.Tallies.{add-up-more, add-up-not, too-many, by-counts}
 use Rattle.record.proofs.record_ok.Statement.{statement}
 use Rattle.record.proofs.record_ok.Tie as tie
-use Rattle.record.proofs.record_ok.Reads as reads
-use Rattle.record.proofs.record_ok.Lts as lts
-use Rattle.record.proofs.sum_at.Reads as sum-at-reads
-use Rattle.record.proofs.wide.Reads as wide-reads
 
 abbrev Inv-loop : tie.InvT-loop
 Inv-loop n t counts k₀ k = (k ≤ n) × (addUp counts t k ≡ true)
@@ -22,8 +18,8 @@ abbrev μ-loop : tie.MeasureT-loop
 returns : tie.Need-returns Inv-loop μ-loop
 returns c = sym (too-many (c .before .before .args .n) (c .before .before .args .r) (c .if1 .taken))
 
-wide-requires : tie.Need-wide-requires Inv-loop μ-loop
-wide-requires c κs = search needs
+cast-t : tie.Need-cast-t Inv-loop μ-loop
+cast-t c = search needs
 
 loop-holds : tie.Need-loop-holds Inv-loop μ-loop
 unfolding addUp
@@ -41,11 +37,10 @@ sum-at-requires c κs = (omega arith, search needs)
 returns-2 : tie.Need-returns-2 Inv-loop μ-loop
 returns-2 c =
     let turn = c .before .before .before .before in
-    let after-wide = turn .before .before in
-    let start = after-wide .before .before .before in
+    let start = turn .before .before .before .before .before in
     sym (by-counts (start .args .n) (start .args .r) false (omega arith)
     (add-up-not (start .args .r .counts) (start .args .r .rounds) (turn .loop .k) (start .args .n) (omega arith)
-    (λ e. c .if2 .taken (c .before .sum-at .ensures ∙ e ∙ sym (after-wide .wide .ensures)))))
+    (λ e. c .if2 .taken (c .before .sum-at .ensures ∙ e))))
 
 add-k : tie.Need-add-k Inv-loop μ-loop
 add-k c = omega arith
@@ -56,16 +51,15 @@ loop-less c = omega arith
 loop-again : tie.Need-loop-again Inv-loop μ-loop
 loop-again c =
     let turn = c .before .before .before .before in
-    let after-wide = turn .before .before in
-    let start = after-wide .before .before .before in
-    (omega arith, add-up-more (start .args .r .counts) (after-wide .wide .result) (turn .loop .k) (sym (c .before .sum-at .ensures) ∙ c .if2 .left) (turn .loop .inv .1))
+    let start = turn .before .before .before .before .before in
+    (omega arith, add-up-more (start .args .r .counts) (start .args .r .rounds) (turn .loop .k) (sym (c .before .sum-at .ensures) ∙ c .if2 .left) (turn .loop .inv .1))
 
 returns-3 : tie.Need-returns-3 Inv-loop μ-loop
 returns-3 c =
     let a = c .before .before .before .before .before .before .args in
     let e : c .before .loop .k ≡ a .n = omega arith in
     sym (by-counts (a .n) (a .r) true (omega arith)
-    (ap (addUp (a .r .counts) (a .r .rounds)) (sym e) ∙ rw (c .before .before .before .wide .ensures) at (c .before .loop .inv .1)))
+    (ap (addUp (a .r .counts) (a .r .rounds)) (sym e) ∙ c .before .loop .inv .1))
 
 pub record-ok-spec : {M : Type 1} → statement M
 record-ok-spec =
@@ -74,7 +68,7 @@ record-ok-spec =
     Inv-loop
     μ-loop
     returns
-    wide-requires
+    cast-t
     loop-holds
     slice-aggregate-sum-at
     cast-t11

@@ -19,23 +19,14 @@ abbrev μ-loop : tie.MeasureT-loop
 loop-holds : tie.Need-loop-holds Inv-loop μ-loop
 loop-holds c = filling-none _ _ _ refl
 
-add-f : tie.Need-add-f Inv-loop μ-loop
-add-f c = search needs
-
-add-f-2 : tie.Need-add-f-2 Inv-loop μ-loop
-add-f-2 c = search needs
-
-mul-f : tie.Need-mul-f Inv-loop μ-loop
-mul-f c = search needs
-
-shared-slice-read-f : tie.Need-shared-slice-read-f Inv-loop μ-loop
-shared-slice-read-f c = search needs
+ends-word-requires : tie.Need-ends-word-requires Inv-loop μ-loop
+ends-word-requires c κs = search needs
 
 lanes-below-requires : tie.Need-lanes-below-requires Inv-loop μ-loop
 lanes-below-requires c κs = search needs
 
-mul-f-2 : tie.Need-mul-f-2 Inv-loop μ-loop
-mul-f-2 c = search needs
+mul-f : tie.Need-mul-f Inv-loop μ-loop
+mul-f c = search needs
 
 array-write-f : tie.Need-array-write-f Inv-loop μ-loop
 array-write-f c = search needs
@@ -47,7 +38,7 @@ loop-less : tie.Need-loop-less Inv-loop μ-loop
 loop-less c = search needs
 
 loop-again : tie.Need-loop-again Inv-loop μ-loop
-loop-again c = filling-more _ _ _ _ _ (c .before .before .before .before .before .pre .1) (c .before .before .loop-test .taken) (c .before .before .before .loop .inv) (ends-lane _ _ _ _ (c .lanes-below .ensures))
+loop-again c = filling-more _ _ _ _ _ (c .before .before .before .before .before .pre .1) (c .before .before .loop-test .taken) (c .before .before .before .loop .inv) (ends-lane _ _ _ _ _ (c .before .ends-word .ensures) (c .lanes-below .ensures))
 
 returns : tie.Need-returns Inv-loop μ-loop
 returns c = filling-all _ _ _ _ (c .loop-test .left) (c .before .loop .inv)
@@ -59,12 +50,9 @@ ends-spec =
     Inv-loop
     μ-loop
     loop-holds
-    add-f
-    add-f-2
-    mul-f
-    shared-slice-read-f
+    ends-word-requires
     lanes-below-requires
-    mul-f-2
+    mul-f
     array-write-f
     add-j
     loop-less

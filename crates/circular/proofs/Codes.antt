@@ -213,11 +213,11 @@ unfolding circular?
 not-circular n E h c = false≢true (sym h ∙ circular?-of n E c)
 
 -- no reads at all
-pub none-reads : (n : ℕ) (E : ℕ → ℕ → ℕ → Bool) → ((s : ℕ) → s < n → (q o : ℕ) → E s q o ≡ false) → Circular n E → ⊥
+pub none-reads : (n : ℕ) (E : ℕ → ℕ → ℕ → Bool) → ((s : ℕ) → s < n → (q o : ℕ) → o ≤ 2 → E s q o ≡ false) → Circular n E → ⊥
 none-reads n E f c = go (c .reach)
   where
     no-edge : {s q o : ℕ} → Edge n E s q o → ⊥
-    no-edge {s} {q} {o} e = false≢true (sym (f s (e .from) q o) ∙ e .is)
+    no-edge {s} {q} {o} e = false≢true (sym (f s (e .from) q o (e .off)) ∙ e .is)
 
     go : {N s t q u : ℕ} → Reach n E N s t q u → ⊥
     go (last r) = no-edge (r .edge)

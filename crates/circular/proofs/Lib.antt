@@ -6,7 +6,6 @@ pub mod Rows
 pub mod Pigeon
 pub mod Unique
 pub mod Sweep
-pub mod Trees
 pub mod Masks
 pub mod Decided
 pub mod Sides

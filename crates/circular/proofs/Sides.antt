@@ -11,12 +11,12 @@ use Rattle.sheet.specs.Expression.{Expr, constant, negation, conjunction, disju
 use Rattle.sheet.specs.Postfix.{InSheet}
 use Rattle.sheet.specs.RuleSheet.{RuleSheet, outputs}
 use Rattle.sheet.specs.declared.Offset.{Offset}
+use Rattle.sheet.specs.declared.Offset.the-variants.{Earlier, Now, Later}
 use Rattle.sheet.proofs.Formed.{Formed}
 use Rattle.lola.specs.Value.{Look, value}
 use Rattle.lola.specs.Reads.{offsetNo, hasRead}
 use Rattle.circular.specs.Circular.{CircularSheet, edges}
 use Rattle.circular.specs.Places.{Assignment, joint, lookAt, right, Place, Reads, Solves}
-use Rattle.circular.proofs.Masks.{offset-le}
 use Rattle.circular.proofs.Unique.{run, unique, solution}
 
 -- the expression of output s
@@ -35,6 +35,11 @@ value-same f g h (negation e) = ap not (value-same f g h e)
 value-same f g h (conjunction a b) = ap₂ _&&_ (value-same f g h a) (value-same f g h b)
 value-same f g h (disjunction a b) = ap₂ _||_ (value-same f g h a) (value-same f g h b)
 value-same f g h (read q o d) = h q o d
+
+offset-le : (o : Offset) → offsetNo o ≤ 2
+offset-le Earlier = omega arith
+offset-le Now = omega arith
+offset-le Later = omega arith
 
 module _ (m n N t : ℕ) (xs v w : Assignment) where
   -- v and w agree where the expression reads an output

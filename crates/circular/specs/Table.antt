@@ -7,6 +7,7 @@ use Prim.Native.Nat.{ℕ, zero, suc, _+_, _*_, _-_, _≤_, _<_}
 use lib.ListN.{length, getD}
 use lib.Dec.{leb, ltb, eqb}
 use Rattle.words.specs.Bits.{bit}
+use Rattle.lola.specs.ByteReads.{readIn}
 
 abbrev pub pickN : Bool → ℕ → ℕ → ℕ
 pickN true x y = x
@@ -79,13 +80,9 @@ levelBoth t u s = leb 1024 (getD t (8 * s + s) 0) && leb 1024 (getD u (8 * s + s
 unfoldable pub readsOf : List ℕ → ℕ → ℕ → ℕ → Bool
 readsOf g s q o = bit o (getD g (7 * s + q) 0)
 
--- the reads of output q at the offset o, from the word of an output, where output q is stream m + q
-unfoldable pub readsOfWord : ℕ → ℕ → ℕ → ℕ → Bool
-readsOfWord w m q o = bit (3 * (m + q) + o) w
-
--- the same, from the words of the outputs
+-- the same from the words of the outputs, where output q is stream m + q
 abbrev pub readsOfWords : List ℕ → ℕ → ℕ → ℕ → ℕ → Bool
-readsOfWords ws m s = readsOfWord (getD ws s 0) m
+readsOfWords ws m s q = readIn (getD ws s 0) (m + q)
 
 -- the largest weight of a single read, of those there are: earlier, now, later
 unfoldable pub topN : Bool → Bool → Bool → ℕ

@@ -1,65 +1,20 @@
 // The reads between the outputs of a sheet, from the bytes of its expressions.
 ghost use mathlib.Core.Path.{_≡_};
-ghost use Prim.Native.Nat.{ℕ, _+_, _*_, _<_, _≤_};
+ghost use Prim.Native.Nat.{ℕ, _<_, _≤_};
 ghost use lib.ListN.{length, getD};
-ghost use Rattle.words.specs.Bits.{bit};
-ghost use Rattle.sheet.specs.Bytes.{opOf};
 ghost use Rattle.sheet.specs.Reading.{ruleSheet, Usable};
-ghost use Rattle.lola.specs.Reads.{offsetNo};
-ghost use Rattle.lola.specs.ByteReads.{opReads};
-ghost use Rattle.circular.specs.Masks.{Marks, bytesOf, Rows, Mask, Masks, Tells};
+ghost use Rattle.circular.specs.Masks.{Row, Rows, Mask, Masks, Tells};
+use lola::reads::expression_reads;
+use lola::reads::streams_at;
 use sheet::Offset;
-use sheet::Op;
 use sheet::OutputNo;
 use sheet::Sheet;
 use sheet::StreamNo;
 
-fn offset_number(o: Offset) -> u64
-    ensures { λ r. ⌜ r ≡ offsetNo o ⌝ }
-{
-    match o {
-        Offset::Earlier => 0,
-        Offset::Now => 1,
-        Offset::Later => 2,
-    }
-}
-
-// Bit 3 q + o for a read of stream q at the offset number o; no bit for any other byte.
-fn byte_reads(byte: u8) -> u64
-    ensures { λ r. ⌜ ((q o : ℕ) → o ≤ 2 → bit (3 * q + o) r ≡ opReads (opOf byte) q o) ⌝ }
-{
-    let op = sheet::operation(byte);
-    match op {
-        Op::Read(stream, offset, _) => {
-            let q = stream.0 as u64;
-            let o = offset_number(offset);
-            1u64 << (3 * q + o)
-        }
-        Op::Const(_) => 0,
-        Op::Not => 0,
-        Op::And => 0,
-        Op::Or => 0,
-        Op::Rejected(_) => 0,
-    }
-}
-
-// All reads of an expression.
-fn expression_reads(e: &[u8]) -> u64
-    ensures { λ r. ⌜ Marks (now (e .entry)) r ⌝ }
-{
-    let mut word: u64 = 0;
-    let mut i: usize = 0;
-    while i < e.len() {
-        word = word | byte_reads(e[i]);
-        i += 1;
-    }
-    word
-}
-
 // All reads of output s; none where there is no such output.
 fn output_reads(code: &[u8], len: &[usize], n: usize, s: usize) -> u64
     requires { ⌜ (n ≤ 7) × (length (now code) ≡ 448) × (length (now len) ≡ 7) × ((k : ℕ) → k < n → getD (now len) k 0 ≤ 64) ⌝ }
-    ensures { λ r. ⌜ Marks (bytesOf (now (code .entry)) (now (len .entry)) n s) r ⌝ }
+    ensures { λ r. ⌜ Row (now (code .entry)) (now (len .entry)) n s r ⌝ }
 {
     if n <= s {
         return 0;
@@ -89,7 +44,10 @@ pub fn mask_at(word: u64, stream: StreamNo) -> u8
     ensures { λ r. ⌜ Mask word (stream .0) r ⌝ }
 {
     let q = stream.0 as u64;
-    ((word >> (3 * q)) % 8) as u8
+    let earlier = (streams_at(word, Offset::Earlier) >> q) % 2;
+    let now = (streams_at(word, Offset::Now) >> q) % 2;
+    let later = (streams_at(word, Offset::Later) >> q) % 2;
+    (earlier + 2 * now + 4 * later) as u8
 }
 
 fn masks_of(words: &[u64; 7], m: u8) -> [u8; 49]

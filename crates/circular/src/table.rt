@@ -5,9 +5,12 @@ ghost use Prim.Native.Nat.{ℕ, _+_, _*_, _<_, _≤_};
 ghost use lib.ListN.{getD};
 ghost use Rattle.words.specs.Below.{anyBelow};
 ghost use Rattle.words.specs.Bits.{bit};
+ghost use Rattle.lola.specs.ByteReads.{readIn};
 ghost use Rattle.circular.specs.Circular.{Circular};
-ghost use Rattle.circular.specs.Table.{pickN, largerN, clipN, plusN, loopN, topN, baseN, readsOfWord, readsOfWords, Small, Part, Tails, joinedN, Next, Based, Closed, levelBoth};
+ghost use Rattle.circular.specs.Table.{pickN, largerN, clipN, plusN, loopN, topN, baseN, readsOfWords, Small, Part, Tails, joinedN, Next, Based, Closed, levelBoth};
 use super::reads::mask_at;
+use lola::reads::streams_at;
+use sheet::Offset;
 use sheet::OutputNo;
 
 // A table has 8 rows of 8 entries. Entry 8 * s + q tells the largest weight of the walks from output s to output q, where a read one round
@@ -140,7 +143,7 @@ fn base(up: bool, x: u8) -> u16
 // The same for the reads of one output, in row s.
 fn base_row(t: &mut [u16], s: usize, word: u64, m: u8, n: usize, up: bool)
     requires { ⌜ (s < 8) × (m ≤ 6) × (n ≤ 7) × Small (now t) ⌝ }
-    ensures { λ r. ⌜ Small (now (t .exit)) × Part (8 * s) n (λ q. baseN up (readsOfWord word m q)) (now (t .entry)) (now (t .exit)) ⌝ }
+    ensures { λ r. ⌜ Small (now (t .exit)) × Part (8 * s) n (λ q. baseN up (readIn word (m + q))) (now (t .entry)) (now (t .exit)) ⌝ }
 {
     let mut q: usize = 0;
     while q < n {
@@ -199,22 +202,24 @@ fn level_in_both<'a>(t: &'a [u16; 64], u: &'a [u16; 64], n: usize) -> bool
 // Whether some output reads an output.
 fn has_reads(words: &[u64; 7], m: u8, n: usize) -> bool
     requires { ⌜ (m ≤ 6) × (n ≤ 7) ⌝ }
-    ensures { λ r. ⌜ (r ≡ false → (s : ℕ) → s < n → (q o : ℕ) → readsOfWords (now (words .entry)) m s q o ≡ false) ⌝ }
+    ensures { λ r. ⌜ (r ≡ false → (s : ℕ) → s < n → (q o : ℕ) → o ≤ 2 → readsOfWords (now (words .entry)) m s q o ≡ false) ⌝ }
 {
     let first = sheet::stream_of(m, OutputNo(0));
-    let from = 3 * (first.0 as u64);
+    let from = first.0 as u64;
+    let mut all: u64 = 0;
     let mut s: usize = 0;
     while s < n {
-        if words[s] >> from != 0 {
-            return true;
-        }
+        all = all | words[s];
         s += 1;
     }
-    false
+    let streams = streams_at(all, Offset::Earlier)
+        | streams_at(all, Offset::Now)
+        | streams_at(all, Offset::Later);
+    streams >> from != 0
 }
 
-// Whether some value reaches itself: some output has a closed walk of weight at least 0 and one of weight at most 0. Word s has bit
-// 3 (m + q) + o if output s reads output q at the offset number o.
+// Whether some value reaches itself: some output has a closed walk of weight at least 0 and one of weight at most 0. Word s has the reads of
+// output s; output q is stream m + q.
 pub fn circular(words: &[u64; 7], m: u8, n: usize) -> bool
     requires { ⌜ (m ≤ 6) × (n ≤ 7) ⌝ }
     ensures yes { λ r. ⌜ (r ≡ true → Circular n (readsOfWords (now (words .entry)) m)) ⌝ }

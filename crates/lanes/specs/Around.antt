@@ -2,11 +2,11 @@
 -- The reads of one family, of the round itself, one earlier or one later, may differ from lane to lane: each lane stands for a valuation of
 -- that round.
 use mathlib.Core.Path.{_≡_}
-use mathlib.Core.Bool.{Bool, true, false, cond, _&&_}
+use mathlib.Core.Bool.{Bool, true, false, cond}
 use mathlib.Core.List.{List, [], _∷_}
 use mathlib.Core.Option.{Option, none, some}
 use Prim.Native.Nat.{ℕ, zero, suc, _+_, _*_, _/_, _%_, _^_, _<_, _≤_}
-use lib.Dec.{eqb, leb, ltb}
+use lib.Dec.{eqb, leb}
 use lib.ListN.{getD}
 use Rattle.words.specs.Bits.{bit}
 use Rattle.lola.specs.Value.{Look, near}
@@ -81,7 +81,3 @@ pub record Ahead (w : ℕ) (b : ℕ) (c : Option ℕ) : Type 0 where
 -- how the code has a neighbouring round that may be missing
 unfoldable pub unless : Bool → ℕ → Option ℕ
 unless absent v = cond absent none (some v)
-
--- the byte e is a read of stream q one round earlier
-unfoldable pub earlierByte : ℕ → ℕ → Bool
-earlierByte e q = (leb 0x50 e && ltb e 0x60) && eqb q (e % 8)

@@ -13,12 +13,13 @@ ghost use Rattle.lanes.specs.Around.{stackWords, Beside, Before, Seen, A
 ghost use Rattle.lanes.specs.Coded.{Coded, sheetOf, Agree};
 use expression::four_equations;
 use expression::two_equations;
-use mask::expression_mask;
+use lola::reads::expression_reads;
+use lola::reads::streams_at;
+use sheet::Offset;
 use sheet::OutputNo;
 use words::Size;
 
 mod expression; // expression.rt: expressions and equations on rows of two words and of four
-mod mask; // mask.rt: the streams that expressions read one round earlier
 mod row; // row.rt: one row of words
 
 // The families of reads that may be of the lane's valuation, numbered as the read bytes are: those of family f begin at 0x40 + 16 f.
@@ -187,13 +188,13 @@ pub fn earlier_mask(code: &[u8], len: &[usize], m: usize, n: usize) -> usize
     requires { ⌜ Coded m n (now code) (now len) ⌝ }
     ensures { λ r. ⌜ ((ks : List ℕ) (a b : ℕ) (c : Option ℕ) → holds (sheetOf m n (now (code .entry)) (now (len .entry)) ks) (some a) b c ≡ holds (sheetOf m n (now (code .entry)) (now (len .entry)) ks) (some (bitAnd a r)) b c) ⌝ }
 {
-    let mut w: u8 = 0;
+    let mut w: u64 = 0;
     let mut k: usize = 0;
     while k < n {
         let from = 64 * k;
         let to = from + len[k];
-        w = w | expression_mask(&code[from..to]);
+        w = w | expression_reads(&code[from..to]);
         k += 1;
     }
-    words::wide(w) as usize
+    streams_at(w, Offset::Earlier) as usize
 }

@@ -7,6 +7,8 @@ ghost use Rattle.sheet.specs.Expression.{Expr, parse, tree};
 ghost use Rattle.lola.specs.Value.{value};
 ghost use Rattle.lola.specs.Slots.{slots, Works};
 
+pub mod reads; // reads.rt: what an expression reads
+
 // One byte of an expression, on a stack of bits whose top is bit 0. Bit byte - 0x40 of `env` is the value of the read `byte`.
 fn step_bit(env: u64, stack: u64, byte: u8) -> u64
     requires { ⌜ stack < 2 ^ 63 ⌝ }

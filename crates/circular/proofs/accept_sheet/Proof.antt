@@ -17,34 +17,46 @@ enum-told c = search needs
 cast-n : tie.Need-cast-n
 cast-n c = search needs
 
-is-circular-requires : tie.Need-is-circular-requires
-is-circular-requires c κs =
+all-reads-requires : tie.Need-all-reads-requires
+all-reads-requires c κs =
     let after-enum-told = c .before .before .before .before .before in
     let after-read-sheet = after-enum-told .before .before in
     let u = rw (after-enum-told .enum-told .given .1) at (after-read-sheet .read-sheet .ensures .1 .0) in
-    (u .ranges .inputs, u .ranges .outputs, u .code-size, u .sizes, u .small)
+    (u .ranges .outputs, u .code-size, u .sizes, u .small)
+
+circular-requires : tie.Need-circular-requires
+circular-requires c κs =
+    let after-enum-told = c .before .before .before .before .before .before .before in
+    let after-read-sheet = after-enum-told .before .before in
+    let u = rw (after-enum-told .enum-told .given .1) at (after-read-sheet .read-sheet .ensures .1 .0) in
+    (u .ranges .inputs, u .ranges .outputs)
 
 refused-sheet-requires : tie.Need-refused-sheet-requires
 refused-sheet-requires c κs = search needs
 
 returns : tie.Need-returns
 returns c =
-    let r = c .before .before .before .before .before .before .before .before .before .before .read-sheet in
-    let t = c .before .before .before .before .before .before .before .before .enum-told .given .1 in
+    let after-all-reads = c .before .before .before .before in
+    let after-enum-told = after-all-reads .before .before .before .before .before .before in
+    let r = after-enum-told .before .before .read-sheet in
+    let t = after-enum-told .enum-told .given .1 in
     let x = r .result .sheet in
-    rw (c .refused-sheet .ensures .0) (round _ (ruleSheet x) (sym (rw t at (r .ensures .0))) (sheet-circular x (rw t at (r .ensures .1 .0)) (c .before .before .is-circular .ensures .0 (c .before .if1 .taken))), (tt, c .refused-sheet .ensures .1))
+    let told = sheet-circular x (rw t at (r .ensures .1 .0)) _ (after-all-reads .all-reads .ensures) (c .before .before .circular .ensures .0 (c .before .if1 .taken)) in
+    rw (c .refused-sheet .ensures .0) (round _ (ruleSheet x) (sym (rw t at (r .ensures .0))) told, (tt, c .refused-sheet .ensures .1))
 
 enum-told-2 : tie.Need-enum-told-2
 enum-told-2 c = search needs
 
 returns-2 : tie.Need-returns-2
 returns-2 c =
-    let r = c .before .before .before .before .before .before .before .before .before .read-sheet in
-    let t = c .before .before .before .before .before .before .before .enum-told .given .1 in
+    let after-all-reads = c .before .before .before in
+    let after-enum-told = after-all-reads .before .before .before .before .before .before in
+    let r = after-enum-told .before .before .read-sheet in
+    let t = after-enum-told .enum-told .given .1 in
     let x = r .result .sheet in
     let e = sym (rw t at (r .ensures .0)) in
     let u = rw t at (r .ensures .1 .0) in
-    let n : CircularSheet (ruleSheet x) → ⊥ = λ k. c .before .is-circular .ensures .1 (c .if1 .left) (circular-sheet x u k) in
+    let n : CircularSheet (ruleSheet x) → ⊥ = λ k. c .before .circular .ensures .1 (c .if1 .left) (circular-sheet x u _ (after-all-reads .all-reads .ensures) k) in
     let d = level _ (ruleSheet x) e n in
     rw t (d, (record { decided = d; reads = e; usable = u; level = n }, tt))
 
@@ -61,7 +73,8 @@ accept-sheet-spec =
     read-sheet-requires
     enum-told
     cast-n
-    is-circular-requires
+    all-reads-requires
+    circular-requires
     refused-sheet-requires
     returns
     enum-told-2

@@ -1,4 +1,4 @@
--- `lanes::earlier_mask` meets its contract: the mask covers the reads of the first k expressions.
+-- `lanes::earlier_mask` meets its contract: the word covers the reads of the first k expressions.
 use Prim.Native.Nat.{_+_, _-_, _≤_}
 use native.Mathlib.Omega.{arith}
 use borrow.Author.Needs.{needs}
@@ -28,17 +28,17 @@ shared-slice-read-to c = omega (arith, part-room _ _ _ _ (c .before .before .bef
 add-to : tie.Need-add-to Inv-loop μ-loop
 add-to c = omega (arith, part-room _ _ _ _ (c .before .before .before .before .before .pre) (c .before .before .loop .k) (c .before .loop-test .taken))
 
-sub-expression-mask : tie.Need-sub-expression-mask Inv-loop μ-loop
-sub-expression-mask c = omega (arith, part-room _ _ _ _ (c .before .before .before .before .before .pre) (c .before .before .loop .k) (c .before .loop-test .taken))
+sub-expression-reads : tie.Need-sub-expression-reads Inv-loop μ-loop
+sub-expression-reads c = omega (arith, part-room _ _ _ _ (c .before .before .before .before .before .pre) (c .before .before .loop .k) (c .before .loop-test .taken))
 
-part-expression-mask-start : tie.Need-part-expression-mask-start Inv-loop μ-loop
-part-expression-mask-start c = omega (arith, part-room _ _ _ _ (c .before .before .before .before .before .pre) (c .before .before .loop .k) (c .before .loop-test .taken))
+part-expression-reads-start : tie.Need-part-expression-reads-start Inv-loop μ-loop
+part-expression-reads-start c = omega (arith, part-room _ _ _ _ (c .before .before .before .before .before .pre) (c .before .before .loop .k) (c .before .loop-test .taken))
 
-part-expression-mask-end : tie.Need-part-expression-mask-end Inv-loop μ-loop
-part-expression-mask-end c = omega (arith, part-room _ _ _ _ (c .before .before .before .before .before .pre) (c .before .before .loop .k) (c .before .loop-test .taken))
+part-expression-reads-end : tie.Need-part-expression-reads-end Inv-loop μ-loop
+part-expression-reads-end c = omega (arith, part-room _ _ _ _ (c .before .before .before .before .before .pre) (c .before .before .loop .k) (c .before .loop-test .taken))
 
-expression-mask-requires : tie.Need-expression-mask-requires Inv-loop μ-loop
-expression-mask-requires c κs = search needs
+expression-reads-requires : tie.Need-expression-reads-requires Inv-loop μ-loop
+expression-reads-requires c κs = search needs
 
 add-k : tie.Need-add-k Inv-loop μ-loop
 add-k c = search needs
@@ -51,13 +51,13 @@ loop-again c =
     let tested = c .before .before .before in
     let turn = tested .before in
     let start = turn .before .before .before in
-    (omega arith, covers-more _ _ _ _ _ _ (turn .loop .inv .1) (c .expression-mask .ensures _ _ (part-parses _ _ _ _ (start .pre) _ (tested .loop-test .taken))))
+    (omega arith, covers-more _ _ _ _ _ _ (turn .loop .inv .1) (c .expression-reads .ensures .reads _ _ (part-parses _ _ _ _ (start .pre) _ (tested .loop-test .taken))))
 
-wide-requires : tie.Need-wide-requires Inv-loop μ-loop
-wide-requires c κs = search needs
+streams-at-requires : tie.Need-streams-at-requires Inv-loop μ-loop
+streams-at-requires c κs = search needs
 
 returns : tie.Need-returns Inv-loop μ-loop
-returns c = rw (c .wide .ensures) (blind _ _ _ _ (c .before .before .before .before .before .pre) _ (covers-all _ _ _ _ _ _ (c .before .loop-test .left) (c .before .before .loop .inv .1)))
+returns c = blind _ _ _ _ (c .before .before .before .before .before .pre) _ _ (covers-all _ _ _ _ _ _ (c .before .loop-test .left) (c .before .before .loop .inv .1)) (c .streams-at .ensures)
 
 pub earlier-mask-spec : {M : Type 1} → statement M
 earlier-mask-spec =
@@ -70,12 +70,12 @@ earlier-mask-spec =
     mul-to
     shared-slice-read-to
     add-to
-    sub-expression-mask
-    part-expression-mask-start
-    part-expression-mask-end
-    expression-mask-requires
+    sub-expression-reads
+    part-expression-reads-start
+    part-expression-reads-end
+    expression-reads-requires
     add-k
     loop-less
     loop-again
-    wide-requires
+    streams-at-requires
     returns)

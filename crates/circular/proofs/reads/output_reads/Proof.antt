@@ -1,16 +1,15 @@
 -- `circular::reads::output_reads` meets its contract.
+use mathlib.Core.Path.{refl}
 use Prim.Native.Nat.{_*_}
 use native.Mathlib.Nat.{add-sub-cancel-left}
 use native.Mathlib.Omega.{arith}
 use lib.ListN.{getD}
 use borrow.Author.Needs.{needs}
-use borrow.Author.Tests.{lt-ltb, le-ltb}
-use Rattle.circular.proofs.Masks.{marks-none}
 use Rattle.circular.proofs.reads.output_reads.Statement.{statement}
 use Rattle.circular.proofs.reads.output_reads.Tie as tie
 
 returns : tie.Need-returns
-returns c = rw (le-ltb _ _ (c .if1 .taken)) marks-none
+returns c = record { there = λ h. absurd (omega arith); absent = λ h. refl }
 
 mul-from : tie.Need-mul-from
 mul-from c = search needs
@@ -43,7 +42,10 @@ expression-reads-requires c κs = search needs
 returns-2 : tie.Need-returns-2
 returns-2 c =
     let a = c .before .before .before .before .before .before in
-    rw (lt-ltb (a .args .s) (a .args .n) (omega arith), ← add-sub-cancel-left (64 * a .args .s) (getD (a .args .len .now) (a .args .s) 0)) (c .expression-reads .ensures)
+    record {
+      there = λ h. rw (← add-sub-cancel-left (64 * a .args .s) (getD (a .args .len .now) (a .args .s) 0)) (c .expression-reads .ensures);
+      absent = λ h. absurd (omega arith);
+    }
 
 pub output-reads-spec : {M : Type 1} → statement M
 output-reads-spec =

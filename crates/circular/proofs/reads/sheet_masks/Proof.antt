@@ -16,7 +16,7 @@ masks-of-requires c κs = search needs
 returns : tie.Need-returns
 returns c =
     let a = c .before .before .before .before .before .before .before .before in
-    tells (a .args .t1) (a .pre) (c .before .before .all-reads .result) (c .masks-of .result) (c .before .before .all-reads .ensures) (c .masks-of .ensures)
+    tells (a .args .t1) (a .pre) (c .before .before .all-reads .result) (c .before .before .all-reads .ensures) (c .masks-of .result) (c .masks-of .ensures)
 
 pub sheet-masks-spec : {M : Type 1} → statement M
 sheet-masks-spec =

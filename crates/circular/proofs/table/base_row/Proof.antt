@@ -3,15 +3,15 @@ use mathlib.Core.Path.{_≡_, sym, _∙_}
 use Prim.Native.Nat.{_+_, _*_, _-_, _≤_}
 use native.Mathlib.Omega.{arith}
 use borrow.Author.Needs.{needs}
-use Rattle.circular.specs.Table.{baseN, readsOfWord, Small, Part}
-use Rattle.circular.proofs.Codes.{base-le}
-use Rattle.circular.proofs.Masks.{mask-base}
+use Rattle.lola.specs.ByteReads.{readIn}
+use Rattle.circular.specs.Table.{baseN, Small, Part}
+use Rattle.circular.proofs.Codes.{base-le, base-same}
 use Rattle.circular.proofs.Rows.{small-set, part-none, part-more}
 use Rattle.circular.proofs.table.base_row.Statement.{statement}
 use Rattle.circular.proofs.table.base_row.Tie as tie
 
 abbrev Inv-loop : tie.InvT-loop
-Inv-loop t₀ s word m n up q₀ t q = (q ≤ n) × Small t × Part (8 * s) q (λ j. baseN up (readsOfWord word m j)) t₀ t
+Inv-loop t₀ s word m n up q₀ t q = (q ≤ n) × Small t × Part (8 * s) q (λ j. baseN up (readIn word (m + j))) t₀ t
 
 abbrev μ-loop : tie.MeasureT-loop
 μ-loop t₀ s word m n up q₀ t q = n - q
@@ -58,7 +58,7 @@ loop-again c =
       omega arith,
       small-set _ at _ (omega arith) v (l .loop .inv .1),
       part-more _ _ _ (l .loop .q) _ _ (omega (arith, l .loop .inv .1 .size))
-          (c .base .ensures ∙ mask-base _ _ _ _ _ (rw (c .before .before .stream-of .ensures) at (c .before .mask-at .ensures)))
+          (c .base .ensures ∙ base-same _ _ _ (rw (c .before .before .stream-of .ensures) at (c .before .mask-at .ensures) .bits))
           (l .loop .inv .2),
     )
 

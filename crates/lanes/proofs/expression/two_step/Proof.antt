@@ -41,6 +41,51 @@ same-length-3 c = search needs
 returns-2 : tie.Need-returns-2
 returns-2 c = step-not _ _ _ _ _ _ _ _ (c .before .before .before .before .if2 .taken) (c .before .before .not-row .ensures)
 
+returns-3 : tie.Need-returns-3
+returns-3 c = step-lacks _ _ _ _ _ _ _ (c .if4 .taken) (omega arith) (λ q. omega arith) (omega arith)
+
+sub-and-row : tie.Need-sub-and-row
+sub-and-row c = search needs
+
+and-row-requires : tie.Need-and-row-requires
+and-row-requires c κs = search needs
+
+sub-result : tie.Need-sub-result
+sub-result c = search needs
+
+same-length-4 : tie.Need-same-length-4
+same-length-4 c = search needs
+
+same-length-5 : tie.Need-same-length-5
+same-length-5 c = search needs
+
+returns-4 : tie.Need-returns-4
+returns-4 c =
+    let after-if4 = c .before .before .before .before .before in
+    step-and _ _ _ _ _ _ _ _ (after-if4 .if4 .left) (after-if4 .before .if3 .taken) (c .before .before .and-row .ensures)
+
+returns-5 : tie.Need-returns-5
+returns-5 c = step-lacks _ _ _ _ _ _ _ (c .if6 .taken) (omega arith) (λ q. omega arith) (omega arith)
+
+sub-or-row : tie.Need-sub-or-row
+sub-or-row c = search needs
+
+or-row-requires : tie.Need-or-row-requires
+or-row-requires c κs = search needs
+
+sub-result-2 : tie.Need-sub-result-2
+sub-result-2 c = search needs
+
+same-length-6 : tie.Need-same-length-6
+same-length-6 c = search needs
+
+same-length-7 : tie.Need-same-length-7
+same-length-7 c = search needs
+
+returns-6 : tie.Need-returns-6
+returns-6 c =
+    step-or _ _ _ _ _ _ _ _ (c .before .before .before .before .before .if6 .left) (omega arith) (λ q. omega arith) (λ q. omega arith) (omega arith) (c .before .before .or-row .ensures)
+
 store-row-requires-2 : tie.Need-store-row-requires-2
 store-row-requires-2 c κs = search needs
 
@@ -53,65 +98,16 @@ fill-row-requires c κs = search needs
 add-result-2 : tie.Need-add-result-2
 add-result-2 c = search needs
 
-same-length-4 : tie.Need-same-length-4
-same-length-4 c = search needs
-
-same-length-5 : tie.Need-same-length-5
-same-length-5 c = search needs
-
-returns-3 : tie.Need-returns-3
-returns-3 c =
-    let after-spread = c .before .before .before in
-    let after-store-row2 = after-spread .before .before .before .before in
-    let after-if3 = after-store-row2 .before .before .before in
-    step-const _ _ _ _ _ _ _ _ _ (after-store-row2 .store-row2 .ensures) (after-if3 .if3 .taken) _ (after-spread .spread .ensures) (c .before .before .fill-row .ensures)
-
-returns-4 : tie.Need-returns-4
-returns-4 c = step-lacks _ _ _ _ _ _ _ (c .if4 .taken) (omega arith) (λ q. omega arith) (omega arith)
-
-sub-and-row : tie.Need-sub-and-row
-sub-and-row c = search needs
-
-and-row-requires : tie.Need-and-row-requires
-and-row-requires c κs = search needs
-
-sub-result : tie.Need-sub-result
-sub-result c = search needs
-
-same-length-6 : tie.Need-same-length-6
-same-length-6 c = search needs
-
-same-length-7 : tie.Need-same-length-7
-same-length-7 c = search needs
-
-returns-5 : tie.Need-returns-5
-returns-5 c =
-    let after-if5 = c .before .before .before .before .before in
-    let after-if4 = after-if5 .before in
-    step-and _ _ _ _ _ _ _ _ (after-if4 .if4 .left) (after-if5 .if5 .taken) (c .before .before .and-row .ensures)
-
-sub-or-row : tie.Need-sub-or-row
-sub-or-row c = search needs
-
-or-row-requires : tie.Need-or-row-requires
-or-row-requires c κs = search needs
-
-sub-result-2 : tie.Need-sub-result-2
-sub-result-2 c = search needs
-
 same-length-8 : tie.Need-same-length-8
 same-length-8 c = search needs
 
 same-length-9 : tie.Need-same-length-9
 same-length-9 c = search needs
 
-returns-6 : tie.Need-returns-6
-returns-6 c =
-    let after-if5 = c .before .before .before .before .before in
-    let after-if4 = after-if5 .before in
-    let after-if3 = after-if4 .before in
-    let after-if2 = after-if3 .before in
-    step-or _ _ _ _ _ _ _ _ (after-if4 .if4 .left) (after-if3 .if3 .left) (after-if2 .if2 .left) (after-if5 .if5 .left) (omega arith) (c .before .before .or-row .ensures)
+returns-7 : tie.Need-returns-7
+returns-7 c =
+    let after-spread = c .before .before .before in
+    step-const _ _ _ _ _ _ _ _ _ (after-spread .before .before .before .before .store-row2 .ensures) (omega arith) _ (after-spread .spread .ensures) (c .before .before .fill-row .ensures)
 
 pub two-step-spec : {M : Type 1} → statement M
 two-step-spec =
@@ -126,23 +122,24 @@ two-step-spec =
     not-row-requires
     same-length-3
     returns-2
-    store-row-requires-2
-    spread-requires
-    fill-row-requires
-    add-result-2
-    same-length-4
-    same-length-5
     returns-3
-    returns-4
     sub-and-row
     and-row-requires
     sub-result
-    same-length-6
-    same-length-7
+    same-length-4
+    same-length-5
+    returns-4
     returns-5
     sub-or-row
     or-row-requires
     sub-result-2
+    same-length-6
+    same-length-7
+    returns-6
+    store-row-requires-2
+    spread-requires
+    fill-row-requires
+    add-result-2
     same-length-8
     same-length-9
-    returns-6)
+    returns-7)

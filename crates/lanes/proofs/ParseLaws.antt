@@ -136,27 +136,27 @@ lane-all env r e k v vs l d s x p = ap head (last (reads env) r s x (v ∷ vs) (
 
 -- ---- in all lanes of w words, where the row r was there at first
 
-pub record Done (w env f : ℕ) (e r st top : List ℕ) (used k : ℕ) : Type 0 where
+pub record Done (w env own : ℕ) (e r st top : List ℕ) (used k : ℕ) : Type 0 where
   pub inside : k ≤ length e
   pub few : used ≤ k
   pub follows : (j i : ℕ) → j < w → i < 64
-      → LaneDone (readAt env f (64 * j + i)) (bit i (getD r j 0) ∷ []) e k (laneStack (bit i (getD top j 0)) (λ n. bit i (getD st (w * n + j) 0)) used)
+      → LaneDone (readAt env own (64 * j + i)) (bit i (getD r j 0) ∷ []) e k (laneStack (bit i (getD top j 0)) (λ n. bit i (getD st (w * n + j) 0)) used)
 
-module _ (w env f : ℕ) (e r : List ℕ) where
-  pub none-done : (st : List ℕ) → Done w env f e r st r 0 0
+module _ (w env own : ℕ) (e r : List ℕ) where
+  pub none-done : (st : List ℕ) → Done w env own e r st r 0 0
   unfolding values downFrom
   none-done st = record { inside = omega arith; few = omega arith; follows = λ j i g l s x h. record { trees = []; left = h; same = refl } }
 
-  pub one-done : (st top : List ℕ) (used k : ℕ) (st′ top′ : List ℕ) (used′ : ℕ) → k < length e → Done w env f e r st top used k
-      → Stepped w env f (getD e k 0) st top used st′ top′ used′ → Done w env f e r st′ top′ used′ (k + 1)
+  pub one-done : (st top : List ℕ) (used k : ℕ) (st′ top′ : List ℕ) (used′ : ℕ) → k < length e → Done w env own e r st top used k
+      → Stepped w env own (getD e k 0) st top used st′ top′ used′ → Done w env own e r st′ top′ used′ (k + 1)
   one-done st top used k st′ top′ used′ h d z = record {
     inside = omega arith;
     few = omega (arith, z .grows, d .few);
-    follows = λ j i g l. lane-more (readAt env f (64 * j + i)) (bit i (getD r j 0) ∷ []) e k _ _ h (d .follows j i g l) (z .lanes j i g l);
+    follows = λ j i g l. lane-more (readAt env own (64 * j + i)) (bit i (getD r j 0) ∷ []) e k _ _ h (d .follows j i g l) (z .lanes j i g l);
   }
 
-  pub all-done : (st top : List ℕ) (used k : ℕ) → Done w env f e r st top used k → length e ≤ k → (s : ℕ) (x : Expr) → parse s [] e ≡ tree x
-      → (j i : ℕ) → j < w → i < 64 → bit i (getD top j 0) ≡ value (laneLook env f (64 * j + i)) x
+  pub all-done : (st top : List ℕ) (used k : ℕ) → Done w env own e r st top used k → length e ≤ k → (s : ℕ) (x : Expr) → parse s [] e ≡ tree x
+      → (j i : ℕ) → j < w → i < 64 → bit i (getD top j 0) ≡ value (laneLook env own (64 * j + i)) x
   all-done st top used k d l s x p j i g h =
-      lane-all (readAt env f (64 * j + i)) (bit i (getD r j 0) ∷ []) e k (bit i (getD top j 0)) (downFrom (λ n. bit i (getD st (w * n + j) 0)) used) l
+      lane-all (readAt env own (64 * j + i)) (bit i (getD r j 0) ∷ []) e k (bit i (getD top j 0)) (downFrom (λ n. bit i (getD st (w * n + j) 0)) used) l
       (d .follows j i g h) s x p

@@ -13,59 +13,59 @@ use Rattle.lanes.specs.Around.{readAt, laneStack, Stepped, Filled, Store
 use Rattle.lanes.proofs.RowLaws.{inside}
 use Rattle.lanes.proofs.StackLaws.{lane-read, lane-const, lane-not, lane-and, lane-or, lane-lacks}
 
-module _ (w env f e : ℕ) (st top : List ℕ) (used : ℕ) (st′ top′ : List ℕ) where
-  pub step-read : Stored w used top st st′ → 64 ≤ e → ((j i : ℕ) → j < w → i < 64 → bit i (getD top′ j 0) ≡ readAt env f (64 * j + i) (e % 64))
-      → Stepped w env f e st top used st′ top′ (used + 1)
+module _ (w env own e : ℕ) (st top : List ℕ) (used : ℕ) (st′ top′ : List ℕ) where
+  pub step-read : Stored w used top st st′ → 64 ≤ e → ((j i : ℕ) → j < w → i < 64 → bit i (getD top′ j 0) ≡ readAt env own (64 * j + i) (e % 64))
+      → Stepped w env own e st top used st′ top′ (used + 1)
   step-read s l r = record {
     grows = omega arith;
     lanes = λ j i h g.
-        lane-read (readAt env f (64 * j + i)) e (bit i (getD top j 0)) (λ k. bit i (getD st (w * k + j) 0)) used (bit i (getD top′ j 0))
+        lane-read (readAt env own (64 * j + i)) e (bit i (getD top j 0)) (λ k. bit i (getD st (w * k + j) 0)) used (bit i (getD top′ j 0))
         (λ k. bit i (getD st′ (w * k + j) 0)) l (r j i h g) (ap (bit i) (s .words j h)) (λ k m. ap (bit i) (s .others (w * k + j) (inside w k used j m h)));
   }
 
   pub step-const : Stored w used top st st′ → e < 2 → (x : ℕ) → ((i : ℕ) → i < 64 → bit i x ≡ eqb e 1) → Filled w (λ j. x) top′
-      → Stepped w env f e st top used st′ top′ (used + 1)
+      → Stepped w env own e st top used st′ top′ (used + 1)
   step-const s l x r z = record {
     grows = omega arith;
     lanes = λ j i h g.
-        lane-const (readAt env f (64 * j + i)) e (bit i (getD top j 0)) (λ k. bit i (getD st (w * k + j) 0)) used (bit i (getD top′ j 0))
+        lane-const (readAt env own (64 * j + i)) e (bit i (getD top j 0)) (λ k. bit i (getD st (w * k + j) 0)) used (bit i (getD top′ j 0))
         (λ k. bit i (getD st′ (w * k + j) 0)) l (ap (bit i) (z j h) ∙ r i g) (ap (bit i) (s .words j h))
         (λ k m. ap (bit i) (s .others (w * k + j) (inside w k used j m h)));
   }
 
-module _ (w env f e : ℕ) (st top : List ℕ) (used : ℕ) (top′ : List ℕ) where
-  pub step-not : e ≡ 2 → ((j i : ℕ) → j < w → i < 64 → bit i (getD top′ j 0) ≡ not (bit i (getD top j 0))) → Stepped w env f e st top used st top′ used
+module _ (w env own e : ℕ) (st top : List ℕ) (used : ℕ) (top′ : List ℕ) where
+  pub step-not : e ≡ 2 → ((j i : ℕ) → j < w → i < 64 → bit i (getD top′ j 0) ≡ not (bit i (getD top j 0))) → Stepped w env own e st top used st top′ used
   step-not q r = record {
     grows = omega arith;
     lanes = λ j i h g.
-        lane-not (readAt env f (64 * j + i)) e (bit i (getD top j 0)) (λ k. bit i (getD st (w * k + j) 0)) used (bit i (getD top′ j 0))
+        lane-not (readAt env own (64 * j + i)) e (bit i (getD top j 0)) (λ k. bit i (getD st (w * k + j) 0)) used (bit i (getD top′ j 0))
         (λ k. bit i (getD st (w * k + j) 0)) q (r j i h g) (λ k m. refl);
   }
 
   pub step-and : (used ≡ 0 → ⊥) → e ≡ 3 → Filled w (λ j. bitAnd (getD st (w * (used - 1) + j) 0) (getD top j 0)) top′
-      → Stepped w env f e st top used st top′ (used - 1)
+      → Stepped w env own e st top used st top′ (used - 1)
   step-and n q z = record {
     grows = omega arith;
     lanes = λ j i h g.
-        lane-and (readAt env f (64 * j + i)) e (bit i (getD top j 0)) (λ k. bit i (getD st (w * k + j) 0)) (bit i (getD top′ j 0))
+        lane-and (readAt env own (64 * j + i)) e (bit i (getD top j 0)) (λ k. bit i (getD st (w * k + j) 0)) (bit i (getD top′ j 0))
         (λ k. bit i (getD st (w * k + j) 0)) used (omega arith) q (ap (bit i) (z j h) ∙ bit-and i (getD st (w * (used - 1) + j) 0) (getD top j 0))
         (λ k m. refl);
   }
 
   pub step-or : (used ≡ 0 → ⊥) → 2 ≤ e → (e ≡ 2 → ⊥) → (e ≡ 3 → ⊥) → e < 64
-      → Filled w (λ j. bitOr (getD st (w * (used - 1) + j) 0) (getD top j 0)) top′ → Stepped w env f e st top used st top′ (used - 1)
+      → Filled w (λ j. bitOr (getD st (w * (used - 1) + j) 0) (getD top j 0)) top′ → Stepped w env own e st top used st top′ (used - 1)
   step-or n l n2 n3 u z = record {
     grows = omega arith;
     lanes = λ j i h g.
-        lane-or (readAt env f (64 * j + i)) e (bit i (getD top j 0)) (λ k. bit i (getD st (w * k + j) 0)) (bit i (getD top′ j 0))
+        lane-or (readAt env own (64 * j + i)) e (bit i (getD top j 0)) (λ k. bit i (getD st (w * k + j) 0)) (bit i (getD top′ j 0))
         (λ k. bit i (getD st (w * k + j) 0)) used (omega arith) l n2 n3 u
         (ap (bit i) (z j h) ∙ bit-or i (getD st (w * (used - 1) + j) 0) (getD top j 0)) (λ k m. refl);
   }
 
-pub step-lacks : (w env f e : ℕ) (st top : List ℕ) (used : ℕ) → used ≡ 0 → 2 ≤ e → (e ≡ 2 → ⊥) → e < 64 → Stepped w env f e st top used st top 0
-step-lacks w env f e st top used z l n u = record {
+pub step-lacks : (w env own e : ℕ) (st top : List ℕ) (used : ℕ) → used ≡ 0 → 2 ≤ e → (e ≡ 2 → ⊥) → e < 64 → Stepped w env own e st top used st top 0
+step-lacks w env own e st top used z l n u = record {
   grows = omega arith;
   lanes = λ j i h g.
       ap (λ (k : ℕ). laneStack (bit i (getD top j 0)) (λ k. bit i (getD st (w * k + j) 0)) k) (sym z)
-      ∙ lane-lacks (readAt env f (64 * j + i)) e (bit i (getD top j 0)) (λ k. bit i (getD st (w * k + j) 0)) used z l n u;
+      ∙ lane-lacks (readAt env own (64 * j + i)) e (bit i (getD top j 0)) (λ k. bit i (getD st (w * k + j) 0)) used z l n u;
 }

@@ -1,29 +1,29 @@
 -- For the contracts of inner functions: the reads of a round in one word, bit byte - 0x40 for the read byte, and stacks of words.
--- The reads of one family, of the round itself, one earlier or one later, may differ from lane to lane: each lane stands for a valuation of
--- that round.
+-- A second word has the same bit set for the reads that are the lane's own: each lane stands for a valuation of the round itself, of the one
+-- earlier or of the one later, and the reads of that round are of this valuation.
 use mathlib.Core.Path.{_≡_}
 use mathlib.Core.Bool.{Bool, true, false, cond}
 use mathlib.Core.List.{List, [], _∷_}
 use mathlib.Core.Option.{Option, none, some}
-use Prim.Native.Nat.{ℕ, zero, suc, _+_, _*_, _/_, _%_, _^_, _<_, _≤_}
-use lib.Dec.{eqb, leb}
+use Prim.Native.Nat.{ℕ, zero, suc, _+_, _*_, _%_, _^_, _<_, _≤_}
+use lib.Dec.{leb}
 use lib.ListN.{getD}
 use Rattle.words.specs.Bits.{bit}
 use Rattle.lola.specs.Value.{Look, near}
 use Rattle.lola.specs.Slots.{readNo}
 use Rattle.lanes.specs.Machine.{stepped}
 
--- the read with the number k, in the lane of the valuation v: of the family f (0 now, 1 earlier, 2 later) the streams of v are read
+-- the read with the number k, in the lane of the valuation v: where it is the lane's own, of v
 unfoldable pub readAt : ℕ → ℕ → ℕ → ℕ → Bool
-readAt env f v k = cond (eqb (k / 16) f) (bit (k % 8) v) (bit k env)
+readAt env own v k = cond (bit k own) (bit (k % 8) v) (bit k env)
 
 -- the reads in that lane
 abbrev pub laneLook : ℕ → ℕ → ℕ → Look
-laneLook env f v q o d = readAt env f v (readNo q o d)
+laneLook env own v q o d = readAt env own v (readNo q o d)
 
--- the round itself in the lane of v: where its own reads are the lane's, it is v
+-- the round itself in the lane of v: where the reads of the round itself are the lane's own, it is v
 abbrev pub here : ℕ → ℕ → ℕ → ℕ
-here f b v = cond (eqb f 0) v b
+here own b v = cond (bit 0 own) v b
 
 -- a lane's stack of n + 1 truth values: its top, and below it those of E, the last of them uppermost
 unfoldable pub downFrom : (ℕ → Bool) → ℕ → List Bool
@@ -34,11 +34,11 @@ abbrev pub laneStack : Bool → (ℕ → Bool) → ℕ → List Bool
 laneStack x E n = x ∷ downFrom E n
 
 -- a step of a stack of rows of w words, 64 * w lanes: `used` of them lie below the top, row k of these from w * k on
-pub record Stepped (w env f e : ℕ) (st top : List ℕ) (used : ℕ) (st′ top′ : List ℕ) (used′ : ℕ) : Type 0 where
+pub record Stepped (w env own e : ℕ) (st top : List ℕ) (used : ℕ) (st′ top′ : List ℕ) (used′ : ℕ) : Type 0 where
   pub grows : used′ ≤ used + 1
   pub lanes : (j i : ℕ) → j < w → i < 64
       → laneStack (bit i (getD top′ j 0)) (λ k. bit i (getD st′ (w * k + j) 0)) used′
-      ≡ stepped (readAt env f (64 * j + i)) e (laneStack (bit i (getD top j 0)) (λ k. bit i (getD st (w * k + j) 0)) used)
+      ≡ stepped (readAt env own (64 * j + i)) e (laneStack (bit i (getD top j 0)) (λ k. bit i (getD st (w * k + j) 0)) used)
 
 -- the w words of a row are F 0 to F (w - 1)
 abbrev pub Filled : ℕ → (ℕ → ℕ) → List ℕ → Type 0

@@ -29,9 +29,9 @@ agreed look [] q v = true
 agreed look (e ∷ es) q v = Bool·beq (bit q v) (value look e) && agreed look es (suc q) v
 
 -- the w words of a row have the values of the expression with these bytes, lane by lane
-pub record Values (w env f : ℕ) (bytes row : List ℕ) : Type 0 where
-  pub lanes : (s : ℕ) (x : Expr) → parse s [] bytes ≡ tree x → (j i : ℕ) → j < w → i < 64 → bit i (getD row j 0) ≡ value (laneLook env f (64 * j + i)) x
+pub record Values (w env own : ℕ) (bytes row : List ℕ) : Type 0 where
+  pub lanes : (s : ℕ) (x : Expr) → parse s [] bytes ≡ tree x → (j i : ℕ) → j < w → i < 64 → bit i (getD row j 0) ≡ value (laneLook env own (64 * j + i)) x
 
 -- the w words of a row have the lanes in which the first k equations agree with the round itself, b or the lane's valuation
-pub record Agree (w env f m n : ℕ) (code len : List ℕ) (b : ℕ) (row : List ℕ) (k : ℕ) : Type 0 where
-  pub lanes : (j i : ℕ) → j < w → i < 64 → bit i (getD row j 0) ≡ agreed (laneLook env f (64 * j + i)) (treesOf (m + n) code len k) m (here f b (64 * j + i))
+pub record Agree (w env own m n : ℕ) (code len : List ℕ) (b : ℕ) (row : List ℕ) (k : ℕ) : Type 0 where
+  pub lanes : (j i : ℕ) → j < w → i < 64 → bit i (getD row j 0) ≡ agreed (laneLook env own (64 * j + i)) (treesOf (m + n) code len k) m (here own b (64 * j + i))

@@ -18,13 +18,13 @@ use sheet::OutputNo;
 // One expression byte on a stack of rows of two words: the top is in `top`, what lies below it, `used` rows, in st. Returns how many then do.
 // Both operators test `used` for themselves: with one test before them, the compiler loads the words of the row before it knows which operator it
 // is, which takes a tenth more instructions.
-fn two_step(st: &mut [u64], top: &mut [u64], used: usize, env: u64, f: u8, e: u8) -> usize
+fn two_step(st: &mut [u64], top: &mut [u64], used: usize, env: u64, own: u64, e: u8) -> usize
     requires { ⌜ (length (now top) ≡ 4) × (2 * used + 2 ≤ length (now st)) ⌝ }
-    ensures { λ r. ⌜ Stepped 2 env f e (now (st .entry)) (now (top .entry)) used (now (st .exit)) (now (top .exit)) r ⌝ }
+    ensures { λ r. ⌜ Stepped 2 env own e (now (st .entry)) (now (top .entry)) used (now (st .exit)) (now (top .exit)) r ⌝ }
 {
     if 0x40 <= e {
         store_row(st, 2, used, top);
-        read_row(top, 2, env, f, e);
+        read_row(top, 2, env, own, e);
         return used + 1;
     }
     if e == 2 {
@@ -51,26 +51,26 @@ fn two_step(st: &mut [u64], top: &mut [u64], used: usize, env: u64, f: u8, e: u8
 }
 
 // The value of an expression in each lane of two words, left in `top`; st is room to work in.
-fn two_value(st: &mut [u64], top: &mut [u64], env: u64, f: u8, expr: &[u8])
+fn two_value(st: &mut [u64], top: &mut [u64], env: u64, own: u64, expr: &[u8])
     requires { ⌜ (length (now expr) ≤ 64) × (128 ≤ length (now st)) × (length (now top) ≡ 4) ⌝ }
-    ensures { λ r. ⌜ Values 2 env f (now (expr .entry)) (now (top .exit)) ⌝ }
+    ensures { λ r. ⌜ Values 2 env own (now (expr .entry)) (now (top .exit)) ⌝ }
 {
     let mut used: usize = 0;
     let mut k: usize = 0;
     while k < expr.len() {
-        used = two_step(st, top, used, env, f, expr[k]);
+        used = two_step(st, top, used, env, own, expr[k]);
         k += 1;
     }
 }
 
 // One expression byte on a stack of rows of four words: the top is in `top`, what lies below it, `used` rows, in st. Returns how many then do.
-fn four_step(st: &mut [u64], top: &mut [u64], used: usize, env: u64, f: u8, e: u8) -> usize
+fn four_step(st: &mut [u64], top: &mut [u64], used: usize, env: u64, own: u64, e: u8) -> usize
     requires { ⌜ (length (now top) ≡ 4) × (4 * used + 4 ≤ length (now st)) ⌝ }
-    ensures { λ r. ⌜ Stepped 4 env f e (now (st .entry)) (now (top .entry)) used (now (st .exit)) (now (top .exit)) r ⌝ }
+    ensures { λ r. ⌜ Stepped 4 env own e (now (st .entry)) (now (top .entry)) used (now (st .exit)) (now (top .exit)) r ⌝ }
 {
     if 0x40 <= e {
         store_row(st, 4, used, top);
-        read_row(top, 4, env, f, e);
+        read_row(top, 4, env, own, e);
         return used + 1;
     }
     if e == 2 {
@@ -97,14 +97,14 @@ fn four_step(st: &mut [u64], top: &mut [u64], used: usize, env: u64, f: u8, e: u
 }
 
 // The value of an expression in each lane of four words, left in `top`; st is room to work in.
-fn four_value(st: &mut [u64], top: &mut [u64], env: u64, f: u8, expr: &[u8])
+fn four_value(st: &mut [u64], top: &mut [u64], env: u64, own: u64, expr: &[u8])
     requires { ⌜ (length (now expr) ≤ 64) × (256 ≤ length (now st)) × (length (now top) ≡ 4) ⌝ }
-    ensures { λ r. ⌜ Values 4 env f (now (expr .entry)) (now (top .exit)) ⌝ }
+    ensures { λ r. ⌜ Values 4 env own (now (expr .entry)) (now (top .exit)) ⌝ }
 {
     let mut used: usize = 0;
     let mut k: usize = 0;
     while k < expr.len() {
-        used = four_step(st, top, used, env, f, expr[k]);
+        used = four_step(st, top, used, env, own, expr[k]);
         k += 1;
     }
 }
@@ -114,7 +114,7 @@ pub fn two_equations(
     acc: &mut [u64],
     st: &mut [u64],
     env: u64,
-    f: u8,
+    own: u64,
     code: &[u8],
     len: &[usize],
     m: usize,
@@ -123,7 +123,7 @@ pub fn two_equations(
 )
     requires { ⌜ Coded m n (now code) (now len) ⌝ }
     requires { ⌜ (length (now acc) ≡ 4) × (128 ≤ length (now st)) ⌝ }
-    ensures { λ r. ⌜ Agree 2 env f m n (now (code .entry)) (now (len .entry)) b (now (acc .exit)) n ⌝ }
+    ensures { λ r. ⌜ Agree 2 env own m n (now (code .entry)) (now (len .entry)) b (now (acc .exit)) n ⌝ }
 {
     let mut x = [0u64; 4];
     fill_row(acc, 2, 0xffff_ffff_ffff_ffff);
@@ -131,8 +131,8 @@ pub fn two_equations(
     while k < n {
         let from = 64 * k;
         let to = from + len[k];
-        two_value(st, &mut x, env, f, &code[from..to]);
-        keep_row(acc, 2, &x, f, b, output_stream(m, OutputNo(k as u8)));
+        two_value(st, &mut x, env, own, &code[from..to]);
+        keep_row(acc, 2, &x, own, b, output_stream(m, OutputNo(k as u8)));
         if is_empty(acc, 2) {
             return;
         }
@@ -145,7 +145,7 @@ pub fn four_equations(
     acc: &mut [u64],
     st: &mut [u64],
     env: u64,
-    f: u8,
+    own: u64,
     code: &[u8],
     len: &[usize],
     m: usize,
@@ -154,7 +154,7 @@ pub fn four_equations(
 )
     requires { ⌜ Coded m n (now code) (now len) ⌝ }
     requires { ⌜ (length (now acc) ≡ 4) × (256 ≤ length (now st)) ⌝ }
-    ensures { λ r. ⌜ Agree 4 env f m n (now (code .entry)) (now (len .entry)) b (now (acc .exit)) n ⌝ }
+    ensures { λ r. ⌜ Agree 4 env own m n (now (code .entry)) (now (len .entry)) b (now (acc .exit)) n ⌝ }
 {
     let mut x = [0u64; 4];
     fill_row(acc, 4, 0xffff_ffff_ffff_ffff);
@@ -162,8 +162,8 @@ pub fn four_equations(
     while k < n {
         let from = 64 * k;
         let to = from + len[k];
-        four_value(st, &mut x, env, f, &code[from..to]);
-        keep_row(acc, 4, &x, f, b, output_stream(m, OutputNo(k as u8)));
+        four_value(st, &mut x, env, own, &code[from..to]);
+        keep_row(acc, 4, &x, own, b, output_stream(m, OutputNo(k as u8)));
         if is_empty(acc, 4) {
             return;
         }

@@ -1,6 +1,6 @@
 // Expressions evaluated in a row of words at once, 64 lanes each: two words for up to 128 valuations, else four. What the expressions read is one
-// word, bit byte - 0x40 for the read byte; the reads of one family, of the round itself, one earlier or one later, are of the lane's own valuation
-// instead.
+// word, bit byte - 0x40 for the read byte. A second word has the same bit set for the reads that are of the lane's own valuation instead: those of
+// the round itself, one earlier or one later.
 ghost use mathlib.Core.Path.{_≡_};
 ghost use mathlib.Core.List.{List};
 ghost use mathlib.Core.Option.{Option, none, some};
@@ -22,12 +22,12 @@ use words::Size;
 mod expression; // expression.rt: expressions and equations on rows of two words and of four
 mod row; // row.rt: one row of words
 
-// The families of reads that may be of the lane's valuation, numbered as the read bytes are: those of family f begin at 0x40 + 16 f.
-const NOW: u8 = 0;
+// The reads that are of the lane's own valuation: those of the round itself, one round earlier, or one later.
+const OWN_NOW: u64 = 0xffff;
 
-const EARLIER: u8 = 1;
+const OWN_EARLIER: u64 = 0xffff_0000;
 
-const LATER: u8 = 2;
+const OWN_LATER: u64 = 0xffff_0000_0000;
 
 // ---- The equations
 
@@ -47,7 +47,7 @@ fn equations_row(
     st: &mut [u64],
     w: usize,
     env: u64,
-    f: u8,
+    own: u64,
     code: &[u8],
     len: &[usize],
     m: usize,
@@ -56,13 +56,13 @@ fn equations_row(
 )
     requires { ⌜ Coded m n (now code) (now len) ⌝ }
     requires { ⌜ (w ≤ 4) × (length (now acc) ≡ 4) × (stackWords w ≤ length (now st)) ⌝ }
-    ensures { λ r. ⌜ Agree w env f m n (now (code .entry)) (now (len .entry)) b (now (acc .exit)) n ⌝ }
+    ensures { λ r. ⌜ Agree w env own m n (now (code .entry)) (now (len .entry)) b (now (acc .exit)) n ⌝ }
 {
     if w <= 2 {
-        two_equations(acc, st, env, f, code, len, m, n, b);
+        two_equations(acc, st, env, own, code, len, m, n, b);
         return;
     }
-    four_equations(acc, st, env, f, code, len, m, n, b);
+    four_equations(acc, st, env, own, code, len, m, n, b);
 }
 
 // ---- The reads of a round
@@ -124,7 +124,7 @@ pub fn successors(
         st,
         size.words,
         env,
-        LATER,
+        OWN_LATER,
         code,
         len,
         size.inputs,
@@ -144,7 +144,7 @@ pub fn enders(row: &mut [u64], st: &mut [u64], code: &[u8], len: &[usize], size:
         st,
         size.words,
         before + 0xff00_0000_0000,
-        NOW,
+        OWN_NOW,
         code,
         len,
         size.inputs,
@@ -172,7 +172,7 @@ pub fn predecessors(
         st,
         size.words,
         env,
-        EARLIER,
+        OWN_EARLIER,
         code,
         len,
         size.inputs,

@@ -6,19 +6,6 @@ ghost use lib.Bits.{bitAnd, bitOr};
 ghost use lib.ListN.{length, getD};
 ghost use Rattle.words.specs.Bits.{bit};
 ghost use Rattle.lanes.specs.Around.{readAt, Filled, Stored, here};
-use super::NOW;
-
-// The value of the read byte e in the lanes of the valuations from 64 * j on.
-fn read_word(env: u64, f: u8, j: usize, e: u8) -> u64
-    requires { ⌜ j < 4 ⌝ }
-    ensures { λ r. ⌜ ((i : ℕ) → i < 64 → bit i r ≡ readAt env f (64 * j + i) (e % 64)) ⌝ }
-{
-    let k = e % 64;
-    if k / 16 == f {
-        return words::stream_word((k % 8) as usize, j);
-    }
-    words::spread((env >> k) % 2 == 1)
-}
 
 // Every word of the row becomes x.
 pub fn fill_row(row: &mut [u64], w: usize, x: u64)
@@ -79,24 +66,38 @@ pub fn store_row(st: &mut [u64], w: usize, k: usize, row: &[u64])
     }
 }
 
-// The value of the read byte e in each lane of the row.
-pub fn read_row(row: &mut [u64], w: usize, env: u64, f: u8, e: u8)
-    requires { ⌜ (w ≤ 4) × (length (now row) ≡ 4) ⌝ }
-    ensures { λ r. ⌜ ((j i : ℕ) → j < w → i < 64 → bit i (getD (now (row .exit)) j 0) ≡ readAt env f (64 * j + i) (e % 64)) ⌝ }
+// Stream q of the valuation in each lane of the row.
+fn stream_row(row: &mut [u64], w: usize, q: usize)
+    requires { ⌜ (w ≤ 4) × (length (now row) ≡ 4) × (q < 8) ⌝ }
+    ensures { λ r. ⌜ ((j i : ℕ) → j < w → i < 64 → bit i (getD (now (row .exit)) j 0) ≡ bit q (64 * j + i)) ⌝ }
 {
     let mut j: usize = 0;
     while j < w {
-        row[j] = read_word(env, f, j, e);
+        row[j] = words::stream_word(q, j);
         j += 1;
     }
 }
 
-// Stream q of the round itself in the lanes of the valuations from 64 * j on: of b, or of the lane's own valuation where that is the round's.
-fn here_word(f: u8, b: usize, q: usize, j: usize) -> u64
-    requires { ⌜ (q < 8) × (j < 4) ⌝ }
-    ensures { λ r. ⌜ ((i : ℕ) → i < 64 → bit i r ≡ bit q (here f b (64 * j + i))) ⌝ }
+// The value of the read byte e in each lane of the row.
+pub fn read_row(row: &mut [u64], w: usize, env: u64, own: u64, e: u8)
+    requires { ⌜ (w ≤ 4) × (length (now row) ≡ 4) ⌝ }
+    ensures { λ r. ⌜ ((j i : ℕ) → j < w → i < 64 → bit i (getD (now (row .exit)) j 0) ≡ readAt env own (64 * j + i) (e % 64)) ⌝ }
 {
-    if f == NOW {
+    let k = e % 64;
+    if (own >> k) % 2 == 1 {
+        stream_row(row, w, (k % 8) as usize);
+        return;
+    }
+    fill_row(row, w, words::spread((env >> k) % 2 == 1));
+}
+
+// Stream q of the round itself in the lanes of the valuations from 64 * j on: of b, or of the lane's valuation where the reads of the round
+// itself are its own.
+fn here_word(own: u64, b: usize, q: usize, j: usize) -> u64
+    requires { ⌜ (q < 8) × (j < 4) ⌝ }
+    ensures { λ r. ⌜ ((i : ℕ) → i < 64 → bit i r ≡ bit q (here own b (64 * j + i))) ⌝ }
+{
+    if own % 2 == 1 {
         return words::stream_word(q, j);
     }
     words::spread((b >> q) % 2 == 1)
@@ -110,13 +111,13 @@ fn alike(x: u64, y: u64) -> u64
 }
 
 // The lanes of acc in which x is stream q of the round itself.
-pub fn keep_row(acc: &mut [u64], w: usize, x: &[u64], f: u8, b: usize, q: usize)
+pub fn keep_row(acc: &mut [u64], w: usize, x: &[u64], own: u64, b: usize, q: usize)
     requires { ⌜ (w ≤ 4) × (length (now acc) ≡ 4) × (length (now x) ≡ 4) × (q < 8) ⌝ }
-    ensures { λ r. ⌜ ((j i : ℕ) → j < w → i < 64 → bit i (getD (now (acc .exit)) j 0) ≡ (bit i (getD (now (acc .entry)) j 0) && Bool·beq (bit i (getD (now (x .entry)) j 0)) (bit q (here f b (64 * j + i))))) ⌝ }
+    ensures { λ r. ⌜ ((j i : ℕ) → j < w → i < 64 → bit i (getD (now (acc .exit)) j 0) ≡ (bit i (getD (now (acc .entry)) j 0) && Bool·beq (bit i (getD (now (x .entry)) j 0)) (bit q (here own b (64 * j + i))))) ⌝ }
 {
     let mut j: usize = 0;
     while j < w {
-        acc[j] = acc[j] & alike(x[j], here_word(f, b, q, j));
+        acc[j] = acc[j] & alike(x[j], here_word(own, b, q, j));
         j += 1;
     }
 }

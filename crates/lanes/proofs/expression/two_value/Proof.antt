@@ -12,10 +12,10 @@ use Rattle.lanes.proofs.expression.two_value.Lts as lts
 use Rattle.lanes.proofs.expression.two_step.Reads as two-step-reads
 
 abbrev Inv-loop : tie.InvT-loop
-Inv-loop st₀ top₀ env f expr used₀ k₀ st top used k = (length st ≡ length st₀) × (length top ≡ 4) × Done 2 env f expr top₀ st top used k
+Inv-loop st₀ top₀ env own expr used₀ k₀ st top used k = (length st ≡ length st₀) × (length top ≡ 4) × Done 2 env own expr top₀ st top used k
 
 abbrev μ-loop : tie.MeasureT-loop
-μ-loop st₀ top₀ env f expr used₀ k₀ st top used k = length expr - k
+μ-loop st₀ top₀ env own expr used₀ k₀ st top used k = length expr - k
 
 loop-holds : tie.Need-loop-holds Inv-loop μ-loop
 loop-holds c = (refl, c .before .before .before .pre .2, none-done _ _ _ _ _ _)

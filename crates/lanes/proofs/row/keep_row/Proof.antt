@@ -17,11 +17,11 @@ use Rattle.lanes.proofs.row.alike.Reads as alike-reads
 use Rattle.lanes.proofs.row.here_word.Reads as here-word-reads
 
 abbrev Inv-loop : tie.InvT-loop
-Inv-loop acc₀ w x f b q j₀ acc j =
-    Writing (λ k z. (i : ℕ) → i < 64 → bit i z ≡ (bit i (getD acc₀ k 0) && Bool·beq (bit i (getD x k 0)) (bit q (here f b (64 * k + i))))) acc₀ acc j
+Inv-loop acc₀ w x own b q j₀ acc j =
+    Writing (λ k z. (i : ℕ) → i < 64 → bit i z ≡ (bit i (getD acc₀ k 0) && Bool·beq (bit i (getD x k 0)) (bit q (here own b (64 * k + i))))) acc₀ acc j
 
 abbrev μ-loop : tie.MeasureT-loop
-μ-loop acc₀ w x f b q j₀ acc j = w - j
+μ-loop acc₀ w x own b q j₀ acc j = w - j
 
 loop-holds : tie.Need-loop-holds Inv-loop μ-loop
 loop-holds c = writing-none _ _ (c .before .before .pre .1)

@@ -1,62 +1,75 @@
 -- `lanes::row::read_row` meets its contract.
-use mathlib.Core.Path.{_≡_}
-use Prim.Native.Nat.{ℕ, _+_, _-_, _*_, _%_, _<_}
-use native.Mathlib.Omega.{arith}
+use mathlib.Core.Path.{sym, ap, _∙_}
+use Prim.Native.Nat.{_+_, _*_, _%_}
+use borrow.Author.Tests.{eq-eqb, ne-eqb}
 use borrow.Author.Needs.{needs}
-use Rattle.words.specs.Bits.{bit}
-use Rattle.lanes.specs.Around.{readAt}
-use Rattle.lanes.proofs.RowLaws.{Writing, writing-none, writing-more, writing-all}
+use Rattle.words.specs.Bits.{bit, digit}
+use Rattle.lanes.proofs.AroundLaws.{own-read, shared-read}
 use Rattle.lanes.proofs.row.read_row.Statement.{statement}
 use Rattle.lanes.proofs.row.read_row.Tie as tie
 use Rattle.lanes.proofs.row.read_row.Reads as reads
 use Rattle.lanes.proofs.row.read_row.Lts as lts
-use Rattle.lanes.proofs.row.read_word.Reads as read-word-reads
+use Rattle.lanes.proofs.row.fill_row.Reads as fill-row-reads
+use Rattle.lanes.proofs.row.stream_row.Reads as stream-row-reads
+use Rattle.words.proofs.spread.Reads as spread-reads
 
-abbrev Inv-loop : tie.InvT-loop
-Inv-loop row₀ w env f e j₀ row j = Writing (λ k z. (i : ℕ) → i < 64 → bit i z ≡ readAt env f (64 * k + i) (e % 64)) row₀ row j
+cast-if1 : tie.Need-cast-if1
+cast-if1 c = search needs
 
-abbrev μ-loop : tie.MeasureT-loop
-μ-loop row₀ w env f e j₀ row j = w - j
+shr-if1 : tie.Need-shr-if1
+shr-if1 c = search needs
 
-loop-holds : tie.Need-loop-holds Inv-loop μ-loop
-loop-holds c = writing-none _ _ (c .before .pre .1)
+cast-stream-row : tie.Need-cast-stream-row
+cast-stream-row c = search needs
 
-read-word-requires : tie.Need-read-word-requires Inv-loop μ-loop
-read-word-requires c κs = search needs
+stream-row-requires : tie.Need-stream-row-requires
+stream-row-requires c κs = search needs
 
-mul-row : tie.Need-mul-row Inv-loop μ-loop
-mul-row c = search needs
-
-slice-write-row : tie.Need-slice-write-row Inv-loop μ-loop
-slice-write-row c = search needs
-
-add-j : tie.Need-add-j Inv-loop μ-loop
-add-j c = search needs
-
-loop-less : tie.Need-loop-less Inv-loop μ-loop
-loop-less c = search needs
-
-loop-again : tie.Need-loop-again Inv-loop μ-loop
-loop-again c = writing-more _ _ _ _ _ (c .before .before .loop .inv) (omega arith) (c .read-word .ensures)
-
-same-length : tie.Need-same-length Inv-loop μ-loop
+same-length : tie.Need-same-length
 same-length c = search needs
 
-returns : tie.Need-returns Inv-loop μ-loop
-returns c = λ j i h. writing-all _ _ _ _ _ (c .before .loop .inv) (c .loop-test .left) j h i
+returns : tie.Need-returns
+unfolding bit digit
+returns c = λ j i h g. c .before .before .stream-row .ensures j i h g ∙ sym (own-read _ _ _ _ (eq-eqb _ 1 (c .before .before .before .before .if1 .taken)))
+
+cast-spread : tie.Need-cast-spread
+cast-spread c = search needs
+
+shr-spread : tie.Need-shr-spread
+shr-spread c = search needs
+
+spread-requires : tie.Need-spread-requires
+spread-requires c κs = search needs
+
+fill-row-requires : tie.Need-fill-row-requires
+fill-row-requires c κs = search needs
+
+same-length-2 : tie.Need-same-length-2
+same-length-2 c = search needs
+
+returns-2 : tie.Need-returns-2
+unfolding bit digit
+returns-2 c =
+    let after-spread = c .before .before .before in
+    let tested = after-spread .before .before in
+    let a = tested .before .before .args in
+    λ j i h g.
+    ap (bit i) (c .before .before .fill-row .ensures j h) ∙ after-spread .spread .ensures i g
+    ∙ sym (shared-read (a .env) (a .own) (64 * j + i) (a .e % 64) (ne-eqb _ 1 (tested .if1 .left)))
 
 pub read-row-spec : {M : Type 1} → statement M
 read-row-spec =
     tie.close
     (tie.spec
-    Inv-loop
-    μ-loop
-    loop-holds
-    read-word-requires
-    mul-row
-    slice-write-row
-    add-j
-    loop-less
-    loop-again
+    cast-if1
+    shr-if1
+    cast-stream-row
+    stream-row-requires
     same-length
-    returns)
+    returns
+    cast-spread
+    shr-spread
+    spread-requires
+    fill-row-requires
+    same-length-2
+    returns-2)

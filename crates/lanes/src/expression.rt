@@ -4,6 +4,7 @@ ghost use Prim.Native.Nat.{_+_, _*_, _<_, _≤_};
 ghost use lib.ListN.{length};
 ghost use Rattle.lanes.specs.Around.{Stepped};
 ghost use Rattle.lanes.specs.Coded.{Coded, Values, Agree};
+use super::Reads;
 use super::output_stream;
 use super::row::and_row;
 use super::row::fill_row;
@@ -109,21 +110,19 @@ fn four_value(st: &mut [u64], top: &mut [u64], env: u64, own: u64, expr: &[u8])
     }
 }
 
-// The lanes of two words in which the n outputs, streams m on of b, have the values of their expressions, left in acc.
+// The lanes of two words in which the n outputs, streams m on of the round itself, have the values of their expressions, left in acc.
 pub fn two_equations(
     acc: &mut [u64],
     st: &mut [u64],
-    env: u64,
-    own: u64,
+    reads: Reads,
     code: &[u8],
     len: &[usize],
     m: usize,
     n: usize,
-    b: usize,
 )
     requires { ⌜ Coded m n (now code) (now len) ⌝ }
     requires { ⌜ (length (now acc) ≡ 4) × (128 ≤ length (now st)) ⌝ }
-    ensures { λ r. ⌜ Agree 2 env own m n (now (code .entry)) (now (len .entry)) b (now (acc .exit)) n ⌝ }
+    ensures { λ r. ⌜ Agree 2 (reads .env) (reads .own) m n (now (code .entry)) (now (len .entry)) (reads .round) (now (acc .exit)) n ⌝ }
 {
     let mut x = [0u64; 4];
     fill_row(acc, 2, 0xffff_ffff_ffff_ffff);
@@ -131,8 +130,9 @@ pub fn two_equations(
     while k < n {
         let from = 64 * k;
         let to = from + len[k];
-        two_value(st, &mut x, env, own, &code[from..to]);
-        keep_row(acc, 2, &x, own, b, output_stream(m, OutputNo(k as u8)));
+        two_value(st, &mut x, reads.env, reads.own, &code[from..to]);
+        let q = output_stream(m, OutputNo(k as u8));
+        keep_row(acc, 2, &x, reads.own, reads.round, q);
         if is_empty(acc, 2) {
             return;
         }
@@ -144,17 +144,15 @@ pub fn two_equations(
 pub fn four_equations(
     acc: &mut [u64],
     st: &mut [u64],
-    env: u64,
-    own: u64,
+    reads: Reads,
     code: &[u8],
     len: &[usize],
     m: usize,
     n: usize,
-    b: usize,
 )
     requires { ⌜ Coded m n (now code) (now len) ⌝ }
     requires { ⌜ (length (now acc) ≡ 4) × (256 ≤ length (now st)) ⌝ }
-    ensures { λ r. ⌜ Agree 4 env own m n (now (code .entry)) (now (len .entry)) b (now (acc .exit)) n ⌝ }
+    ensures { λ r. ⌜ Agree 4 (reads .env) (reads .own) m n (now (code .entry)) (now (len .entry)) (reads .round) (now (acc .exit)) n ⌝ }
 {
     let mut x = [0u64; 4];
     fill_row(acc, 4, 0xffff_ffff_ffff_ffff);
@@ -162,8 +160,9 @@ pub fn four_equations(
     while k < n {
         let from = 64 * k;
         let to = from + len[k];
-        four_value(st, &mut x, env, own, &code[from..to]);
-        keep_row(acc, 4, &x, own, b, output_stream(m, OutputNo(k as u8)));
+        four_value(st, &mut x, reads.env, reads.own, &code[from..to]);
+        let q = output_stream(m, OutputNo(k as u8));
+        keep_row(acc, 4, &x, reads.own, reads.round, q);
         if is_empty(acc, 4) {
             return;
         }

@@ -31,6 +31,15 @@ const OWN_LATER: u64 = 0xffff_0000_0000;
 
 // ---- The equations
 
+// What the lanes of a row of so many words read: the bits of `env`, and the lane's own valuation where `own` has a bit set. `round` is the round
+// itself, where its reads are not the lane's own.
+struct Reads {
+    words: usize,
+    env: u64,
+    own: u64,
+    round: usize,
+}
+
 // The number of output k's stream, in a sheet of m inputs.
 fn output_stream(m: usize, k: OutputNo) -> usize
     requires { ⌜ m + k .0 ≤ 8 ⌝ }
@@ -40,29 +49,26 @@ fn output_stream(m: usize, k: OutputNo) -> usize
     q.0 as usize
 }
 
-// The lanes of w words in which the n outputs, streams m on of b, have the values of their expressions, left in acc. It takes numbers and no
-// Size: a struct goes by reference, and with one this function, where most of the time goes, was a tenth slower on rows of four words.
+// The lanes of a row in which the n outputs, streams m on of the round itself, have the values of their expressions, left in acc. It takes the two
+// numbers and no Size, which would be copied to memory at each call.
 fn equations_row(
     acc: &mut [u64],
     st: &mut [u64],
-    w: usize,
-    env: u64,
-    own: u64,
+    reads: Reads,
     code: &[u8],
     len: &[usize],
     m: usize,
     n: usize,
-    b: usize,
 )
     requires { ⌜ Coded m n (now code) (now len) ⌝ }
-    requires { ⌜ (w ≤ 4) × (length (now acc) ≡ 4) × (stackWords w ≤ length (now st)) ⌝ }
-    ensures { λ r. ⌜ Agree w env own m n (now (code .entry)) (now (len .entry)) b (now (acc .exit)) n ⌝ }
+    requires { ⌜ (reads .words ≤ 4) × (length (now acc) ≡ 4) × (stackWords (reads .words) ≤ length (now st)) ⌝ }
+    ensures { λ r. ⌜ Agree (reads .words) (reads .env) (reads .own) m n (now (code .entry)) (now (len .entry)) (reads .round) (now (acc .exit)) n ⌝ }
 {
-    if w <= 2 {
-        two_equations(acc, st, env, own, code, len, m, n, b);
+    if reads.words <= 2 {
+        two_equations(acc, st, reads, code, len, m, n);
         return;
     }
-    four_equations(acc, st, env, own, code, len, m, n, b);
+    four_equations(acc, st, reads, code, len, m, n);
 }
 
 // ---- The reads of a round
@@ -119,18 +125,13 @@ pub fn successors(
     requires { ⌜ (size .words ≤ 4) × (length (now row) ≡ 4) × (stackWords (size .words) ≤ length (now st)) ⌝ }
     ensures { λ r. ⌜ ((p : Option ℕ) → Seen env p b → (ks : List ℕ) (j i : ℕ) → j < size .words → i < 64 → bit i (getD (now (row .exit)) j 0) ≡ holds (sheetOf (size .inputs) (size .outputs) (now (code .entry)) (now (len .entry)) ks) p b (some (64 * j + i))) ⌝ }
 {
-    equations_row(
-        row,
-        st,
-        size.words,
+    let reads = Reads {
+        words: size.words,
         env,
-        OWN_LATER,
-        code,
-        len,
-        size.inputs,
-        size.outputs,
-        b,
-    );
+        own: OWN_LATER,
+        round: b,
+    };
+    equations_row(row, st, reads, code, len, size.inputs, size.outputs);
 }
 
 // The lanes i of the words j of a row in which the equations hold at 64 * j + i with nothing after it, after the round whose reads are `before`.
@@ -139,18 +140,14 @@ pub fn enders(row: &mut [u64], st: &mut [u64], code: &[u8], len: &[usize], size:
     requires { ⌜ (size .words ≤ 4) × (length (now row) ≡ 4) × (stackWords (size .words) ≤ length (now st)) × (before < 4294967296) ⌝ }
     ensures { λ r. ⌜ ((p : Option ℕ) → Before before p → (ks : List ℕ) (j i : ℕ) → j < size .words → i < 64 → bit i (getD (now (row .exit)) j 0) ≡ holds (sheetOf (size .inputs) (size .outputs) (now (code .entry)) (now (len .entry)) ks) p (64 * j + i) none) ⌝ }
 {
-    equations_row(
-        row,
-        st,
-        size.words,
-        before + 0xff00_0000_0000,
-        OWN_NOW,
-        code,
-        len,
-        size.inputs,
-        size.outputs,
-        0,
-    );
+    let env = before + 0xff00_0000_0000;
+    let reads = Reads {
+        words: size.words,
+        env,
+        own: OWN_NOW,
+        round: 0,
+    };
+    equations_row(row, st, reads, code, len, size.inputs, size.outputs);
 }
 
 // The lanes i of the words j of a row in which the equations hold at b after 64 * j + i.
@@ -167,18 +164,13 @@ pub fn predecessors(
     requires { ⌜ (size .words ≤ 4) × (length (now row) ≡ 4) × (stackWords (size .words) ≤ length (now st)) ⌝ }
     ensures { λ r. ⌜ ((c : Option ℕ) → Ahead env b c → (ks : List ℕ) (j i : ℕ) → j < size .words → i < 64 → bit i (getD (now (row .exit)) j 0) ≡ holds (sheetOf (size .inputs) (size .outputs) (now (code .entry)) (now (len .entry)) ks) (some (64 * j + i)) b c) ⌝ }
 {
-    equations_row(
-        row,
-        st,
-        size.words,
+    let reads = Reads {
+        words: size.words,
         env,
-        OWN_EARLIER,
-        code,
-        len,
-        size.inputs,
-        size.outputs,
-        b,
-    );
+        own: OWN_EARLIER,
+        round: b,
+    };
+    equations_row(row, st, reads, code, len, size.inputs, size.outputs);
 }
 
 // ---- What the equations see of the round before

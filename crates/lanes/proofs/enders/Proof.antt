@@ -11,8 +11,8 @@ use Rattle.lanes.proofs.enders.Reads as reads
 use Rattle.lanes.proofs.enders.Lts as lts
 use Rattle.lanes.proofs.equations_row.Reads as equations-row-reads
 
-add-equations-row : tie.Need-add-equations-row
-add-equations-row c = search needs
+add-env : tie.Need-add-env
+add-env c = search needs
 
 equations-row-requires : tie.Need-equations-row-requires
 equations-row-requires c κs = search needs
@@ -33,4 +33,4 @@ returns c =
 
 pub enders-spec : {M : Type 1} → statement M
 enders-spec =
-    tie.close (tie.spec add-equations-row equations-row-requires same-length same-length-2 returns)
+    tie.close (tie.spec add-env equations-row-requires same-length same-length-2 returns)

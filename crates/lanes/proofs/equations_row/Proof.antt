@@ -12,7 +12,7 @@ use Rattle.lanes.proofs.expression.two_equations.Reads as two-equations
 
 two-equations-requires : tie.Need-two-equations-requires
 two-equations-requires c κs =
-    let q = c .before .before .before .before .before .before .before .pre in
+    let q = c .before .before .before .before .before .before .before .before .pre in
     (q .0, (q .1 .1, omega (arith, stack-two _ (c .before .before .if1 .taken))))
 
 same-length : tie.Need-same-length
@@ -26,8 +26,8 @@ returns c = record { lanes = λ j i g h. c .before .before .before .before .two-
 
 four-equations-requires : tie.Need-four-equations-requires
 four-equations-requires c κs =
-    let q = c .before .before .before .before .before .before .before .pre in
-    let g : 2 < c .before .before .before .before .before .before .before .args .w = omega (arith, c .before .before .if1 .left) in
+    let q = c .before .before .before .before .before .before .before .before .pre in
+    let g : 2 < c .before .before .before .before .before .before .before .before .args .reads .words = omega (arith, c .before .before .if1 .left) in
     (q .0, (q .1 .1, omega (arith, stack-four _ g)))
 
 same-length-3 : tie.Need-same-length-3

@@ -12,7 +12,7 @@ use lib.ListN.{length, getD, drop, drop-of-length-le}
 use lib.Seq.{drop-cons}
 use borrow.Author.Tests.{lt-ltb, le-ltb, eq-eqb, ne-eqb}
 use Rattle.words.specs.Bits.{bit}
-use Rattle.words.proofs.BitLaws.{bit-or, bit-none, bit-shr, bit-high}
+use Rattle.words.proofs.BitLaws.{bit-or, bit-none, bit-shl, bit-shr, bit-high}
 use Rattle.words.proofs.Bools.{or-second}
 use Rattle.words.proofs.JoinLaws.{bit-of-low}
 use Rattle.sheet.specs.Expression.{Expr, constant, negation, conjunction, disjunction, read}
@@ -51,13 +51,13 @@ any-append p (b ∷ bs) cs = ap (λ (u : Bool). p b || u) (any-append p bs cs) �
 
 -- the byte is a read of stream q at the offset number o
 unfoldable pub byteReads : ℕ → ℕ → ℕ → Bool
-byteReads q o b = eqb (b / 64) 1 && (eqb (b % 64 % 8) q && eqb (b % 64 / 16) (family o))
+byteReads q o b = eqb (b / 64 % 2) 1 && (eqb (b % 64 % 8) q && eqb (b % 64 / 16) (family o))
 
 module _ (q o : ℕ) where
   abbrev any : List ℕ → Bool
   any = anyByte (byteReads q o)
 
-  in-family : (b k n : ℕ) → b / 64 ≡ 1 → b % 64 % 8 ≡ k → b % 64 / 16 ≡ family n → byteReads q o b ≡ (eqb k q && eqb n o)
+  in-family : (b k n : ℕ) → b / 64 % 2 ≡ 1 → b % 64 % 8 ≡ k → b % 64 / 16 ≡ family n → byteReads q o b ≡ (eqb k q && eqb n o)
   unfolding byteReads
   in-family b k n e g h = rw (e, g, h, family-same n o)
 
@@ -116,7 +116,14 @@ streams w k q o e = rw e (go (decLt q 8))
 
 -- the bit of a byte
 abbrev pub Bit : ℕ → ℕ → Type 0
-Bit b x = (k : ℕ) → bit k x ≡ (eqb (b / 64) 1 && eqb k (b % 64))
+Bit b x = (k : ℕ) → bit k x ≡ (eqb (b / 64 % 2) 1 && eqb k (b % 64))
+
+pub bit-of-byte : (b : ℕ) → Bit b (b / 64 % 2 * 2 ^ (b % 64) % 2 ^ 64)
+bit-of-byte b k = go (ℕ-discrete (b / 64 % 2) 1)
+  where
+    go : Dec (b / 64 % 2 ≡ 1) → bit k (b / 64 % 2 * 2 ^ (b % 64) % 2 ^ 64) ≡ (eqb (b / 64 % 2) 1 && eqb k (b % 64))
+    go (yes e) = rw e (bit-shl k (b % 64) (omega arith))
+    go (no n) = let e : b / 64 % 2 ≡ 0 = omega arith in rw e (ap (bit k) (omega arith) ∙ bit-none k)
 
 -- one of the two bits of stream q in family f is bit k
 two-bits : (q f k : ℕ) → (ltb q 8 && (eqb (16 * f + q) k || eqb (8 + (16 * f + q)) k)) ≡ (eqb (k % 8) q && eqb (k / 16) f)
@@ -135,7 +142,7 @@ two-bits q f k = go (decLt q 8) (ℕ-discrete (k % 8) q) (ℕ-discrete (k / 16) 
 
 one-read : (b x : ℕ) → Bit b x → (q o : ℕ) → readIn x q o ≡ byteReads q o b
 unfolding readIn byteReads
-one-read b x has q o = rw (has (16 * family o + q), has (8 + (16 * family o + q))) (go (eqb (b / 64) 1))
+one-read b x has q o = rw (has (16 * family o + q), has (8 + (16 * family o + q))) (go (eqb (b / 64 % 2) 1))
   where
     go : (u : Bool) → (ltb q 8 && ((u && eqb (16 * family o + q) (b % 64)) || (u && eqb (8 + (16 * family o + q)) (b % 64)))) ≡ (u && (eqb (b % 64 % 8) q && eqb (b % 64 / 16) (family o)))
     go true = two-bits q (family o) (b % 64)

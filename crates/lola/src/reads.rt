@@ -8,14 +8,12 @@ ghost use Rattle.lola.specs.Reads.{offsetNo};
 ghost use Rattle.lola.specs.ByteReads.{readIn, ReadsOf};
 use sheet::Offset;
 
-// The bit of one byte; none if it is no read.
+// The bit of one byte. Of the bytes that an expression may have, the reads begin at 64 and end below 128: the bit is set for them alone.
 fn byte_read(byte: u8) -> u64
-    ensures { λ r. ⌜ ((k : ℕ) → bit k r ≡ (eqb (byte / 64) 1 && eqb k (byte % 64))) ⌝ }
+    ensures { λ r. ⌜ ((k : ℕ) → bit k r ≡ (eqb (byte / 64 % 2) 1 && eqb k (byte % 64))) ⌝ }
 {
-    if byte / 64 != 1 {
-        return 0;
-    }
-    1u64 << (byte % 64)
+    let b = byte as u64;
+    (b / 64 % 2) << (b % 64)
 }
 
 // The reads of an expression.

@@ -23,7 +23,7 @@ use Rattle.lola.specs.ByteReads.{readIn}
 use Rattle.lola.proofs.TreeReads.{none-in, read-or}
 use Rattle.circular.specs.Circular.{Circular, CircularSheet, edges}
 use Rattle.circular.specs.Table.{readsOf, readsOfWords}
-use Rattle.circular.specs.Masks.{Rows, Mask, Masks, Tells}
+use Rattle.circular.specs.Masks.{OutputWords, Mask, Masks, Tells}
 use Rattle.circular.proofs.Sweep.{circular-map}
 
 -- ---- one word
@@ -79,7 +79,7 @@ lacks-more ws w s k =
           (λ q o e. or-none (readIn w q o) _ (sym (read-or w (getD ws s 0) q o) ∙ e) .1);
     }
 
-module _ (x : Sheet) (u : Usable x) (ws : List ℕ) (r : Rows (x .code) (x .len) (x .outputs) ws) where
+module _ (x : Sheet) (u : Usable x) (ws : List ℕ) (r : OutputWords (x .code) (x .len) (x .outputs) ws) where
   outputs-are : outputs (ruleSheet x) ≡ x .outputs
   outputs-are = length-trees (x .inputs + x .outputs) (x .code) (x .len) (x .outputs)
 

@@ -11,13 +11,13 @@ use Rattle.circular.specs.Circular.{edges}
 use Rattle.circular.specs.Table.{readsOf}
 
 -- the word of output s of n: it has no reads where there is no such output
-pub record Row (code len : List ℕ) (n s w : ℕ) : Type 0 where
+pub record OutputWord (code len : List ℕ) (n s w : ℕ) : Type 0 where
   pub there : s < n → ReadsOf (codeAt code len s) w
   pub absent : n ≤ s → w ≡ 0
 
 -- the words of the outputs
-pub record Rows (code len : List ℕ) (n : ℕ) (ws : List ℕ) : Type 0 where
-  pub rows : (s : ℕ) → s < 7 → Row code len n s (getD ws s 0)
+pub record OutputWords (code len : List ℕ) (n : ℕ) (ws : List ℕ) : Type 0 where
+  pub rows : (s : ℕ) → s < 7 → OutputWord code len n s (getD ws s 0)
 
 -- the mask of the word's reads of stream q: bit o for the offset number o
 pub record Mask (w q x : ℕ) : Type 0 where

@@ -3,7 +3,7 @@ ghost use mathlib.Core.Path.{_≡_};
 ghost use Prim.Native.Nat.{ℕ, _<_, _≤_};
 ghost use lib.ListN.{length, getD};
 ghost use Rattle.sheet.specs.Reading.{ruleSheet, Usable};
-ghost use Rattle.circular.specs.Masks.{Row, Rows, Mask, Masks, Tells};
+ghost use Rattle.circular.specs.Masks.{OutputWord, OutputWords, Mask, Masks, Tells};
 use lola::reads::expression_reads;
 use lola::reads::streams_at;
 use sheet::Offset;
@@ -14,7 +14,7 @@ use sheet::StreamNo;
 // All reads of output s; none where there is no such output.
 fn output_reads(code: &[u8], len: &[usize], n: usize, s: usize) -> u64
     requires { ⌜ (n ≤ 7) × (length (now code) ≡ 448) × (length (now len) ≡ 7) × ((k : ℕ) → k < n → getD (now len) k 0 ≤ 64) ⌝ }
-    ensures { λ r. ⌜ Row (now (code .entry)) (now (len .entry)) n s r ⌝ }
+    ensures { λ r. ⌜ OutputWord (now (code .entry)) (now (len .entry)) n s r ⌝ }
 {
     if n <= s {
         return 0;
@@ -27,7 +27,7 @@ fn output_reads(code: &[u8], len: &[usize], n: usize, s: usize) -> u64
 // The words of the outputs.
 pub fn all_reads<'a>(code: &'a [u8], len: &'a [usize], n: usize) -> [u64; 7]
     requires { ⌜ (n ≤ 7) × (length (now code) ≡ 448) × (length (now len) ≡ 7) × ((k : ℕ) → k < n → getD (now len) k 0 ≤ 64) ⌝ }
-    ensures { λ r. ⌜ Rows (now (code .entry)) (now (len .entry)) n r ⌝ }
+    ensures { λ r. ⌜ OutputWords (now (code .entry)) (now (len .entry)) n r ⌝ }
 {
     let mut words = [0u64; 7];
     let mut s: usize = 0;

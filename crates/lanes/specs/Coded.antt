@@ -5,6 +5,8 @@ use mathlib.Core.List.{List, [], _∷_}
 use Prim.Native.Nat.{ℕ, suc, _+_, _*_, _≤_, _<_}
 use lib.ListN.{length, getD}
 use Rattle.words.specs.Bits.{bit}
+use Rattle.words.specs.Sizes.{Sized}
+use Rattle.words.specs.declared.Size.{Size}
 use Rattle.sheet.specs.Expression.{Expr, parse, tree}
 use Rattle.sheet.specs.RuleSheet.{RuleSheet}
 use Rattle.sheet.specs.Reading.{Ranges, Parses, codeAt, treesOf}
@@ -22,6 +24,14 @@ pub record Coded (m n : ℕ) (code len : List ℕ) : Type 0 where
 -- the rule sheet that they stand for; which outputs it requires is of no concern to the equations
 abbrev pub sheetOf : ℕ → ℕ → List ℕ → List ℕ → List ℕ → RuleSheet
 sheetOf m n code len ks = record { inputs = m; expressions = treesOf (m + n) code len n; required = ks }
+
+-- the same by the size of a sheet
+pub record CodedBy (z : Size) (code len : List ℕ) : Type 0 where
+  pub sized : Sized z
+  pub coded : Coded (z .inputs) (z .outputs) code len
+
+abbrev pub sheetBy : Size → List ℕ → List ℕ → List ℕ → RuleSheet
+sheetBy z code len ks = sheetOf (z .inputs) (z .outputs) code len ks
 
 -- the streams q, q + 1, .. of v have the values of the expressions es, with any reads
 unfoldable pub agreed : Look → List Expr → ℕ → ℕ → Bool

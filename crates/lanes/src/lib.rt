@@ -10,7 +10,7 @@ ghost use lib.ListN.{length, getD};
 ghost use Rattle.words.specs.Bits.{bit};
 ghost use Rattle.lola.specs.Equations.{holds};
 ghost use Rattle.lanes.specs.Around.{stackWords, Beside, Before, Seen, Ahead, unless};
-ghost use Rattle.lanes.specs.Coded.{Coded, sheetOf, Agree};
+ghost use Rattle.lanes.specs.Coded.{Coded, sheetOf, sheetBy, Agree};
 use expression::four_equations;
 use expression::two_equations;
 use lola::reads::expression_reads;
@@ -123,7 +123,7 @@ pub fn successors(
 )
     requires { ⌜ Coded (size .inputs) (size .outputs) (now code) (now len) ⌝ }
     requires { ⌜ (size .words ≤ 4) × (length (now row) ≡ 4) × (stackWords (size .words) ≤ length (now st)) ⌝ }
-    ensures { λ r. ⌜ ((p : Option ℕ) → Seen env p b → (ks : List ℕ) (j i : ℕ) → j < size .words → i < 64 → bit i (getD (now (row .exit)) j 0) ≡ holds (sheetOf (size .inputs) (size .outputs) (now (code .entry)) (now (len .entry)) ks) p b (some (64 * j + i))) ⌝ }
+    ensures { λ r. ⌜ ((p : Option ℕ) → Seen env p b → (ks : List ℕ) (j i : ℕ) → j < size .words → i < 64 → bit i (getD (now (row .exit)) j 0) ≡ holds (sheetBy size (now (code .entry)) (now (len .entry)) ks) p b (some (64 * j + i))) ⌝ }
 {
     let reads = Reads {
         words: size.words,
@@ -138,7 +138,7 @@ pub fn successors(
 pub fn enders(row: &mut [u64], st: &mut [u64], code: &[u8], len: &[usize], size: Size, before: u64)
     requires { ⌜ Coded (size .inputs) (size .outputs) (now code) (now len) ⌝ }
     requires { ⌜ (size .words ≤ 4) × (length (now row) ≡ 4) × (stackWords (size .words) ≤ length (now st)) × (before < 4294967296) ⌝ }
-    ensures { λ r. ⌜ ((p : Option ℕ) → Before before p → (ks : List ℕ) (j i : ℕ) → j < size .words → i < 64 → bit i (getD (now (row .exit)) j 0) ≡ holds (sheetOf (size .inputs) (size .outputs) (now (code .entry)) (now (len .entry)) ks) p (64 * j + i) none) ⌝ }
+    ensures { λ r. ⌜ ((p : Option ℕ) → Before before p → (ks : List ℕ) (j i : ℕ) → j < size .words → i < 64 → bit i (getD (now (row .exit)) j 0) ≡ holds (sheetBy size (now (code .entry)) (now (len .entry)) ks) p (64 * j + i) none) ⌝ }
 {
     let env = before + 0xff00_0000_0000;
     let reads = Reads {
@@ -162,7 +162,7 @@ pub fn predecessors(
 )
     requires { ⌜ Coded (size .inputs) (size .outputs) (now code) (now len) ⌝ }
     requires { ⌜ (size .words ≤ 4) × (length (now row) ≡ 4) × (stackWords (size .words) ≤ length (now st)) ⌝ }
-    ensures { λ r. ⌜ ((c : Option ℕ) → Ahead env b c → (ks : List ℕ) (j i : ℕ) → j < size .words → i < 64 → bit i (getD (now (row .exit)) j 0) ≡ holds (sheetOf (size .inputs) (size .outputs) (now (code .entry)) (now (len .entry)) ks) (some (64 * j + i)) b c) ⌝ }
+    ensures { λ r. ⌜ ((c : Option ℕ) → Ahead env b c → (ks : List ℕ) (j i : ℕ) → j < size .words → i < 64 → bit i (getD (now (row .exit)) j 0) ≡ holds (sheetBy size (now (code .entry)) (now (len .entry)) ks) (some (64 * j + i)) b c) ⌝ }
 {
     let reads = Reads {
         words: size.words,

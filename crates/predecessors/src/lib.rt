@@ -15,7 +15,7 @@ ghost use Rattle.pairs.specs.Storage.{stored, scratchAt, storageWords};
 ghost use Rattle.pairs.specs.Changes.{rowBit};
 ghost use Rattle.lola.specs.Equations.{holds};
 ghost use Rattle.lanes.specs.Around.{unless};
-ghost use Rattle.predecessors.specs.BySize.{CodedBy, sheetBy};
+ghost use Rattle.lanes.specs.Coded.{CodedBy, sheetBy};
 ghost use Rattle.predecessors.specs.Rows.{meets, Row, United};
 use sheet::Assumed;
 use words::Size;

@@ -10,7 +10,7 @@ ghost use Rattle.words.specs.Sizes.{Sized};
 ghost use Rattle.pairs.specs.Storage.{live, reached, scratch, reachedAt, storageWords};
 ghost use Rattle.pairs.specs.Changes.{Adds, eqNext};
 ghost use Rattle.lanes.specs.Around.{stackWords, Before, Seen};
-ghost use Rattle.lanes.specs.Coded.{Coded, sheetOf};
+ghost use Rattle.lanes.specs.Coded.{Coded, sheetBy};
 ghost use Rattle.rounds.specs.Rows.{Earlier, cut, gains, NoneNew, NoEndNew, inRow};
 use words::Size;
 
@@ -41,7 +41,7 @@ pub fn gain_row(
 )
     requires { ⌜ Coded (size .inputs) (size .outputs) (now code) (now len) ⌝ }
     requires { ⌜ Sized size × (stackWords (size .words) ≤ length (now st)) × (storageWords ≤ length (now s)) × (b < 256) ⌝ }
-    ensures { λ r. ⌜ ((p : Option ℕ) → Seen env p b → (ks : List ℕ) → Adds reachedAt (now (s .entry)) (now (s .exit)) (gains (sheetOf (size .inputs) (size .outputs) (now (code .entry)) (now (len .entry)) ks) (λ x. eqb x b) (cut (λ c. ltb c (size .valuations))) (live (now (s .entry))) p)) ⌝ }
+    ensures { λ r. ⌜ ((p : Option ℕ) → Seen env p b → (ks : List ℕ) → Adds reachedAt (now (s .entry)) (now (s .exit)) (gains (sheetBy size (now (code .entry)) (now (len .entry)) ks) (λ x. eqb x b) (cut (λ c. ltb c (size .valuations))) (live (now (s .entry))) p)) ⌝ }
 {
     let v = size.valuations;
     let w = size.words;
@@ -88,7 +88,7 @@ pub fn gain_ends(
 )
     requires { ⌜ Coded (size .inputs) (size .outputs) (now code) (now len) ⌝ }
     requires { ⌜ Sized size × (stackWords (size .words) ≤ length (now st)) × (storageWords ≤ length (now s)) × (g < 256) × Earlier before ⌝ }
-    ensures { λ r. ⌜ ((p : Option ℕ) → Before before p → (ks : List ℕ) → Adds reachedAt (now (s .entry)) (now (s .exit)) (gains (sheetOf (size .inputs) (size .outputs) (now (code .entry)) (now (len .entry)) ks) (inRow (scratch (now (s .entry))) (size .valuations) g) (λ y. eqNext y none) (live (now (s .entry))) p)) ⌝ }
+    ensures { λ r. ⌜ ((p : Option ℕ) → Before before p → (ks : List ℕ) → Adds reachedAt (now (s .entry)) (now (s .exit)) (gains (sheetBy size (now (code .entry)) (now (len .entry)) ks) (inRow (scratch (now (s .entry))) (size .valuations) g) (λ y. eqNext y none) (live (now (s .entry))) p)) ⌝ }
 {
     let v = size.valuations;
     let w = size.words;

@@ -11,7 +11,7 @@ ghost use Rattle.completions.specs.Steps.{startSet, stepSet, partBelow};
 ghost use Rattle.pairs.specs.Storage.{stored, live, reached, scratch, reachedAt, scratchAt, storageWords};
 ghost use Rattle.pairs.specs.Changes.{Adds};
 ghost use Rattle.lanes.specs.Around.{stackWords, Before};
-ghost use Rattle.lanes.specs.Coded.{Coded, sheetOf};
+ghost use Rattle.lanes.specs.Coded.{Coded, sheetOf, sheetBy};
 ghost use Rattle.rounds.specs.Rows.{among, Earlier, gains, inRow, heardFirst, brought, Sparse};
 ghost use Rattle.rounds.specs.Round.{Rounded};
 use gain::gain_ends;
@@ -53,7 +53,7 @@ fn bring_row(
 )
     requires { ⌜ Coded (size .inputs) (size .outputs) (now code) (now len) ⌝ }
     requires { ⌜ Sized size × (stackWords (size .words) ≤ length (now st)) × (storageWords ≤ length (now s)) × (g < 256) × Earlier before ⌝ }
-    ensures { λ r. ⌜ ((p : Option ℕ) → Before before p → (ks : List ℕ) → Adds reachedAt (now (s .entry)) (now (s .exit)) (gains (sheetOf (size .inputs) (size .outputs) (now (code .entry)) (now (len .entry)) ks) (inRow (scratch (now (s .entry))) (size .valuations) g) (partBelow (size .valuations)) (live (now (s .entry))) p)) ⌝ }
+    ensures { λ r. ⌜ ((p : Option ℕ) → Before before p → (ks : List ℕ) → Adds reachedAt (now (s .entry)) (now (s .exit)) (gains (sheetBy size (now (code .entry)) (now (len .entry)) ks) (inRow (scratch (now (s .entry))) (size .valuations) g) (partBelow (size .valuations)) (live (now (s .entry))) p)) ⌝ }
 {
     let v = size.valuations;
     let w = size.words;
@@ -86,7 +86,7 @@ fn hear(s: &mut [u64], size: Size, letters: u64)
 fn bring_first(s: &mut [u64], code: &[u8], len: &[usize], size: Size)
     requires { ⌜ Coded (size .inputs) (size .outputs) (now code) (now len) ⌝ }
     requires { ⌜ Sized size × (storageWords ≤ length (now s)) ⌝ }
-    ensures { λ r. ⌜ ((ks : List ℕ) → Adds reachedAt (now (s .entry)) (now (s .exit)) (gains (sheetOf (size .inputs) (size .outputs) (now (code .entry)) (now (len .entry)) ks) (inRow (scratch (now (s .entry))) (size .valuations) 0) (partBelow (size .valuations)) (live (now (s .entry))) none)) ⌝ }
+    ensures { λ r. ⌜ ((ks : List ℕ) → Adds reachedAt (now (s .entry)) (now (s .exit)) (gains (sheetBy size (now (code .entry)) (now (len .entry)) ks) (inRow (scratch (now (s .entry))) (size .valuations) 0) (partBelow (size .valuations)) (live (now (s .entry))) none)) ⌝ }
 {
     let mut st = [0u64; 256];
     bring_row(s, &mut st, code, len, size, lanes::before(true, 0), 0);
@@ -113,7 +113,7 @@ pub fn first_round(s: &mut [u64], code: &[u8], len: &[usize], m: usize, n: usize
 fn bring_rows(s: &mut [u64], st: &mut [u64], groups: &[u64], code: &[u8], len: &[usize], size: Size)
     requires { ⌜ Coded (size .inputs) (size .outputs) (now code) (now len) ⌝ }
     requires { ⌜ Sized size × (stackWords (size .words) ≤ length (now st)) × (length (now groups) ≡ 4) × (storageWords ≤ length (now s)) × Sparse (size .valuations) (now groups) (scratch (now s)) ⌝ }
-    ensures { λ r. ⌜ ((ks : List ℕ) → Adds reachedAt (now (s .entry)) (now (s .exit)) (brought (sheetOf (size .inputs) (size .outputs) (now (code .entry)) (now (len .entry)) ks) (scratch (now (s .entry))) (size .valuations) (live (now (s .entry))) (size .valuations))) ⌝ }
+    ensures { λ r. ⌜ ((ks : List ℕ) → Adds reachedAt (now (s .entry)) (now (s .exit)) (brought (sheetBy size (now (code .entry)) (now (len .entry)) ks) (scratch (now (s .entry))) (size .valuations) (live (now (s .entry))) (size .valuations))) ⌝ }
 {
     let v = size.valuations;
     let w = size.words;
@@ -128,7 +128,7 @@ fn bring_rows(s: &mut [u64], st: &mut [u64], groups: &[u64], code: &[u8], len: &
 fn bring_pairs(s: &mut [u64], groups: &[u64], code: &[u8], len: &[usize], size: Size)
     requires { ⌜ Coded (size .inputs) (size .outputs) (now code) (now len) ⌝ }
     requires { ⌜ Sized size × (length (now groups) ≡ 4) × (storageWords ≤ length (now s)) × Sparse (size .valuations) (now groups) (scratch (now s)) ⌝ }
-    ensures { λ r. ⌜ ((ks : List ℕ) → Adds reachedAt (now (s .entry)) (now (s .exit)) (brought (sheetOf (size .inputs) (size .outputs) (now (code .entry)) (now (len .entry)) ks) (scratch (now (s .entry))) (size .valuations) (live (now (s .entry))) (size .valuations))) ⌝ }
+    ensures { λ r. ⌜ ((ks : List ℕ) → Adds reachedAt (now (s .entry)) (now (s .exit)) (brought (sheetBy size (now (code .entry)) (now (len .entry)) ks) (scratch (now (s .entry))) (size .valuations) (live (now (s .entry))) (size .valuations))) ⌝ }
 {
     if size.valuations <= 128 {
         let mut st = [0u64; 128];

@@ -7,7 +7,7 @@ use lib.ListN.{length-set, length}
 use borrow.Author.Needs.{needs}
 use Rattle.sheet.specs.RuleSheet.{requiredOf}
 use Rattle.completions.specs.Live.{allowed}
-use Rattle.predecessors.specs.BySize.{sheetBy}
+use Rattle.lanes.specs.Coded.{sheetBy}
 use Rattle.predecessors.proofs.Rows.{LanesTo, lanes-none, lanes-more, lanes-all}
 use Rattle.predecessors.proofs.fill_allowed.Statement.{statement}
 use Rattle.predecessors.proofs.fill_allowed.Tie as tie

@@ -8,7 +8,7 @@ use Rattle.lola.specs.Equations.{holds}
 use Rattle.pairs.specs.Changes.{rowBit}
 use Rattle.lanes.specs.Around.{unless}
 use Rattle.lanes.proofs.RowLaws.{stack-most}
-use Rattle.predecessors.specs.BySize.{sheetBy}
+use Rattle.lanes.specs.Coded.{sheetBy}
 use Rattle.predecessors.proofs.Rows.{lanes-row}
 use Rattle.predecessors.proofs.Uniting.{united-old, united-as}
 use Rattle.predecessors.proofs.unite.Statement.{statement}

@@ -6,7 +6,7 @@ use native.Mathlib.Omega.{arith}
 use lib.ListN.{length}
 use borrow.Author.Needs.{needs}
 use Rattle.lanes.specs.Around.{unless}
-use Rattle.predecessors.specs.BySize.{sheetBy}
+use Rattle.lanes.specs.Coded.{sheetBy}
 use Rattle.predecessors.proofs.Uniting.{Uniting, uniting-first, uniting-more, uniting-all}
 use Rattle.predecessors.proofs.unite_valuations.Statement.{statement}
 use Rattle.predecessors.proofs.unite_valuations.Tie as tie

@@ -4,8 +4,7 @@ use borrow.Author.Needs.{needs}
 use Rattle.words.specs.declared.Size.{Size}
 use Rattle.sheet.specs.RuleSheet.{requiredOf}
 use Rattle.sheet.specs.Reading.{Below}
-use Rattle.lanes.specs.Coded.{Coded}
-use Rattle.predecessors.specs.BySize.{sheetBy}
+use Rattle.lanes.specs.Coded.{Coded, sheetBy}
 use Rattle.preparation.specs.Searched.{Searched, Reach}
 use Rattle.preparation.proofs.prepare.Statement.{statement}
 use Rattle.preparation.proofs.prepare.Tie as tie

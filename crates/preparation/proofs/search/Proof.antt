@@ -9,7 +9,7 @@ use borrow.Author.Needs.{needs}
 use Rattle.sheet.specs.RuleSheet.{requiredOf}
 use Rattle.completions.specs.Live.{allowed}
 use Rattle.pairs.specs.Storage.{reachedAt, scratchAt, storageWords, maxPairs}
-use Rattle.predecessors.specs.BySize.{sheetBy}
+use Rattle.lanes.specs.Coded.{sheetBy}
 use Rattle.predecessors.specs.Rows.{Row}
 use Rattle.preparation.specs.Search.{Occupied, Apart}
 use Rattle.preparation.proofs.Searching.{Searching, rows-started, apart-turned}

@@ -7,7 +7,7 @@ use lib.ListN.{length}
 use borrow.Author.Needs.{needs}
 use Rattle.words.proofs.SizeLaws.{sized-under}
 use Rattle.completions.specs.Live.{allowed}
-use Rattle.predecessors.specs.BySize.{sheetBy}
+use Rattle.lanes.specs.Coded.{sheetBy}
 use Rattle.predecessors.specs.Rows.{Row}
 use Rattle.predecessors.proofs.Rows.{streams-low}
 use Rattle.predecessors.proofs.Uniting.{row-from, empty-row}

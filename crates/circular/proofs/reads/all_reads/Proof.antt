@@ -5,12 +5,12 @@ use native.Mathlib.Omega.{arith}
 use lib.ListN.{length, getD, length-set}
 use borrow.Author.Needs.{needs}
 use Rattle.words.proofs.ListLaws.{set-more}
-use Rattle.circular.specs.Masks.{Row}
+use Rattle.circular.specs.Masks.{OutputWord}
 use Rattle.circular.proofs.reads.all_reads.Statement.{statement}
 use Rattle.circular.proofs.reads.all_reads.Tie as tie
 
 abbrev Inv-loop : tie.InvT-loop
-Inv-loop code len n words₀ s₀ words s = (s ≤ 7) × (length words ≡ 7) × ((j : ℕ) → j < s → Row code len n j (getD words j 0))
+Inv-loop code len n words₀ s₀ words s = (s ≤ 7) × (length words ≡ 7) × ((j : ℕ) → j < s → OutputWord code len n j (getD words j 0))
 
 abbrev μ-loop : tie.MeasureT-loop
 μ-loop code len n words₀ s₀ words s = 7 - s
@@ -39,7 +39,7 @@ loop-again c =
     let a = l .before .before .before in (
       omega arith,
       simp length-set (search needs),
-      set-more (λ j x. Row (a .args .code .now) (a .args .len .now) (a .args .n) j x) (l .loop .words) (l .loop .s) (c .output-reads .result) (omega arith)
+      set-more (λ j x. OutputWord (a .args .code .now) (a .args .len .now) (a .args .n) j x) (l .loop .words) (l .loop .s) (c .output-reads .result) (omega arith)
           (c .output-reads .ensures) (l .loop .inv .2),
     )
 

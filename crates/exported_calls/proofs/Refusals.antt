@@ -1,5 +1,5 @@
 -- The first demand for callers in C and Rust: the entries' checks decide one outcome, and its number is what is returned.
-use mathlib.Core.Path.{_≡_, refl, sym, ap, _∙_}
+use mathlib.Core.Path.{_≡_, refl, sym, ap, subst, _∙_}
 use mathlib.Core.Bool.{Bool, true, false}
 use mathlib.Core.List.{List, [], _∷_}
 use Prim.Native.Nat.{ℕ, _<_}
@@ -21,8 +21,13 @@ use Rattle.effects.specs.declared.PrepareAnswer.{PrepareAnswer}
 use Rattle.effects.specs.declared.RoundAnswer.{RoundAnswer}
 use Rattle.effects.specs.declared.ClosingAnswer.{ClosingAnswer}
 use Rattle.monitor.specs.Entries.{Prepares, Rounds}
-use Rattle.jigwaret.specs.Journal.{Slices, slices, SlicesAfter, markChecks, MarkRefused, ByMark, BySizes, PreparationNumbered, RoundNumbered, ClosingNumbered}
-use Rattle.exported_calls.specs.Refusals.{Untouched, ExportedRefusals}
+use Rattle.claims.specs.Book.{Call, round, closing}
+use Rattle.jigwaret.specs.Journal.{Slices, slices, SlicesAfter, markChecks, MarkRefused, ByMark, BySizes, PreparationNumbered, RoundNumbered, ClosingNumbered, RoundAs, ClosedAs}
+use Rattle.exported_calls.specs.Calls.{HeldSlices, Reply, slicesOf, ExportedStep, ExportedRefusals}
+
+-- the storage and the two slices are what they were
+abbrev Untouched : List ℕ → List ℕ → Slices → Type 0
+Untouched s t z = (t ≡ s) × (z .rec′ ≡ z .rec) × (z .ans′ ≡ z .ans)
 
 -- ---- one number
 
@@ -92,6 +97,42 @@ left-by-mark : (b : Bool) (D : Type 0) (bs s t : List ℕ) (z : Slices) (r : ℕ
 left-by-mark true D bs s t z r f d = f d
 left-by-mark false D bs s t z r f d = d .kept
 
+-- ---- rounds and closings
+
+module _ (bs s rec ans rec₁ ans₁ rec₂ ans₂ : List ℕ) (r q : ℕ) where
+  one-round : (t u : List ℕ) (known val : ℕ) → RoundAs bs s t known val (slices rec rec₁ ans ans₁) r → RoundAs bs s u known val (slices rec rec₂ ans ans₂) q → r ≡ q
+  one-round t u known val =
+      one-by-sizes (sized rec ans) _ _ s t u (slices rec rec₁ ans ans₁) (slices rec rec₂ ans ans₂) r q
+      (one-by-mark (marked rec) _ _ _ _ r q
+      (λ d e. one-number (roundChecks bs (length s) (recordOf rec) known val) _ _ r q (d .result .decided) (e .result .decided) (d .number) (e .number))
+      (one-mark-refused bs s t u _ _ r q))
+
+  one-closing : ClosedAs bs s (slices rec rec₁ ans ans₁) r → ClosedAs bs s (slices rec rec₂ ans ans₂) q → r ≡ q
+  one-closing =
+      one-by-sizes (sized rec ans) _ _ s s s (slices rec rec₁ ans ans₁) (slices rec rec₂ ans ans₂) r q
+      (one-by-mark (marked rec) _ _ _ _ r q
+      (λ d e. one-number (closingChecks bs (length s) (recordOf rec)) _ _ r q (d .result .decided) (e .result .decided) (d .number) (e .number))
+      (one-mark-refused bs s s s _ _ r q))
+
+one-call : (bs : List ℕ) (h k l : HeldSlices) (c : Call) (y z : Reply) → y .before ≡ z .before → ExportedStep bs h c y k → ExportedStep bs h c z l → y .number ≡ z .number
+one-call bs h k l (round known val) y z e d f =
+    one-round bs (h .storage) (h .numbers) (z .before) (k .numbers) (y .after) (l .numbers) (z .after) (y .number) (z .number) (k .storage) (l .storage) known val
+    (subst (λ (a : List ℕ). RoundAs bs (h .storage) (k .storage) known val (slices (h .numbers) (k .numbers) a (y .after)) (y .number)) e d) f
+one-call bs h k l closing y z e d f =
+    one-closing bs (h .storage) (h .numbers) (z .before) (k .numbers) (y .after) (l .numbers) (z .after) (y .number) (z .number)
+    (subst (λ (a : List ℕ). ClosedAs bs (h .storage) (slices (h .numbers) (k .numbers) a (y .after)) (y .number)) e (d .1)) (f .1)
+
+call-left : (bs : List ℕ) (h k : HeldSlices) (c : Call) (y : Reply) → ExportedStep bs h c y k → 0 < y .number → Untouched (h .storage) (k .storage) (slicesOf h y k)
+call-left bs h k (round known val) y d p =
+    let z : Slices = slicesOf h y k in
+    left-by-sizes (sized (h .numbers) (y .before)) _ (h .storage) (k .storage) z (y .number)
+    (left-by-mark (marked (h .numbers)) _ bs (h .storage) (k .storage) z (y .number) (round-left bs (h .storage) (k .storage) z (y .number) p known val)) d
+call-left bs h k closing y d p =
+    let z : Slices = slicesOf h y k in
+    let e = left-by-sizes (sized (h .numbers) (y .before)) _ (h .storage) (h .storage) z (y .number)
+    (left-by-mark (marked (h .numbers)) _ bs (h .storage) (h .storage) z (y .number) (closing-left bs (h .storage) (h .storage) z (y .number) p)) (d .1) in
+    (d .0, e .1, e .2)
+
 -- ---- the demand
 
 pub exported-refusals : ExportedRefusals
@@ -104,17 +145,6 @@ exported-refusals = record {
       one-by-sizes (sized rec ans) _ _ s t u (slices rec rec₁ ans ans₁) (slices rec rec₂ ans ans₂) r q
       (λ d e. one-number (prepareChecks bs (length s)) _ _ r q (d .result .decided) (e .result .decided) (d .number) (e .number));
   preparation-refused = λ bs s t z r d h. left-by-sizes (sized (z .rec) (z .ans)) _ s t z r (preparation-left bs s t z r h) d;
-  round = λ bs s t u rec ans rec₁ ans₁ rec₂ ans₂ known val r q.
-      one-by-sizes (sized rec ans) _ _ s t u (slices rec rec₁ ans ans₁) (slices rec rec₂ ans ans₂) r q
-      (one-by-mark (marked rec) _ _ _ _ r q
-      (λ d e. one-number (roundChecks bs (length s) (recordOf rec) known val) _ _ r q (d .result .decided) (e .result .decided) (d .number) (e .number))
-      (one-mark-refused bs s t u _ _ r q));
-  round-refused = λ bs s t known val z r d h.
-      left-by-sizes (sized (z .rec) (z .ans)) _ s t z r (left-by-mark (marked (z .rec)) _ bs s t z r (round-left bs s t z r h known val)) d;
-  closing = λ bs s rec ans rec₁ ans₁ rec₂ ans₂ r q.
-      one-by-sizes (sized rec ans) _ _ s s s (slices rec rec₁ ans ans₁) (slices rec rec₂ ans ans₂) r q
-      (one-by-mark (marked rec) _ _ _ _ r q
-      (λ d e. one-number (closingChecks bs (length s) (recordOf rec)) _ _ r q (d .result .decided) (e .result .decided) (d .number) (e .number))
-      (one-mark-refused bs s s s _ _ r q));
-  closing-refused = λ bs s z r d h. left-by-sizes (sized (z .rec) (z .ans)) _ s s z r (left-by-mark (marked (z .rec)) _ bs s s z r (closing-left bs s s z r h)) d;
+  call = one-call;
+  call-refused = call-left;
 }

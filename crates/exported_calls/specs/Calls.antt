@@ -12,6 +12,7 @@ use Rattle.record.specs.declared.JournalRecord.{JournalRecord}
 use Rattle.slices.specs.Slices.{numbersOf}
 use Rattle.claims.specs.Book.{Call, round, closing, Answer, refused, verdicts, closed, Book, emptyBook, BookRun}
 use Rattle.claims.specs.Session.{Matches}
+use Rattle.jigwaret.specs.Numbered.{Checked, EvaluatedAs}
 use Rattle.jigwaret.specs.Journal.{Slices, slices, PreparedAs, RoundAs, ClosedAs}
 
 -- what a caller in C or Rust holds between two calls: the storage, and the record as its numbers
@@ -77,3 +78,17 @@ ExportedCalls =
     (bs s t : List ℕ) (z : Slices) → PreparedAs bs s t z 0
     → (cs : List Call) (ys : List Reply) (k : HeldSlices) → ExportedRun bs (record { storage = t; numbers = z .rec′ }) cs ys k
     → OfSheet bs (λ x. (as′ : List Answer) × (b : Book) × BookRun x emptyBook cs as′ b × AllShow (outputs x) as′ ys × NumbersMatch x b (k .numbers))
+
+-- The first demand for callers in C and Rust (01, "What is turned down"): which number a function returns is settled by what it is handed, and with
+-- every number but 0 all slices lent to it are what they were. That it returns one is its contract.
+pub record ExportedRefusals : Type 0 where
+  pub check : (bs : List ℕ) (r q : ℕ) → Checked bs r → Checked bs q → r ≡ q
+  pub evaluation : (bs ls old new other : List ℕ) (r q : ℕ) → EvaluatedAs bs ls old new r → EvaluatedAs bs ls old other q → r ≡ q
+  pub evaluation-refused : (bs ls old new : List ℕ) (r : ℕ) → EvaluatedAs bs ls old new r → 0 < r → new ≡ old
+  pub preparation : (bs s t u rec ans rec₁ ans₁ rec₂ ans₂ : List ℕ) (r q : ℕ)
+      → PreparedAs bs s t (slices rec rec₁ ans ans₁) r → PreparedAs bs s u (slices rec rec₂ ans ans₂) q → r ≡ q
+  pub preparation-refused : (bs s t : List ℕ) (z : Slices) (r : ℕ) → PreparedAs bs s t z r → 0 < r → (t ≡ s) × (z .rec′ ≡ z .rec) × (z .ans′ ≡ z .ans)
+  pub call : (bs : List ℕ) (h k l : HeldSlices) (c : Call) (y z : Reply) → y .before ≡ z .before
+      → ExportedStep bs h c y k → ExportedStep bs h c z l → y .number ≡ z .number
+  pub call-refused : (bs : List ℕ) (h k : HeldSlices) (c : Call) (y : Reply) → ExportedStep bs h c y k → 0 < y .number
+      → (k .storage ≡ h .storage) × (k .numbers ≡ h .numbers) × (y .after ≡ y .before)

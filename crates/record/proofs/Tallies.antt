@@ -17,7 +17,7 @@ use Rattle.outcomes.specs.declared.Verdict.the-variants.{False, True, Open, Bro
 use Rattle.outcomes.specs.declared.Told.{Told}
 use Rattle.words.specs.Below.{one}
 use Rattle.words.proofs.Bools.{and-split}
-use Rattle.record.specs.Record.{maxRounds, column, countAt, sumAt, addUp, recordOk, sameVerdict, Counted}
+use Rattle.record.specs.Record.{maxRounds, column, countAt, sumAt, addUp, recordOk, sameVerdict, Counted, share}
 use Rattle.record.specs.declared.JournalRecord.{JournalRecord}
 
 -- ---- rule 18
@@ -138,8 +138,9 @@ counted-all n k vs old new e l x = record {
 
 -- ---- the share
 
-pub share-small : (a b t : ℕ) → 1 ≤ t → a ≤ t → b ≤ t → (2000 * a + b) / (2 * t) < 1001
-share-small a b t h l g = div-lt-iff-lt-mul {k = 2 * t} (omega arith) .1 (omega arith)
+pub share-small : (trues t : ℕ) → 1 ≤ t → trues ≤ t → share trues t < 1001
+unfolding share
+share-small trues t h l = div-lt-iff-lt-mul {k = 2 * t} (omega arith) .1 (omega arith)
 
 -- ---- one round more keeps rule 18
 

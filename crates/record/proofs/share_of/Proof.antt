@@ -20,7 +20,8 @@ div-result : tie.Need-div-result
 div-result c = search needs
 
 cast-result : tie.Need-cast-result
-cast-result c = omega (arith, share-small (c .args .trues) (c .args .rounds) (c .args .rounds) (omega arith) (omega arith) (omega arith))
+unfolding share
+cast-result c = omega (arith, share-small (c .args .trues) (c .args .rounds) (omega arith) (omega arith))
 
 returns : tie.Need-returns
 unfolding share

@@ -3,8 +3,6 @@ use borrow.Author.Needs.{needs}
 use Rattle.buffer.proofs.PlacedLaws.{placed-byte}
 use Rattle.buffer.proofs.byte.Statement.{statement}
 use Rattle.buffer.proofs.byte.Tie as tie
-use Rattle.buffer.proofs.byte.Reads as reads
-use Rattle.buffer.proofs.byte.Lts as lts
 
 slice-write-out : tie.Need-slice-write-out
 slice-write-out c = search needs

@@ -9,9 +9,6 @@ use Rattle.buffer.specs.Wrote.{Placed}
 use Rattle.buffer.proofs.PlacedLaws.{placed-none, placed-next}
 use Rattle.buffer.proofs.bytes.Statement.{statement}
 use Rattle.buffer.proofs.bytes.Tie as tie
-use Rattle.buffer.proofs.bytes.Reads as reads
-use Rattle.buffer.proofs.bytes.Lts as lts
-use Rattle.buffer.proofs.byte.Reads as byte-reads
 
 abbrev Inv-loop : tie.InvT-loop
 Inv-loop out₀ at s to₀ i₀ out to i = (i ≤ length s) × (to ≡ at + i) × Placed out₀ at (take i s) out to

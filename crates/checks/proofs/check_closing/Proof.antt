@@ -4,10 +4,6 @@ use Rattle.checks.specs.JournalChecks.{journalRules, endRules}
 use borrow.Author.Needs.{needs}
 use Rattle.checks.proofs.check_closing.Statement.{statement}
 use Rattle.checks.proofs.check_closing.Tie as tie
-use Rattle.checks.proofs.check_closing.Reads as reads
-use Rattle.checks.proofs.check_closing.Lts as lts
-use Rattle.checks.proofs.check_end.Reads as check-end-reads
-use Rattle.checks.proofs.check_journal.Reads as check-journal-reads
 
 check-journal-requires : tie.Need-check-journal-requires
 check-journal-requires c κs = search needs

@@ -3,8 +3,6 @@ use mathlib.Core.Path.{refl}
 use mathlib.Core.Logic.{inl, inr}
 use Rattle.checks.proofs.check_end.Statement.{statement}
 use Rattle.checks.proofs.check_end.Tie as tie
-use Rattle.checks.proofs.check_end.Reads as reads
-use Rattle.checks.proofs.check_end.Lts as lts
 
 returns : tie.Need-returns
 returns c = inl (c .if1 .taken, refl)

@@ -6,9 +6,6 @@ use native.Mathlib.Omega.{arith}
 use borrow.Author.Needs.{needs}
 use Rattle.checks.proofs.check_heard.Statement.{statement}
 use Rattle.checks.proofs.check_heard.Tie as tie
-use Rattle.checks.proofs.check_heard.Reads as reads
-use Rattle.checks.proofs.check_heard.Lts as lts
-use Rattle.letters.proofs.bad_masks.Reads as bad-masks-reads
 
 bad-masks-requires : tie.Need-bad-masks-requires
 bad-masks-requires c κs = search needs

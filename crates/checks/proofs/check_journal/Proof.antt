@@ -7,9 +7,6 @@ use borrow.Author.Tests.{not-true, not-false}
 use borrow.Author.Needs.{needs}
 use Rattle.checks.proofs.check_journal.Statement.{statement}
 use Rattle.checks.proofs.check_journal.Tie as tie
-use Rattle.checks.proofs.check_journal.Reads as reads
-use Rattle.checks.proofs.check_journal.Lts as lts
-use Rattle.record.proofs.record_ok.Reads as record-ok-reads
 
 returns : tie.Need-returns
 returns c = inl (c .if1 .taken, refl)

@@ -4,10 +4,6 @@ use Rattle.checks.specs.JournalChecks.{journalRules, heardRules}
 use borrow.Author.Needs.{needs}
 use Rattle.checks.proofs.check_round.Statement.{statement}
 use Rattle.checks.proofs.check_round.Tie as tie
-use Rattle.checks.proofs.check_round.Reads as reads
-use Rattle.checks.proofs.check_round.Lts as lts
-use Rattle.checks.proofs.check_heard.Reads as check-heard-reads
-use Rattle.checks.proofs.check_journal.Reads as check-journal-reads
 
 check-journal-requires : tie.Need-check-journal-requires
 check-journal-requires c κs = search needs

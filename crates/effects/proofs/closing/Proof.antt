@@ -5,10 +5,6 @@ use denote.Ref.{now}
 use Rattle.effects.proofs.Done.{closing-done}
 use Rattle.effects.proofs.closing.Statement.{statement}
 use Rattle.effects.proofs.closing.Tie as tie
-use Rattle.effects.proofs.closing.Reads as reads
-use Rattle.effects.proofs.closing.Lts as lts
-use Rattle.effects.proofs.shares.Reads as shares-reads
-use Rattle.verdicts.proofs.closing_verdicts.Reads as closing-verdicts-reads
 
 cast-m : tie.Need-cast-m
 cast-m c = search needs

@@ -8,9 +8,6 @@ use Rattle.record.proofs.Tallies.{record-is}
 use Rattle.effects.proofs.Sharing.{SharesTo, shares-none, shares-more, shares-all}
 use Rattle.effects.proofs.shares.Statement.{statement}
 use Rattle.effects.proofs.shares.Tie as tie
-use Rattle.effects.proofs.shares.Reads as reads
-use Rattle.effects.proofs.shares.Lts as lts
-use Rattle.record.proofs.share_of.Reads as share-of-reads
 
 abbrev Inv-loop : tie.InvT-loop
 Inv-loop n counts rounds out₀ k₀ out k = (k ≤ n) × SharesTo k counts rounds out

@@ -17,15 +17,6 @@ use Rattle.jigwaret.proofs.JournalLaws.{sizes-wrong, sizes-right, writt
 use borrow.Author.Needs.{needs}
 use Rattle.jigwaret.proofs.jigwaret_close.Statement.{statement}
 use Rattle.jigwaret.proofs.jigwaret_close.Tie as tie
-use Rattle.jigwaret.proofs.jigwaret_close.Reads as reads
-use Rattle.jigwaret.proofs.jigwaret_close.Lts as lts
-use Rattle.monitor.proofs.close.Reads as close-reads
-use Rattle.outcomes.proofs.refusal_number.Reads as refusal-number-reads
-use Rattle.slices.proofs.load.Reads as load-reads
-use Rattle.slices.proofs.put_numbers.Reads as put-numbers-reads
-use Rattle.slices.proofs.put_verdicts.Reads as put-verdicts-reads
-use Rattle.slices.proofs.sized.Reads as sized-reads
-use Rattle.slices.proofs.store.Reads as store-reads
 
 -- the state at entry, seen from behind the test of the sizes
 abbrev entry : tie.Else1 → tie.Start

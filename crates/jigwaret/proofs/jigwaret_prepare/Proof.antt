@@ -13,12 +13,6 @@ use Rattle.jigwaret.specs.Journal.{slices, PreparationNumbered}
 use Rattle.jigwaret.proofs.JournalLaws.{sizes-wrong, sizes-right, written, not-written, number-of}
 use Rattle.jigwaret.proofs.jigwaret_prepare.Statement.{statement}
 use Rattle.jigwaret.proofs.jigwaret_prepare.Tie as tie
-use Rattle.jigwaret.proofs.jigwaret_prepare.Reads as reads
-use Rattle.jigwaret.proofs.jigwaret_prepare.Lts as lts
-use Rattle.slices.proofs.sized.Reads as sized-reads
-use Rattle.slices.proofs.store.Reads as store-reads
-use Rattle.monitor.proofs.prepare.Reads as prepare-reads
-use Rattle.outcomes.proofs.refusal_number.Reads as refusal-number-reads
 
 -- the state at entry, seen from behind the test of the sizes
 abbrev entry : tie.Else1 → tie.Start

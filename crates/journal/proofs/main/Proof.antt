@@ -4,13 +4,6 @@ use lib.Seq.{length-take-le}
 use borrow.Author.Needs.{needs}
 use Rattle.journal.proofs.main.Statement.{statement}
 use Rattle.journal.proofs.main.Tie as tie
-use Rattle.journal.proofs.main.Reads as reads
-use Rattle.journal.proofs.main.Lts as lts
-use Rattle.io.proofs.buffer.Reads as buffer-reads
-use Rattle.io.proofs.write_all.Reads as write-all-reads
-use Rattle.journal.proofs.read_sheet.Reads as read-sheet-reads
-use Rattle.journal.proofs.run.Reads as run-reads
-use Rattle.protocol.proofs.start.Reads as start-reads
 
 slice-aggregate-read-sheet : tie.Need-slice-aggregate-read-sheet
 slice-aggregate-read-sheet c = search needs

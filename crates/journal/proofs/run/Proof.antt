@@ -5,12 +5,6 @@ use lib.Seq.{length-take-le}
 use borrow.Author.Needs.{needs}
 use Rattle.journal.proofs.run.Statement.{statement}
 use Rattle.journal.proofs.run.Tie as tie
-use Rattle.journal.proofs.run.Reads as reads
-use Rattle.journal.proofs.run.Lts as lts
-use Rattle.io.proofs.large_buffer.Reads as large-buffer-reads
-use Rattle.io.proofs.write_all.Reads as write-all-reads
-use Rattle.journal.proofs.turn.Reads as turn-reads
-use Rattle.protocol.proofs.finish.Reads as finish-reads
 
 abbrev Inv-loop : tie.InvT-loop
 Inv-loop x storage₀ buf₀ out₀ state₀ go₀ failed₀ turns₀ storage buf out state go failed turns = (length storage ≡ length storage₀) × (length buf ≡ 8000) × (length out ≡ 65536)

@@ -4,12 +4,6 @@ use lib.Seq.{length-take-le}
 use borrow.Author.Needs.{needs}
 use Rattle.journal.proofs.turn.Statement.{statement}
 use Rattle.journal.proofs.turn.Tie as tie
-use Rattle.journal.proofs.turn.Reads as reads
-use Rattle.journal.proofs.turn.Lts as lts
-use Rattle.io.proofs.count.Reads as count-reads
-use Rattle.io.proofs.write_all.Reads as write-all-reads
-use Rattle.libc.proofs.read.Reads as read-reads
-use Rattle.protocol.proofs.feed.Reads as feed-reads
 
 read-requires : tie.Need-read-requires
 read-requires c κs = search needs

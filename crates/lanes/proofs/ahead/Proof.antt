@@ -3,9 +3,6 @@ use borrow.Author.Needs.{needs}
 use Rattle.lanes.proofs.AroundLaws.{ahead-word}
 use Rattle.lanes.proofs.ahead.Statement.{statement}
 use Rattle.lanes.proofs.ahead.Tie as tie
-use Rattle.lanes.proofs.ahead.Reads as reads
-use Rattle.lanes.proofs.ahead.Lts as lts
-use Rattle.lanes.proofs.beside.Reads as beside-reads
 
 beside-requires : tie.Need-beside-requires
 beside-requires c κs = search needs

@@ -3,8 +3,6 @@ use borrow.Author.Needs.{needs}
 use Rattle.lanes.proofs.AroundLaws.{absent-beside, there-beside}
 use Rattle.lanes.proofs.beside.Statement.{statement}
 use Rattle.lanes.proofs.beside.Tie as tie
-use Rattle.lanes.proofs.beside.Reads as reads
-use Rattle.lanes.proofs.beside.Lts as lts
 
 returns : tie.Need-returns
 returns c = absent-beside _ _ (c .if1 .taken)

@@ -7,9 +7,6 @@ use Rattle.lanes.proofs.AroundLaws.{seen-alone, ender-look}
 use Rattle.lanes.proofs.CodeLaws.{look-holds}
 use Rattle.lanes.proofs.enders.Statement.{statement}
 use Rattle.lanes.proofs.enders.Tie as tie
-use Rattle.lanes.proofs.enders.Reads as reads
-use Rattle.lanes.proofs.enders.Lts as lts
-use Rattle.lanes.proofs.equations_row.Reads as equations-row-reads
 
 add-env : tie.Need-add-env
 add-env c = search needs

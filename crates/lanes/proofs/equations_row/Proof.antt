@@ -5,10 +5,6 @@ use borrow.Author.Needs.{needs}
 use Rattle.lanes.proofs.RowLaws.{stack-two, stack-four}
 use Rattle.lanes.proofs.equations_row.Statement.{statement}
 use Rattle.lanes.proofs.equations_row.Tie as tie
-use Rattle.lanes.proofs.equations_row.Reads as reads
-use Rattle.lanes.proofs.equations_row.Lts as lts
-use Rattle.lanes.proofs.expression.four_equations.Reads as four-equations-reads
-use Rattle.lanes.proofs.expression.two_equations.Reads as two-equations-reads
 
 two-equations-requires : tie.Need-two-equations-requires
 two-equations-requires c κs =

@@ -3,8 +3,6 @@ use borrow.Author.Needs.{needs}
 use Rattle.lanes.proofs.AroundLaws.{seen-of}
 use Rattle.lanes.proofs.seen.Statement.{statement}
 use Rattle.lanes.proofs.seen.Tie as tie
-use Rattle.lanes.proofs.seen.Reads as reads
-use Rattle.lanes.proofs.seen.Lts as lts
 
 add-result : tie.Need-add-result
 add-result c = search needs

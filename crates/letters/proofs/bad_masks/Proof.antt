@@ -7,8 +7,6 @@ use borrow.Author.Needs.{needs}
 use Rattle.letters.specs.Masks.{badMasks}
 use Rattle.letters.proofs.bad_masks.Statement.{statement}
 use Rattle.letters.proofs.bad_masks.Tie as tie
-use Rattle.letters.proofs.bad_masks.Reads as reads
-use Rattle.letters.proofs.bad_masks.Lts as lts
 
 shl-size : tie.Need-shl-size
 shl-size c = search needs

@@ -4,8 +4,6 @@ use borrow.Author.Needs.{needs}
 use Rattle.words.specs.Bits.{bit, digit}
 use Rattle.letters.proofs.bit_of.Statement.{statement}
 use Rattle.letters.proofs.bit_of.Tie as tie
-use Rattle.letters.proofs.bit_of.Reads as reads
-use Rattle.letters.proofs.bit_of.Lts as lts
 
 cast-result : tie.Need-cast-result
 cast-result c = search needs

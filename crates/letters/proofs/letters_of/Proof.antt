@@ -9,9 +9,6 @@ use Rattle.letters.specs.Matching.{agrees, matches}
 use Rattle.letters.proofs.Matching.{matches-more}
 use Rattle.letters.proofs.letters_of.Statement.{statement}
 use Rattle.letters.proofs.letters_of.Tie as tie
-use Rattle.letters.proofs.letters_of.Reads as reads
-use Rattle.letters.proofs.letters_of.Lts as lts
-use Rattle.letters.proofs.narrowed.Reads as narrowed-reads
 
 abbrev Inv-loop : tie.InvT-loop
 Inv-loop known value set₀ i₀ set i = (i ≤ 6) × ((l : ℕ) → l < 64 → bit l set ≡ matches known value i l)

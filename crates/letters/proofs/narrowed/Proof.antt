@@ -8,11 +8,6 @@ use Rattle.words.specs.Bits.{bit}
 use Rattle.words.proofs.BitLaws.{bit-and}
 use Rattle.letters.proofs.narrowed.Statement.{statement}
 use Rattle.letters.proofs.narrowed.Tie as tie
-use Rattle.letters.proofs.narrowed.Reads as reads
-use Rattle.letters.proofs.narrowed.Lts as lts
-use Rattle.letters.proofs.bit_of.Reads as bit-of-reads
-use Rattle.words.proofs.agree.Reads as agree-reads
-use Rattle.words.proofs.stream_word.Reads as stream-word-reads
 
 bit-of-requires : tie.Need-bit-of-requires
 bit-of-requires c κs = search needs

@@ -8,8 +8,6 @@ use Rattle.words.specs.Bits.{bit}
 use Rattle.letters.proofs.Lanes.{parts, product-bit}
 use Rattle.letters.proofs.repeated.Statement.{statement}
 use Rattle.letters.proofs.repeated.Tie as tie
-use Rattle.letters.proofs.repeated.Reads as reads
-use Rattle.letters.proofs.repeated.Lts as lts
 
 mul-result : tie.Need-mul-result
 mul-result c = omega (arith, and-le-r (c .before .args .set) 0x3)

@@ -5,9 +5,6 @@ use Rattle.line_end.proofs.Serving.{serves-step, closing-step, closing-
 use borrow.Author.Needs.{needs}
 use Rattle.line_end.proofs.answer_closing.Statement.{statement}
 use Rattle.line_end.proofs.answer_closing.Tie as tie
-use Rattle.line_end.proofs.answer_closing.Reads as reads
-use Rattle.line_end.proofs.answer_closing.Lts as lts
-use Rattle.monitor.proofs.close_on.Reads as close-on-reads
 
 close-on-requires : tie.Need-close-on-requires
 close-on-requires c κs = search needs

@@ -5,9 +5,6 @@ use Rattle.line_end.proofs.Serving.{serves-step, round-step, round-kept
 use borrow.Author.Needs.{needs}
 use Rattle.line_end.proofs.answer_round.Statement.{statement}
 use Rattle.line_end.proofs.answer_round.Tie as tie
-use Rattle.line_end.proofs.answer_round.Reads as reads
-use Rattle.line_end.proofs.answer_round.Lts as lts
-use Rattle.monitor.proofs.round_on.Reads as round-on-reads
 
 round-on-requires : tie.Need-round-on-requires
 round-on-requires c κs = search needs

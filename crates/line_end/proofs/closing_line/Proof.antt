@@ -6,12 +6,6 @@ use Rattle.line_end.proofs.LineEnds.{refused-ends, closing-ends, bytes-
 use borrow.Author.Needs.{needs}
 use Rattle.line_end.proofs.closing_line.Statement.{statement}
 use Rattle.line_end.proofs.closing_line.Tie as tie
-use Rattle.line_end.proofs.closing_line.Reads as reads
-use Rattle.line_end.proofs.closing_line.Lts as lts
-use Rattle.line_end.proofs.answer_closing.Reads as answer-closing-reads
-use Rattle.line_end.proofs.next_line.Reads as next-line-reads
-use Rattle.line_end.proofs.refused_line.Reads as refused-line-reads
-use Rattle.text.proofs.closing.Reads as closing-reads
 
 answer-closing-requires : tie.Need-answer-closing-requires
 answer-closing-requires c κs = search needs

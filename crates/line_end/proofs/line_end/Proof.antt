@@ -5,11 +5,6 @@ use Rattle.line_end.proofs.LineEnds.{malformed-ends, bytes-least, over-
 use borrow.Author.Needs.{needs}
 use Rattle.line_end.proofs.line_end.Statement.{statement}
 use Rattle.line_end.proofs.line_end.Tie as tie
-use Rattle.line_end.proofs.line_end.Reads as reads
-use Rattle.line_end.proofs.line_end.Lts as lts
-use Rattle.line_end.proofs.closing_line.Reads as closing-line-reads
-use Rattle.line_end.proofs.malformed_line.Reads as malformed-line-reads
-use Rattle.line_end.proofs.marks_line.Reads as marks-line-reads
 
 enum-known-pending : tie.Need-enum-known-pending
 enum-known-pending c = search needs

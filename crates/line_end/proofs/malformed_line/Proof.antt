@@ -2,9 +2,6 @@
 use borrow.Author.Needs.{needs}
 use Rattle.line_end.proofs.malformed_line.Statement.{statement}
 use Rattle.line_end.proofs.malformed_line.Tie as tie
-use Rattle.line_end.proofs.malformed_line.Reads as reads
-use Rattle.line_end.proofs.malformed_line.Lts as lts
-use Rattle.line_end.proofs.refused_line.Reads as refused-line-reads
 
 refused-line-requires : tie.Need-refused-line-requires
 refused-line-requires c κs = search needs

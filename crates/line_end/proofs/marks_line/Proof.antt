@@ -7,11 +7,6 @@ use Rattle.line_end.proofs.LineEnds.{malformed-ends, blank-ends, bytes-
 use borrow.Author.Needs.{needs}
 use Rattle.line_end.proofs.marks_line.Statement.{statement}
 use Rattle.line_end.proofs.marks_line.Tie as tie
-use Rattle.line_end.proofs.marks_line.Reads as reads
-use Rattle.line_end.proofs.marks_line.Lts as lts
-use Rattle.line_end.proofs.malformed_line.Reads as malformed-line-reads
-use Rattle.line_end.proofs.next_line.Reads as next-line-reads
-use Rattle.line_end.proofs.round_line.Reads as round-line-reads
 
 next-line-requires : tie.Need-next-line-requires
 next-line-requires c κs = search needs

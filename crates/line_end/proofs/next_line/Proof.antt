@@ -4,8 +4,6 @@ use borrow.Author.Tests.{lt-ltb, le-ltb}
 use borrow.Author.Needs.{needs}
 use Rattle.line_end.proofs.next_line.Statement.{statement}
 use Rattle.line_end.proofs.next_line.Tie as tie
-use Rattle.line_end.proofs.next_line.Reads as reads
-use Rattle.line_end.proofs.next_line.Lts as lts
 
 add-result : tie.Need-add-result
 add-result c = search needs

@@ -5,12 +5,6 @@ use Rattle.line_end.proofs.LineEnds.{refused-ends, round-ends, bytes-le
 use borrow.Author.Needs.{needs}
 use Rattle.line_end.proofs.round_line.Statement.{statement}
 use Rattle.line_end.proofs.round_line.Tie as tie
-use Rattle.line_end.proofs.round_line.Reads as reads
-use Rattle.line_end.proofs.round_line.Lts as lts
-use Rattle.line_end.proofs.answer_round.Reads as answer-round-reads
-use Rattle.line_end.proofs.next_line.Reads as next-line-reads
-use Rattle.line_end.proofs.refused_line.Reads as refused-line-reads
-use Rattle.text.proofs.verdict_line.Reads as verdict-line-reads
 
 answer-round-requires : tie.Need-answer-round-requires
 answer-round-requires c κs = search needs

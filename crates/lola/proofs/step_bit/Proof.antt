@@ -7,9 +7,6 @@ use Rattle.words.specs.Bits.{digit}
 use Rattle.lola.proofs.Stack.{xor-one}
 use Rattle.lola.proofs.step_bit.Statement.{statement}
 use Rattle.lola.proofs.step_bit.Tie as tie
-use Rattle.lola.proofs.step_bit.Reads as reads
-use Rattle.lola.proofs.step_bit.Lts as lts
-use Rattle.words.proofs.wide.Reads as wide-reads
 
 mul-result : tie.Need-mul-result
 mul-result c = search needs

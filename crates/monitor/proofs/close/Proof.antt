@@ -5,11 +5,6 @@ use Rattle.monitor.proofs.Entries.{closing-refused, closing-unread}
 use borrow.Author.Needs.{needs}
 use Rattle.monitor.proofs.close.Statement.{statement}
 use Rattle.monitor.proofs.close.Tie as tie
-use Rattle.monitor.proofs.close.Reads as reads
-use Rattle.monitor.proofs.close.Lts as lts
-use Rattle.circular.proofs.accept_sheet.Reads as accept-sheet-reads
-use Rattle.monitor.proofs.close_on.Reads as close-on-reads
-use Rattle.monitor.proofs.refused_closing.Reads as refused-closing-reads
 
 accept-sheet-requires : tie.Need-accept-sheet-requires
 accept-sheet-requires c κs = search needs

@@ -6,11 +6,6 @@ use Rattle.monitor.proofs.Entries.{closing-turned-down, closing-done}
 use borrow.Author.Needs.{needs}
 use Rattle.monitor.proofs.close_on.Statement.{statement}
 use Rattle.monitor.proofs.close_on.Tie as tie
-use Rattle.monitor.proofs.close_on.Reads as reads
-use Rattle.monitor.proofs.close_on.Lts as lts
-use Rattle.effects.proofs.closing.Reads as closing-reads
-use Rattle.checks.proofs.check_closing.Reads as check-closing-reads
-use Rattle.monitor.proofs.refused_closing.Reads as refused-closing-reads
 
 check-closing-requires : tie.Need-check-closing-requires
 check-closing-requires c κs = search needs

@@ -5,11 +5,6 @@ use Rattle.monitor.proofs.Entries.{prepare-refused, prepare-unread}
 use borrow.Author.Needs.{needs}
 use Rattle.monitor.proofs.prepare.Statement.{statement}
 use Rattle.monitor.proofs.prepare.Tie as tie
-use Rattle.monitor.proofs.prepare.Reads as reads
-use Rattle.monitor.proofs.prepare.Lts as lts
-use Rattle.circular.proofs.accept_sheet.Reads as accept-sheet-reads
-use Rattle.monitor.proofs.prepare_on.Reads as prepare-on-reads
-use Rattle.monitor.proofs.refused_preparation.Reads as refused-preparation-reads
 
 accept-sheet-requires : tie.Need-accept-sheet-requires
 accept-sheet-requires c κs = search needs

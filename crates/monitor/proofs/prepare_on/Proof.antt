@@ -7,10 +7,6 @@ use Rattle.monitor.proofs.Entries.{too-short, prepare-done}
 use borrow.Author.Needs.{needs}
 use Rattle.monitor.proofs.prepare_on.Statement.{statement}
 use Rattle.monitor.proofs.prepare_on.Tie as tie
-use Rattle.monitor.proofs.prepare_on.Reads as reads
-use Rattle.monitor.proofs.prepare_on.Lts as lts
-use Rattle.effects.proofs.preparation.Reads as preparation-reads
-use Rattle.monitor.proofs.refused_preparation.Reads as refused-preparation-reads
 
 refused-preparation-requires : tie.Need-refused-preparation-requires
 refused-preparation-requires c κs = search needs

@@ -5,11 +5,6 @@ use Rattle.monitor.proofs.Entries.{round-refused, round-unread}
 use borrow.Author.Needs.{needs}
 use Rattle.monitor.proofs.round.Statement.{statement}
 use Rattle.monitor.proofs.round.Tie as tie
-use Rattle.monitor.proofs.round.Reads as reads
-use Rattle.monitor.proofs.round.Lts as lts
-use Rattle.circular.proofs.accept_sheet.Reads as accept-sheet-reads
-use Rattle.monitor.proofs.refused_round.Reads as refused-round-reads
-use Rattle.monitor.proofs.round_on.Reads as round-on-reads
 
 accept-sheet-requires : tie.Need-accept-sheet-requires
 accept-sheet-requires c κs = search needs

@@ -6,12 +6,6 @@ use lib.ListN.{length}
 use borrow.Author.Needs.{needs}
 use Rattle.monitor.proofs.round_on.Statement.{statement}
 use Rattle.monitor.proofs.round_on.Tie as tie
-use Rattle.monitor.proofs.round_on.Reads as reads
-use Rattle.monitor.proofs.round_on.Lts as lts
-use Rattle.effects.proofs.round.Reads as round-reads
-use Rattle.checks.proofs.check_round.Reads as check-round-reads
-use Rattle.letters.proofs.letters_of.Reads as letters-of-reads
-use Rattle.monitor.proofs.refused_round.Reads as refused-round-reads
 
 check-round-requires : tie.Need-check-round-requires
 check-round-requires c κs = search needs

@@ -2,9 +2,6 @@
 use borrow.Author.Needs.{needs}
 use Rattle.outcomes.proofs.outcome_number.Statement.{statement}
 use Rattle.outcomes.proofs.outcome_number.Tie as tie
-use Rattle.outcomes.proofs.outcome_number.Reads as reads
-use Rattle.outcomes.proofs.outcome_number.Lts as lts
-use Rattle.outcomes.proofs.refusal_number.Reads as refusal-number-reads
 
 enum-told : tie.Need-enum-told
 enum-told c = search needs

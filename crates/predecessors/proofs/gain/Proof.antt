@@ -12,8 +12,6 @@ use Rattle.pairs.specs.Changes.{rowBit}
 use Rattle.predecessors.proofs.Rows.{LanesTo, row-lane, gains-none, gains-more, gains-all}
 use Rattle.predecessors.proofs.gain.Statement.{statement}
 use Rattle.predecessors.proofs.gain.Tie as tie
-use Rattle.predecessors.proofs.gain.Reads as reads
-use Rattle.predecessors.proofs.gain.Lts as lts
 
 abbrev Inv-loop : tie.InvT-loop
 Inv-loop row₀ ok x w j₀ row j = (j ≤ w) × (length row ≡ length row₀) × LanesTo row₀ row (λ a u. u || (rowBit ok 0 a && rowBit x 0 a)) j

@@ -13,12 +13,6 @@ use Rattle.predecessors.proofs.Rows.{lanes-row}
 use Rattle.predecessors.proofs.Uniting.{united-old, united-as}
 use Rattle.predecessors.proofs.unite.Statement.{statement}
 use Rattle.predecessors.proofs.unite.Tie as tie
-use Rattle.predecessors.proofs.unite.Reads as reads
-use Rattle.predecessors.proofs.unite.Lts as lts
-use Rattle.lanes.proofs.ahead.Reads as ahead-reads
-use Rattle.predecessors.proofs.covers.Reads as covers-reads
-use Rattle.predecessors.proofs.gain.Reads as gain-reads
-use Rattle.lanes.proofs.predecessors.Reads as predecessors-reads
 
 covers-requires : tie.Need-covers-requires
 covers-requires c κs = search needs

@@ -12,11 +12,6 @@ use Rattle.line_end.specs.LineEnd.{mostBytes}
 use Rattle.protocol.proofs.Feeding.{Way, seen-more, wrote-more, byte-more, line-more, line-over, over-all, stands-over, stands-midway, bytes-most}
 use Rattle.protocol.proofs.feed.Statement.{statement}
 use Rattle.protocol.proofs.feed.Tie as tie
-use Rattle.protocol.proofs.feed.Reads as reads
-use Rattle.protocol.proofs.feed.Lts as lts
-use Rattle.line_end.proofs.line_end.Reads as line-end-reads
-use Rattle.line_scan.proofs.Pending.empty.Reads as empty-reads
-use Rattle.line_scan.proofs.Pending.scan.Reads as scan-reads
 
 abbrev Inv-loop : tie.InvT-loop
 Inv-loop x storage₀ chunk out₀ m line₀ record₀ pending₀ at₀ i₀ storage out line «record» pending at i =

@@ -8,10 +8,6 @@ use Rattle.line_end.specs.Printed.{Printed}
 use Rattle.protocol.proofs.Feeding.{over-last, stands-midway, none-last, line-last, bytes-most}
 use Rattle.protocol.proofs.finish.Statement.{statement}
 use Rattle.protocol.proofs.finish.Tie as tie
-use Rattle.protocol.proofs.finish.Reads as reads
-use Rattle.protocol.proofs.finish.Lts as lts
-use Rattle.line_end.proofs.line_end.Reads as line-end-reads
-use Rattle.line_scan.proofs.Pending.is_blank.Reads as is-blank-reads
 
 returns : tie.Need-returns
 returns c = (λ sheet seen wrote st. over-last sheet _ _ _ seen wrote st (c .if1 .taken), omega arith)

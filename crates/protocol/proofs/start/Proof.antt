@@ -7,13 +7,6 @@ use Rattle.line_end.proofs.Serving.{serves-prepared}
 use Rattle.protocol.proofs.Feeding.{refused-start, midway-start}
 use Rattle.protocol.proofs.start.Statement.{statement}
 use Rattle.protocol.proofs.start.Tie as tie
-use Rattle.protocol.proofs.start.Reads as reads
-use Rattle.protocol.proofs.start.Lts as lts
-use Rattle.circular.proofs.accept_sheet.Reads as accept-sheet-reads
-use Rattle.line_scan.proofs.Pending.empty.Reads as empty-reads
-use Rattle.monitor.proofs.prepare_on.Reads as prepare-on-reads
-use Rattle.record.proofs.JournalRecord.fresh.Reads as fresh-reads
-use Rattle.text.proofs.sheet_refusal.Reads as sheet-refusal-reads
 
 accept-sheet-requires : tie.Need-accept-sheet-requires
 accept-sheet-requires c κs = search needs

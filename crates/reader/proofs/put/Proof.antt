@@ -5,8 +5,6 @@ use lib.ListN.{length, length-set}
 use Rattle.reader.proofs.Packing.{PutSoFar, put-none, put-more, put-all}
 use Rattle.reader.proofs.put.Statement.{statement}
 use Rattle.reader.proofs.put.Tie as tie
-use Rattle.reader.proofs.put.Reads as reads
-use Rattle.reader.proofs.put.Lts as lts
 
 abbrev Inv-loop : tie.InvT-loop
 Inv-loop buffer₀ from e i₀ buffer i = (i ≤ length e) × (from + length e ≤ length buffer) × PutSoFar from e buffer₀ buffer i

@@ -10,11 +10,6 @@ use Rattle.reader.proofs.AllOutputs.{reading-by}
 use Rattle.reader.proofs.Packing.{usable}
 use Rattle.reader.proofs.read_sheet.Statement.{statement}
 use Rattle.reader.proofs.read_sheet.Tie as tie
-use Rattle.reader.proofs.read_sheet.Reads as reads
-use Rattle.reader.proofs.read_sheet.Lts as lts
-use Rattle.reader.proofs.read_header.Reads as read-header-reads
-use Rattle.reader.proofs.read_outputs.Reads as read-outputs-reads
-use Rattle.reader.proofs.refused_sheet.Reads as refused-sheet-reads
 
 read-header-requires : tie.Need-read-header-requires
 read-header-requires c κs = search needs

@@ -3,8 +3,6 @@ use mathlib.Core.Path.{refl}
 use Rattle.sheet.specs.Reading.{blank}
 use Rattle.reader.proofs.refused_sheet.Statement.{statement}
 use Rattle.reader.proofs.refused_sheet.Tie as tie
-use Rattle.reader.proofs.refused_sheet.Reads as reads
-use Rattle.reader.proofs.refused_sheet.Lts as lts
 
 returns : tie.Need-returns
 unfolding blank

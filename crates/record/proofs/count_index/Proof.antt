@@ -4,9 +4,6 @@ use borrow.Author.Needs.{needs}
 use Rattle.record.proofs.Tallies.{column-lt}
 use Rattle.record.proofs.count_index.Statement.{statement}
 use Rattle.record.proofs.count_index.Tie as tie
-use Rattle.record.proofs.count_index.Reads as reads
-use Rattle.record.proofs.count_index.Lts as lts
-use Rattle.record.proofs.column_of.Reads as column-of-reads
 
 cast-result : tie.Need-cast-result
 cast-result c = search needs

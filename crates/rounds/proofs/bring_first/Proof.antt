@@ -6,10 +6,6 @@ use Rattle.lanes.specs.Around.{unless}
 use Rattle.lanes.proofs.RowLaws.{stack-most}
 use Rattle.rounds.proofs.bring_first.Statement.{statement}
 use Rattle.rounds.proofs.bring_first.Tie as tie
-use Rattle.rounds.proofs.bring_first.Reads as reads
-use Rattle.rounds.proofs.bring_first.Lts as lts
-use Rattle.lanes.proofs.before.Reads as before-reads
-use Rattle.rounds.proofs.bring_row.Reads as bring-row-reads
 
 slice-aggregate-bring-row : tie.Need-slice-aggregate-bring-row
 slice-aggregate-bring-row c = search needs

@@ -14,10 +14,6 @@ use Rattle.rounds.specs.Rows.{brought}
 use Rattle.rounds.proofs.RowLaws.{groups-first, groups-more, groups-all}
 use Rattle.rounds.proofs.bring_rows.Statement.{statement}
 use Rattle.rounds.proofs.bring_rows.Tie as tie
-use Rattle.rounds.proofs.bring_rows.Reads as reads
-use Rattle.rounds.proofs.bring_rows.Lts as lts
-use Rattle.pairs.proofs.next_bit.Reads as next-bit-reads
-use Rattle.rounds.proofs.bring_row.Reads as bring-row-reads
 
 abbrev Inv-loop : tie.InvT-loop
 Inv-loop s₀ st₀ groups code len size v w g₀ s st g =

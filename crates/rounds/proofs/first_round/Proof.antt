@@ -11,11 +11,6 @@ use Rattle.rounds.specs.Round.{Rounded}
 use Rattle.rounds.proofs.RoundLaws.{rounded-first}
 use Rattle.rounds.proofs.first_round.Statement.{statement}
 use Rattle.rounds.proofs.first_round.Tie as tie
-use Rattle.rounds.proofs.first_round.Reads as reads
-use Rattle.rounds.proofs.first_round.Lts as lts
-use Rattle.pairs.proofs.clear_rows.Reads as clear-rows-reads
-use Rattle.rounds.proofs.bring_first.Reads as bring-first-reads
-use Rattle.rounds.proofs.hear.Reads as hear-reads
 
 size-of-requires : tie.Need-size-of-requires
 size-of-requires c κs = search needs

@@ -10,10 +10,6 @@ use Rattle.rounds.specs.Rows.{among, heardFirst}
 use Rattle.rounds.proofs.RoundLaws.{heard-none, heard-more, heard-all}
 use Rattle.rounds.proofs.hear.Statement.{statement}
 use Rattle.rounds.proofs.hear.Tie as tie
-use Rattle.rounds.proofs.hear.Reads as reads
-use Rattle.rounds.proofs.hear.Lts as lts
-use Rattle.pairs.proofs.insert_word.Reads as insert-word-reads
-use Rattle.words.proofs.lanes_below.Reads as lanes-below-reads
 
 abbrev Inv-loop : tie.InvT-loop
 Inv-loop s₀ letters v w j₀ s j = (j ≤ w) × (length s ≡ length s₀) × Adds scratchAt s₀ s (heardFirst v (among letters) (64 * j))

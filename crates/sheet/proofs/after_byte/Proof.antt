@@ -4,9 +4,6 @@ use borrow.Author.Tests.{lt-ltb, le-ltb}
 use Rattle.sheet.specs.Depth.{depthAfter}
 use Rattle.sheet.proofs.after_byte.Statement.{statement}
 use Rattle.sheet.proofs.after_byte.Tie as tie
-use Rattle.sheet.proofs.after_byte.Reads as reads
-use Rattle.sheet.proofs.after_byte.Lts as lts
-use Rattle.sheet.proofs.operation.Reads as operation-reads
 
 operation-requires : tie.Need-operation-requires
 operation-requires c κs = search needs

@@ -8,9 +8,6 @@ use denote.Ref.{now}
 use Rattle.slices.proofs.SliceLaws.{TakenTo, taken-more, taken-all}
 use Rattle.slices.proofs.load.Statement.{statement}
 use Rattle.slices.proofs.load.Tie as tie
-use Rattle.slices.proofs.load.Reads as reads
-use Rattle.slices.proofs.load.Lts as lts
-use Rattle.slices.proofs.rounds_by.Reads as rounds-by-reads
 
 abbrev Inv-loop : tie.InvT-loop
 Inv-loop ns counts₀ i₀ counts i = (i ≤ 28) × TakenTo i ns counts

@@ -6,8 +6,6 @@ use denote.Ref.{now}
 use Rattle.slices.proofs.SliceLaws.{PutTo, put-none, put-more}
 use Rattle.slices.proofs.put_numbers.Statement.{statement}
 use Rattle.slices.proofs.put_numbers.Tie as tie
-use Rattle.slices.proofs.put_numbers.Reads as reads
-use Rattle.slices.proofs.put_numbers.Lts as lts
 
 abbrev Inv-loop : tie.InvT-loop
 Inv-loop into₀ at xs n i₀ into i = (i ≤ n) × PutTo i at xs into₀ into

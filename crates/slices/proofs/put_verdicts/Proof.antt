@@ -9,9 +9,6 @@ use Rattle.slices.specs.Slices.{verdictNumbers}
 use Rattle.slices.proofs.SliceLaws.{PutTo, put-none, put-more, numbers-size, numbers-at}
 use Rattle.slices.proofs.put_verdicts.Statement.{statement}
 use Rattle.slices.proofs.put_verdicts.Tie as tie
-use Rattle.slices.proofs.put_verdicts.Reads as reads
-use Rattle.slices.proofs.put_verdicts.Lts as lts
-use Rattle.outcomes.proofs.verdict_number.Reads as verdict-number-reads
 
 abbrev Inv-loop : tie.InvT-loop
 Inv-loop into₀ at n verdicts i₀ into i = (i ≤ n) × PutTo i at (verdictNumbers verdicts n) into₀ into

@@ -4,8 +4,6 @@ use borrow.Author.Tests.{lt-ltb, le-ltb}
 use borrow.Author.Needs.{needs}
 use Rattle.slices.proofs.rounds_by.Statement.{statement}
 use Rattle.slices.proofs.rounds_by.Tie as tie
-use Rattle.slices.proofs.rounds_by.Reads as reads
-use Rattle.slices.proofs.rounds_by.Lts as lts
 
 add-result : tie.Need-add-result
 add-result c = search needs

@@ -2,8 +2,6 @@
 use borrow.Author.Tests.{eq-eqb, ne-eqb}
 use Rattle.slices.proofs.sized.Statement.{statement}
 use Rattle.slices.proofs.sized.Tie as tie
-use Rattle.slices.proofs.sized.Reads as reads
-use Rattle.slices.proofs.sized.Lts as lts
 
 returns : tie.Need-returns
 returns c = rw (ne-eqb (c .before .args .journal) 30 (c .if1 .taken))

@@ -8,10 +8,6 @@ use denote.Ref.{now}
 use Rattle.slices.proofs.SliceLaws.{stored-numbers}
 use Rattle.slices.proofs.store.Statement.{statement}
 use Rattle.slices.proofs.store.Tie as tie
-use Rattle.slices.proofs.store.Reads as reads
-use Rattle.slices.proofs.store.Lts as lts
-use Rattle.slices.proofs.mark_of.Reads as mark-of-reads
-use Rattle.slices.proofs.put_numbers.Reads as put-numbers-reads
 
 slice-write-ns : tie.Need-slice-write-ns
 slice-write-ns c = search needs

@@ -4,11 +4,6 @@ use borrow.Author.Needs.{needs}
 use Rattle.buffer.proofs.PlacedLaws.{placed-then}
 use Rattle.text.proofs.closing.Statement.{statement}
 use Rattle.text.proofs.closing.Tie as tie
-use Rattle.text.proofs.closing.Reads as reads
-use Rattle.text.proofs.closing.Lts as lts
-use Rattle.buffer.proofs.byte.Reads as byte-reads
-use Rattle.text.proofs.tally_lines.Reads as tally-lines-reads
-use Rattle.text.proofs.verdict_line.Reads as verdict-line-reads
 
 byte-requires : tie.Need-byte-requires
 byte-requires c κs = search needs

@@ -5,12 +5,6 @@ use Rattle.buffer.proofs.PlacedLaws.{placed-then}
 use Rattle.buffer.proofs.DecimalLaws.{decimal-length}
 use Rattle.text.proofs.line_refusal.Statement.{statement}
 use Rattle.text.proofs.line_refusal.Tie as tie
-use Rattle.text.proofs.line_refusal.Reads as reads
-use Rattle.text.proofs.line_refusal.Lts as lts
-use Rattle.buffer.proofs.byte.Reads as byte-reads
-use Rattle.buffer.proofs.bytes.Reads as bytes-reads
-use Rattle.buffer.proofs.decimal.Reads as decimal-reads
-use Rattle.text.proofs.refused.Reads as refused-reads
 
 refused-requires : tie.Need-refused-requires
 refused-requires c κs = search needs

@@ -7,10 +7,6 @@ use Rattle.buffer.proofs.PlacedLaws.{placed-then}
 use Rattle.buffer.proofs.DecimalLaws.{decimal-small}
 use Rattle.text.proofs.output_number.Statement.{statement}
 use Rattle.text.proofs.output_number.Tie as tie
-use Rattle.text.proofs.output_number.Reads as reads
-use Rattle.text.proofs.output_number.Lts as lts
-use Rattle.buffer.proofs.byte.Reads as byte-reads
-use Rattle.text.proofs.spaced.Reads as spaced-reads
 
 byte-requires : tie.Need-byte-requires
 byte-requires c κs = search needs

@@ -6,11 +6,6 @@ use Rattle.buffer.proofs.DecimalLaws.{decimal-length}
 use Rattle.text.proofs.RefusalLaws.{refusal-short}
 use Rattle.text.proofs.refused.Statement.{statement}
 use Rattle.text.proofs.refused.Tie as tie
-use Rattle.text.proofs.refused.Reads as reads
-use Rattle.text.proofs.refused.Lts as lts
-use Rattle.outcomes.proofs.refusal_number.Reads as refusal-number-reads
-use Rattle.buffer.proofs.bytes.Reads as bytes-reads
-use Rattle.buffer.proofs.decimal.Reads as decimal-reads
 
 slice-aggregate-bytes : tie.Need-slice-aggregate-bytes
 slice-aggregate-bytes c = search needs

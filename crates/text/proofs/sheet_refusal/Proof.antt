@@ -4,11 +4,6 @@ use borrow.Author.Needs.{needs}
 use Rattle.buffer.proofs.PlacedLaws.{placed-then}
 use Rattle.text.proofs.sheet_refusal.Statement.{statement}
 use Rattle.text.proofs.sheet_refusal.Tie as tie
-use Rattle.text.proofs.sheet_refusal.Reads as reads
-use Rattle.text.proofs.sheet_refusal.Lts as lts
-use Rattle.buffer.proofs.byte.Reads as byte-reads
-use Rattle.buffer.proofs.bytes.Reads as bytes-reads
-use Rattle.text.proofs.refused.Reads as refused-reads
 
 refused-requires : tie.Need-refused-requires
 refused-requires c κs = search needs

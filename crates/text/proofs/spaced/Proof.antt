@@ -5,10 +5,6 @@ use Rattle.buffer.proofs.PlacedLaws.{placed-then}
 use Rattle.buffer.proofs.DecimalLaws.{decimal-length}
 use Rattle.text.proofs.spaced.Statement.{statement}
 use Rattle.text.proofs.spaced.Tie as tie
-use Rattle.text.proofs.spaced.Reads as reads
-use Rattle.text.proofs.spaced.Lts as lts
-use Rattle.buffer.proofs.byte.Reads as byte-reads
-use Rattle.buffer.proofs.decimal.Reads as decimal-reads
 
 byte-requires : tie.Need-byte-requires
 byte-requires c κs = search needs

@@ -7,11 +7,6 @@ use Rattle.text.specs.Text.{tallyLine}
 use Rattle.text.proofs.TallyLaws.{placed-trues}
 use Rattle.text.proofs.tally_line.Statement.{statement}
 use Rattle.text.proofs.tally_line.Tie as tie
-use Rattle.text.proofs.tally_line.Reads as reads
-use Rattle.text.proofs.tally_line.Lts as lts
-use Rattle.text.proofs.output_number.Reads as output-number-reads
-use Rattle.buffer.proofs.byte.Reads as byte-reads
-use Rattle.text.proofs.spaced.Reads as spaced-reads
 
 cast-index : tie.Need-cast-index
 cast-index c = search needs

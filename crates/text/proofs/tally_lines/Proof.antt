@@ -9,9 +9,6 @@ use Rattle.text.specs.Text.{tallyLines}
 use Rattle.text.proofs.TallyLaws.{placed-no-tally, placed-tally}
 use Rattle.text.proofs.tally_lines.Statement.{statement}
 use Rattle.text.proofs.tally_lines.Tie as tie
-use Rattle.text.proofs.tally_lines.Reads as reads
-use Rattle.text.proofs.tally_lines.Lts as lts
-use Rattle.text.proofs.tally_line.Reads as tally-line-reads
 
 abbrev Inv-loop : tie.InvT-loop
 Inv-loop out₀ at counts shares n to₀ k₀ out to k = (k ≤ n) × (to ≤ at + 59 * k) × Placed out₀ at (tallyLines (countAt counts) shares 0 k) out to

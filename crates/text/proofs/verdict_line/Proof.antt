@@ -13,10 +13,6 @@ use Rattle.text.specs.Text.{verdictChar}
 use Rattle.text.proofs.VerdictLaws.{placed-verdict}
 use Rattle.text.proofs.verdict_line.Statement.{statement}
 use Rattle.text.proofs.verdict_line.Tie as tie
-use Rattle.text.proofs.verdict_line.Reads as reads
-use Rattle.text.proofs.verdict_line.Lts as lts
-use Rattle.buffer.proofs.byte.Reads as byte-reads
-use Rattle.text.proofs.verdict_char.Reads as verdict-char-reads
 
 abbrev Inv-loop : tie.InvT-loop
 Inv-loop out₀ at n verdicts to₀ i₀ out to i = (i ≤ n) × (to ≡ at + i) × Placed out₀ at (map verdictChar (verdictList verdicts i)) out to

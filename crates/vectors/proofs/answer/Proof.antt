@@ -5,11 +5,6 @@ use lib.Seq.{length-take-le}
 use borrow.Author.Needs.{needs}
 use Rattle.vectors.proofs.answer.Statement.{statement}
 use Rattle.vectors.proofs.answer.Tie as tie
-use Rattle.vectors.proofs.answer.Reads as reads
-use Rattle.vectors.proofs.answer.Lts as lts
-use Rattle.io.proofs.write_all.Reads as write-all-reads
-use Rattle.protocol.proofs.start.Reads as start-reads
-use Rattle.vectors.proofs.play.Reads as play-reads
 
 start-requires : tie.Need-start-requires
 start-requires c κs = search needs

@@ -4,12 +4,6 @@ use lib.Seq.{length-take-le}
 use borrow.Author.Needs.{needs}
 use Rattle.vectors.proofs.case.Statement.{statement}
 use Rattle.vectors.proofs.case.Tie as tie
-use Rattle.vectors.proofs.case.Reads as reads
-use Rattle.vectors.proofs.case.Lts as lts
-use Rattle.io.proofs.write_all.Reads as write-all-reads
-use Rattle.vectors.proofs.answer.Reads as answer-reads
-use Rattle.vectors.proofs.read_session.Reads as read-session-reads
-use Rattle.vectors.proofs.read_sheet.Reads as read-sheet-reads
 
 read-sheet-requires : tie.Need-read-sheet-requires
 read-sheet-requires c κs = search needs

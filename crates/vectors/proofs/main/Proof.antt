@@ -5,11 +5,6 @@ use borrow.Author.Needs.{needs}
 use Rattle.pairs.specs.Storage.{storageWords}
 use Rattle.vectors.proofs.main.Statement.{statement}
 use Rattle.vectors.proofs.main.Tie as tie
-use Rattle.vectors.proofs.main.Reads as reads
-use Rattle.vectors.proofs.main.Lts as lts
-use Rattle.io.proofs.buffer.Reads as buffer-reads
-use Rattle.io.proofs.large_buffer.Reads as large-buffer-reads
-use Rattle.vectors.proofs.case.Reads as case-reads
 
 abbrev Inv-loop : tie.InvT-loop
 Inv-loop sheet₀ session₀ storage₀ out₀ go₀ cases₀ sheet session storage out go cases = (length sheet ≡ 464) × (length session ≡ 65536) × (length storage ≡ storageWords) × (length out ≡ 4096)

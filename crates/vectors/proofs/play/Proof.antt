@@ -6,12 +6,6 @@ use lib.Seq.{length-take-le}
 use borrow.Author.Needs.{needs}
 use Rattle.vectors.proofs.play.Statement.{statement}
 use Rattle.vectors.proofs.play.Tie as tie
-use Rattle.vectors.proofs.play.Reads as reads
-use Rattle.vectors.proofs.play.Lts as lts
-use Rattle.io.proofs.write_all.Reads as write-all-reads
-use Rattle.protocol.proofs.feed.Reads as feed-reads
-use Rattle.protocol.proofs.finish.Reads as finish-reads
-use Rattle.vectors.proofs.chunk_size.Reads as chunk-size-reads
 
 abbrev Inv-loop : tie.InvT-loop
 Inv-loop x storage₀ session out₀ state₀ at₀ storage out state at = (at ≤ length session) × (length storage ≡ length storage₀) × (length out ≡ length out₀)

@@ -5,9 +5,6 @@ use lib.Seq.{length-take-le}
 use borrow.Author.Needs.{needs}
 use Rattle.vectors.proofs.read_part.Statement.{statement}
 use Rattle.vectors.proofs.read_part.Tie as tie
-use Rattle.vectors.proofs.read_part.Reads as reads
-use Rattle.vectors.proofs.read_part.Lts as lts
-use Rattle.io.proofs.read_full.Reads as read-full-reads
 
 returns : tie.Need-returns
 returns c = search needs

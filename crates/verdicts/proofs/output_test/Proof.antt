@@ -3,10 +3,6 @@ use borrow.Author.Needs.{needs}
 use Rattle.verdicts.proofs.VerdictLaws.{four-words}
 use Rattle.verdicts.proofs.output_test.Statement.{statement}
 use Rattle.verdicts.proofs.output_test.Tie as tie
-use Rattle.verdicts.proofs.output_test.Reads as reads
-use Rattle.verdicts.proofs.output_test.Lts as lts
-use Rattle.sheet.proofs.stream_of.Reads as stream-of-reads
-use Rattle.words.proofs.stream_word.Reads as stream-word-reads
 
 cast-stream-of : tie.Need-cast-stream-of
 cast-stream-of c = search needs

@@ -11,9 +11,6 @@ use Rattle.pairs.specs.Changes.{rowBit}
 use Rattle.verdicts.proofs.VerdictLaws.{row-lane, shownIn, shows-words, shown-word}
 use Rattle.verdicts.proofs.shown.Statement.{statement}
 use Rattle.verdicts.proofs.shown.Tie as tie
-use Rattle.verdicts.proofs.shown.Reads as reads
-use Rattle.verdicts.proofs.shown.Lts as lts
-use Rattle.words.proofs.agree.Reads as agree-reads
 
 abbrev Inv-loop : tie.InvT-loop
 Inv-loop f w test b j₀ j = (j ≤ w) × (anyBelow j (shownIn f (rowBit test 0) b) ≡ false)

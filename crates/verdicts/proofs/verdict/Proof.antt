@@ -3,9 +3,6 @@ use borrow.Author.Needs.{needs}
 use Rattle.verdicts.proofs.VerdictLaws.{verdict-of}
 use Rattle.verdicts.proofs.verdict.Statement.{statement}
 use Rattle.verdicts.proofs.verdict.Tie as tie
-use Rattle.verdicts.proofs.verdict.Reads as reads
-use Rattle.verdicts.proofs.verdict.Lts as lts
-use Rattle.verdicts.proofs.shown.Reads as shown-reads
 
 shown-requires : tie.Need-shown-requires
 shown-requires c κs = search needs

@@ -8,11 +8,6 @@ use Rattle.verdicts.specs.Firsts.{shows}
 use Rattle.verdicts.proofs.VerdictLaws.{words-less, Telling, telling-none, telling-more, telling-all}
 use Rattle.verdicts.proofs.verdicts.Statement.{statement}
 use Rattle.verdicts.proofs.verdicts.Tie as tie
-use Rattle.verdicts.proofs.verdicts.Reads as reads
-use Rattle.verdicts.proofs.verdicts.Lts as lts
-use Rattle.outcomes.proofs.untold.Reads as untold-reads
-use Rattle.verdicts.proofs.output_test.Reads as output-test-reads
-use Rattle.verdicts.proofs.verdict.Reads as verdict-reads
 
 abbrev Inv-loop : tie.InvT-loop
 Inv-loop f w m n vs₀ k₀ vs k = Telling n (λ k. verdictOf (shows w f (bit (m + k)) true) (shows w f (bit (m + k)) false)) vs k

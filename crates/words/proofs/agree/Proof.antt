@@ -5,8 +5,6 @@ use Rattle.words.proofs.BitLaws.{bit-not}
 use Rattle.words.proofs.LaneLaws.{beq-true, beq-false}
 use Rattle.words.proofs.agree.Statement.{statement}
 use Rattle.words.proofs.agree.Tie as tie
-use Rattle.words.proofs.agree.Reads as reads
-use Rattle.words.proofs.agree.Lts as lts
 
 returns : tie.Need-returns
 returns c = λ i h. rw (c .if1 .taken) (beq-true (bit i (c .before .args .x)))

@@ -3,8 +3,6 @@ use mathlib.Core.Path.{sym, _∙_}
 use Rattle.words.proofs.BitLaws.{bit-all, bit-none}
 use Rattle.words.proofs.spread.Statement.{statement}
 use Rattle.words.proofs.spread.Tie as tie
-use Rattle.words.proofs.spread.Reads as reads
-use Rattle.words.proofs.spread.Lts as lts
 
 returns : tie.Need-returns
 returns c = λ i h. bit-all 64 i h ∙ sym (c .if1 .taken)

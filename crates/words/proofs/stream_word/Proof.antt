@@ -5,9 +5,6 @@ use borrow.Author.Needs.{needs}
 use Rattle.words.proofs.LaneLaws.{stream-at, stream-high}
 use Rattle.words.proofs.stream_word.Statement.{statement}
 use Rattle.words.proofs.stream_word.Tie as tie
-use Rattle.words.proofs.stream_word.Reads as reads
-use Rattle.words.proofs.stream_word.Lts as lts
-use Rattle.words.proofs.spread.Reads as spread-reads
 
 shr-spread : tie.Need-shr-spread
 shr-spread c = search needs

@@ -7,9 +7,6 @@ use borrow.Author.Needs.{needs}
 use Rattle.lanes.proofs.ParseLaws.{Done, none-done, one-done, all-done}
 use Rattle.lanes.proofs.expression.two_value.Statement.{statement}
 use Rattle.lanes.proofs.expression.two_value.Tie as tie
-use Rattle.lanes.proofs.expression.two_value.Reads as reads
-use Rattle.lanes.proofs.expression.two_value.Lts as lts
-use Rattle.lanes.proofs.expression.two_step.Reads as two-step-reads
 
 abbrev Inv-loop : tie.InvT-loop
 Inv-loop st₀ top₀ env own expr used₀ k₀ st top used k = (length st ≡ length st₀) × (length top ≡ 4) × Done 2 env own expr top₀ st top used k

@@ -8,8 +8,6 @@ use Rattle.words.specs.Bits.{bit}
 use Rattle.words.proofs.BitLaws.{bit-and, bit-or, bit-not}
 use Rattle.lanes.proofs.row.alike.Statement.{statement}
 use Rattle.lanes.proofs.row.alike.Tie as tie
-use Rattle.lanes.proofs.row.alike.Reads as reads
-use Rattle.lanes.proofs.row.alike.Lts as lts
 
 returns : tie.Need-returns
 returns c = λ i h.

@@ -6,8 +6,6 @@ use borrow.Author.Needs.{needs}
 use Rattle.lanes.proofs.RowLaws.{Writing, writing-none, writing-more, writing-all}
 use Rattle.lanes.proofs.row.fill_row.Statement.{statement}
 use Rattle.lanes.proofs.row.fill_row.Tie as tie
-use Rattle.lanes.proofs.row.fill_row.Reads as reads
-use Rattle.lanes.proofs.row.fill_row.Lts as lts
 
 abbrev Inv-loop : tie.InvT-loop
 Inv-loop row₀ w x j₀ row j = Writing (λ k z. z ≡ x) row₀ row j

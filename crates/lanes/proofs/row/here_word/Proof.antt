@@ -6,10 +6,6 @@ use Rattle.words.specs.Bits.{bit, digit}
 use Rattle.lanes.proofs.AroundLaws.{own-here, shared-here}
 use Rattle.lanes.proofs.row.here_word.Statement.{statement}
 use Rattle.lanes.proofs.row.here_word.Tie as tie
-use Rattle.lanes.proofs.row.here_word.Reads as reads
-use Rattle.lanes.proofs.row.here_word.Lts as lts
-use Rattle.words.proofs.spread.Reads as spread-reads
-use Rattle.words.proofs.stream_word.Reads as stream-word-reads
 
 stream-word-requires : tie.Need-stream-word-requires
 stream-word-requires c κs = search needs

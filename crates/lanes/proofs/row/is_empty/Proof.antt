@@ -10,8 +10,6 @@ use Rattle.words.specs.Bits.{bit}
 use Rattle.words.proofs.BitLaws.{bit-none}
 use Rattle.lanes.proofs.row.is_empty.Statement.{statement}
 use Rattle.lanes.proofs.row.is_empty.Tie as tie
-use Rattle.lanes.proofs.row.is_empty.Reads as reads
-use Rattle.lanes.proofs.row.is_empty.Lts as lts
 
 abbrev Inv-loop : tie.InvT-loop
 Inv-loop row w j₀ j = (j ≤ w) × ((k : ℕ) → k < j → getD row k 0 ≡ 0)

@@ -11,10 +11,6 @@ use Rattle.lanes.specs.Around.{here}
 use Rattle.lanes.proofs.RowLaws.{Writing, writing-none, writing-more, writing-all}
 use Rattle.lanes.proofs.row.keep_row.Statement.{statement}
 use Rattle.lanes.proofs.row.keep_row.Tie as tie
-use Rattle.lanes.proofs.row.keep_row.Reads as reads
-use Rattle.lanes.proofs.row.keep_row.Lts as lts
-use Rattle.lanes.proofs.row.alike.Reads as alike-reads
-use Rattle.lanes.proofs.row.here_word.Reads as here-word-reads
 
 abbrev Inv-loop : tie.InvT-loop
 Inv-loop acc₀ w x own b q j₀ acc j =

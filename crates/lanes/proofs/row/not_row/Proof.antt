@@ -10,8 +10,6 @@ use Rattle.words.proofs.BitLaws.{bit-not}
 use Rattle.lanes.proofs.RowLaws.{Writing, writing-none, writing-more, writing-all}
 use Rattle.lanes.proofs.row.not_row.Statement.{statement}
 use Rattle.lanes.proofs.row.not_row.Tie as tie
-use Rattle.lanes.proofs.row.not_row.Reads as reads
-use Rattle.lanes.proofs.row.not_row.Lts as lts
 
 abbrev Inv-loop : tie.InvT-loop
 Inv-loop row₀ w j₀ row j = Writing (λ k z. (i : ℕ) → i < 64 → bit i z ≡ not (bit i (getD row₀ k 0))) row₀ row j

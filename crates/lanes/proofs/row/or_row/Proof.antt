@@ -8,8 +8,6 @@ use borrow.Author.Needs.{needs}
 use Rattle.lanes.proofs.RowLaws.{Writing, writing-none, writing-by, writing-all}
 use Rattle.lanes.proofs.row.or_row.Statement.{statement}
 use Rattle.lanes.proofs.row.or_row.Tie as tie
-use Rattle.lanes.proofs.row.or_row.Reads as reads
-use Rattle.lanes.proofs.row.or_row.Lts as lts
 
 abbrev Inv-loop : tie.InvT-loop
 Inv-loop row₀ w st k j₀ row j = Writing (λ i z. z ≡ bitOr (getD st (w * k + i) 0) (getD row₀ i 0)) row₀ row j

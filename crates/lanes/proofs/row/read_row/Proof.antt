@@ -7,11 +7,6 @@ use Rattle.words.specs.Bits.{bit, digit}
 use Rattle.lanes.proofs.AroundLaws.{own-read, shared-read}
 use Rattle.lanes.proofs.row.read_row.Statement.{statement}
 use Rattle.lanes.proofs.row.read_row.Tie as tie
-use Rattle.lanes.proofs.row.read_row.Reads as reads
-use Rattle.lanes.proofs.row.read_row.Lts as lts
-use Rattle.lanes.proofs.row.fill_row.Reads as fill-row-reads
-use Rattle.lanes.proofs.row.stream_row.Reads as stream-row-reads
-use Rattle.words.proofs.spread.Reads as spread-reads
 
 cast-if1 : tie.Need-cast-if1
 cast-if1 c = search needs

@@ -4,8 +4,6 @@ use borrow.Author.Needs.{needs}
 use Rattle.lanes.proofs.RowLaws.{Storing, storing-none, storing-more, storing-all}
 use Rattle.lanes.proofs.row.store_row.Statement.{statement}
 use Rattle.lanes.proofs.row.store_row.Tie as tie
-use Rattle.lanes.proofs.row.store_row.Reads as reads
-use Rattle.lanes.proofs.row.store_row.Lts as lts
 
 abbrev Inv-loop : tie.InvT-loop
 Inv-loop st₀ w k row j₀ st j = Storing w k row st₀ st j

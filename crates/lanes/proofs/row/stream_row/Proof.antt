@@ -7,9 +7,6 @@ use Rattle.words.specs.Bits.{bit}
 use Rattle.lanes.proofs.RowLaws.{Writing, writing-none, writing-more, writing-all}
 use Rattle.lanes.proofs.row.stream_row.Statement.{statement}
 use Rattle.lanes.proofs.row.stream_row.Tie as tie
-use Rattle.lanes.proofs.row.stream_row.Reads as reads
-use Rattle.lanes.proofs.row.stream_row.Lts as lts
-use Rattle.words.proofs.stream_word.Reads as stream-word-reads
 
 abbrev Inv-loop : tie.InvT-loop
 Inv-loop row₀ w q j₀ row j = Writing (λ k z. (i : ℕ) → i < 64 → bit i z ≡ bit q (64 * k + i)) row₀ row j

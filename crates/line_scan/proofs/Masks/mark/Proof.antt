@@ -3,8 +3,6 @@ use borrow.Author.Needs.{needs}
 use Rattle.line_scan.proofs.Scanning.{zero-mark, one-mark, open-mark, no-mark, mark-none}
 use Rattle.line_scan.proofs.Masks.mark.Statement.{statement}
 use Rattle.line_scan.proofs.Masks.mark.Tie as tie
-use Rattle.line_scan.proofs.Masks.mark.Reads as reads
-use Rattle.line_scan.proofs.Masks.mark.Lts as lts
 
 shl-bit : tie.Need-shl-bit
 shl-bit c = search needs

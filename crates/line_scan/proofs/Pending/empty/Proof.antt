@@ -2,8 +2,6 @@
 use Rattle.line_scan.proofs.Scanning.{none-marked}
 use Rattle.line_scan.proofs.Pending.empty.Statement.{statement}
 use Rattle.line_scan.proofs.Pending.empty.Tie as tie
-use Rattle.line_scan.proofs.Pending.empty.Reads as reads
-use Rattle.line_scan.proofs.Pending.empty.Lts as lts
 
 returns : tie.Need-returns
 returns c = λ m. none-marked m

@@ -5,8 +5,6 @@ use borrow.Author.Tests.{eqb-true, eqb-false}
 use Rattle.line_scan.proofs.Standing.{marked-blank, marked-some, dot-some, spoiled-some}
 use Rattle.line_scan.proofs.Pending.is_blank.Statement.{statement}
 use Rattle.line_scan.proofs.Pending.is_blank.Tie as tie
-use Rattle.line_scan.proofs.Pending.is_blank.Reads as reads
-use Rattle.line_scan.proofs.Pending.is_blank.Lts as lts
 
 enum-known-self : tie.Need-enum-known-self
 enum-known-self c = search needs

@@ -5,9 +5,6 @@ use Rattle.line_scan.specs.Scan.{Marked}
 use Rattle.line_scan.proofs.Scanning.{first-dot, late-dot, one-more, past-dot, still}
 use Rattle.line_scan.proofs.Pending.scan.Statement.{statement}
 use Rattle.line_scan.proofs.Pending.scan.Tie as tie
-use Rattle.line_scan.proofs.Pending.scan.Reads as reads
-use Rattle.line_scan.proofs.Pending.scan.Lts as lts
-use Rattle.line_scan.proofs.Masks.mark.Reads as mark-reads
 
 enum-known-self : tie.Need-enum-known-self
 enum-known-self c = search needs

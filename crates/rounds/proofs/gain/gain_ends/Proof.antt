@@ -17,12 +17,6 @@ use Rattle.rounds.specs.Rows.{gains, inRow}
 use Rattle.rounds.proofs.EndLaws.{ends-full, ends-none, ends-more, ends-all}
 use Rattle.rounds.proofs.gain.gain_ends.Statement.{statement}
 use Rattle.rounds.proofs.gain.gain_ends.Tie as tie
-use Rattle.rounds.proofs.gain.gain_ends.Reads as reads
-use Rattle.rounds.proofs.gain.gain_ends.Lts as lts
-use Rattle.lanes.proofs.enders.Reads as enders-reads
-use Rattle.pairs.proofs.insert_ends.Reads as insert-ends-reads
-use Rattle.rounds.proofs.gain.is_end_new.Reads as is-end-new-reads
-use Rattle.words.proofs.lanes_below.Reads as lanes-below-reads
 
 abbrev Inv-loop : tie.InvT-loop
 Inv-loop s₀ st code len before g v w low x j₀ s j =

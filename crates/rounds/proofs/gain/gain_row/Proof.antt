@@ -18,12 +18,6 @@ use Rattle.rounds.proofs.WordLaws.{live-masked, row-full, word-gained}
 use Rattle.rounds.proofs.RowLaws.{row-none, row-more, row-all}
 use Rattle.rounds.proofs.gain.gain_row.Statement.{statement}
 use Rattle.rounds.proofs.gain.gain_row.Tie as tie
-use Rattle.rounds.proofs.gain.gain_row.Reads as reads
-use Rattle.rounds.proofs.gain.gain_row.Lts as lts
-use Rattle.lanes.proofs.successors.Reads as successors-reads
-use Rattle.pairs.proofs.insert_word.Reads as insert-word-reads
-use Rattle.rounds.proofs.gain.is_new.Reads as is-new-reads
-use Rattle.words.proofs.lanes_below.Reads as lanes-below-reads
 
 abbrev Inv-loop : tie.InvT-loop
 Inv-loop s₀ st code len env b v w low x j₀ s j =

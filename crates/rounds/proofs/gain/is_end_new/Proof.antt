@@ -8,8 +8,6 @@ use Rattle.rounds.specs.Rows.{NoEndNew}
 use Rattle.rounds.proofs.EndLaws.{no-end-more}
 use Rattle.rounds.proofs.gain.is_end_new.Statement.{statement}
 use Rattle.rounds.proofs.gain.is_end_new.Tie as tie
-use Rattle.rounds.proofs.gain.is_end_new.Reads as reads
-use Rattle.rounds.proofs.gain.is_end_new.Lts as lts
 
 abbrev Inv-loop : tie.InvT-loop
 Inv-loop s w g j₀ j = (j ≤ w) × NoEndNew (live s) (reached s) (scratch s) (64 * j) g

@@ -5,11 +5,6 @@ use Rattle.rounds.proofs.RowLaws.{sparse-noted}
 use Rattle.rounds.proofs.WordLaws.{unheard-row}
 use Rattle.rounds.proofs.group.group_row.Statement.{statement}
 use Rattle.rounds.proofs.group.group_row.Tie as tie
-use Rattle.rounds.proofs.group.group_row.Reads as reads
-use Rattle.rounds.proofs.group.group_row.Lts as lts
-use Rattle.pairs.proofs.note.Reads as note-reads
-use Rattle.rounds.proofs.group.join_row.Reads as join-row-reads
-use Rattle.rounds.proofs.row_lanes.Reads as row-lanes-reads
 
 row-lanes-requires : tie.Need-row-lanes-requires
 row-lanes-requires c κs = let p = c .before .before .before .pre in (p .0, p .1, p .2, p .3, omega arith, p .6)

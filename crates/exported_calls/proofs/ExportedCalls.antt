@@ -47,18 +47,18 @@ right-mark D W ns e d = subst (λ (b : Bool). ByMark b D W) e d
 
 -- the numbers are those of a record with its 28 counts
 record Stands (ns : List ℕ) : Type 0 where
-  journal : JournalRecord
-  same : ns ≡ numbersOf journal
-  counts : length (journal .counts) ≡ 28
+  rec : JournalRecord
+  same : ns ≡ numbersOf rec
+  counts : length (rec .counts) ≡ 28
 
 stands-length : (ns : List ℕ) → Stands ns → length ns ≡ 30
 stands-length ns w = ap length (w .same) ∙ omega (arith, w .counts)
 
 stands-mark : (ns : List ℕ) → Stands ns → marked ns ≡ true
-stands-mark ns w = ap marked (w .same) ∙ mark-right (w .journal)
+stands-mark ns w = ap marked (w .same) ∙ mark-right (w .rec)
 
 stands-record : (ns : List ℕ) → Stands ns → ns ≡ numbersOf (recordOf ns)
-stands-record ns w = w .same ∙ ap numbersOf (sym (ap recordOf (w .same) ∙ record-back (w .journal)))
+stands-record ns w = w .same ∙ ap numbersOf (sym (ap recordOf (w .same) ∙ record-back (w .rec)))
 
 -- the struct that a caller of `monitor` would hold
 abbrev asHeld : HeldSlices → Held
@@ -77,7 +77,7 @@ record Holds (ns : List ℕ) (q : JournalRecord) : Type 0 where
   stands : Stands ns
 
 holds : (ns : List ℕ) (q : JournalRecord) → ns ≡ numbersOf q → length (q .counts) ≡ 28 → Holds ns q
-holds ns q e f = record { same = ap recordOf e ∙ record-back q; stands = record { journal = q; same = e; counts = f } }
+holds ns q e f = record { same = ap recordOf e ∙ record-back q; stands = record { rec = q; same = e; counts = f } }
 
 still-holds : (ns ms : List ℕ) (q : JournalRecord) → ms ≡ ns → q ≡ recordOf ns → Stands ns → Holds ms q
 still-holds ns ms q e f w = record { same = ap recordOf e ∙ sym f; stands = subst Stands (sym e) w }

@@ -21,21 +21,32 @@ use Rattle.sheet.specs.declared.Offset.{Offset}
 use Rattle.sheet.specs.declared.Offset.the-variants.{Earlier, Now, Later}
 use Rattle.sheet.proofs.Postfixes.{tree-exactly}
 use Rattle.lola.specs.Reads.{offsetNo, hasRead}
-use Rattle.lola.specs.ByteReads.{family, readIn, ReadsOf}
+use Rattle.lola.specs.ByteReads.{begins, readIn, ReadsOf}
 
--- ---- families
+-- ---- where reads begin
 
-family-twice : (o : ℕ) → family (family o) ≡ o
-family-twice zero = refl
-family-twice (suc zero) = refl
-family-twice (suc (suc o)) = refl
+sixteens : (o : ℕ) → begins o % 16 ≡ 0
+sixteens zero = refl
+sixteens (suc zero) = refl
+sixteens (suc (suc o)) = omega arith
 
-family-same : (n o : ℕ) → eqb (family n) (family o) ≡ eqb n o
-family-same n o = go (ℕ-discrete n o)
+begins-once : (n o : ℕ) → begins n ≡ begins o → n ≡ o
+begins-once zero zero e = refl
+begins-once zero (suc zero) e = omega arith
+begins-once zero (suc (suc o)) e = omega arith
+begins-once (suc zero) zero e = omega arith
+begins-once (suc zero) (suc zero) e = refl
+begins-once (suc zero) (suc (suc o)) e = omega arith
+begins-once (suc (suc n)) zero e = omega arith
+begins-once (suc (suc n)) (suc zero) e = omega arith
+begins-once (suc (suc n)) (suc (suc o)) e = omega arith
+
+begins-same : (n o : ℕ) → eqb (begins n) (begins o) ≡ eqb n o
+begins-same n o = go (ℕ-discrete n o)
   where
-    go : Dec (n ≡ o) → eqb (family n) (family o) ≡ eqb n o
-    go (yes e) = rw (eq-eqb n o e) (eq-eqb (family n) (family o) (ap family e))
-    go (no h) = rw (ne-eqb n o h) (ne-eqb (family n) (family o) (λ e. h (sym (family-twice n) ∙ ap family e ∙ family-twice o)))
+    go : Dec (n ≡ o) → eqb (begins n) (begins o) ≡ eqb n o
+    go (yes e) = rw (eq-eqb n o e) (eq-eqb (begins n) (begins o) (ap begins e))
+    go (no h) = rw (ne-eqb n o h) (ne-eqb (begins n) (begins o) (λ e. h (begins-once n o e)))
 
 -- ---- the bytes of a tree
 
@@ -51,23 +62,23 @@ any-append p (b ∷ bs) cs = ap (λ (u : Bool). p b || u) (any-append p bs cs) �
 
 -- the byte is a read of stream q at the offset number o
 unfoldable pub byteReads : ℕ → ℕ → ℕ → Bool
-byteReads q o b = eqb (b / 64 % 2) 1 && (eqb (b % 64 % 8) q && eqb (b % 64 / 16) (family o))
+byteReads q o b = eqb (b / 64 % 2) 1 && (eqb (b % 64 % 8) q && eqb (16 * (b % 64 / 16)) (begins o))
 
 module _ (q o : ℕ) where
   abbrev any : List ℕ → Bool
   any = anyByte (byteReads q o)
 
-  in-family : (b k n : ℕ) → b / 64 % 2 ≡ 1 → b % 64 % 8 ≡ k → b % 64 / 16 ≡ family n → byteReads q o b ≡ (eqb k q && eqb n o)
+  begun : (b k n : ℕ) → b / 64 % 2 ≡ 1 → b % 64 % 8 ≡ k → 16 * (b % 64 / 16) ≡ begins n → byteReads q o b ≡ (eqb k q && eqb n o)
   unfolding byteReads
-  in-family b k n e g h = rw (e, g, h, family-same n o)
+  begun b k n e g h = rw (e, g, h, begins-same n o)
 
   read-byte : (k : ℕ) (p : Offset) (d : Bool) → k < 8 → byteReads q o (readByte k p d) ≡ (eqb k q && eqb (offsetNo p) o)
   unfolding readByte
-  read-byte k Now d l = in-family (0x40 + k) k 1 (omega arith) (omega arith) (omega arith)
-  read-byte k Earlier false l = in-family (0x50 + k) k 0 (omega arith) (omega arith) (omega arith)
-  read-byte k Earlier true l = in-family (0x58 + k) k 0 (omega arith) (omega arith) (omega arith)
-  read-byte k Later false l = in-family (0x60 + k) k 2 (omega arith) (omega arith) (omega arith)
-  read-byte k Later true l = in-family (0x68 + k) k 2 (omega arith) (omega arith) (omega arith)
+  read-byte k Now d l = begun (0x40 + k) k 1 (omega arith) (omega arith) (omega arith)
+  read-byte k Earlier false l = begun (0x50 + k) k 0 (omega arith) (omega arith) (omega arith)
+  read-byte k Earlier true l = begun (0x58 + k) k 0 (omega arith) (omega arith) (omega arith)
+  read-byte k Later false l = begun (0x60 + k) k 2 (omega arith) (omega arith) (omega arith)
+  read-byte k Later true l = begun (0x68 + k) k 2 (omega arith) (omega arith) (omega arith)
 
   -- two values and an operator behind them
   two : (b : ℕ) (xs ys : List ℕ) (u v : Bool) → byteReads q o b ≡ false → any xs ≡ u → any ys ≡ v → any (xs ++ (ys ++ (b ∷ []))) ≡ (u || v)
@@ -87,7 +98,7 @@ module _ (q o : ℕ) where
 
 pub none-in : (q o : ℕ) → readIn 0 q o ≡ false
 unfolding readIn
-none-in q o = rw (bit-none (16 * family o + q), bit-none (8 + (16 * family o + q))) (and-false (ltb q 8))
+none-in q o = rw (bit-none (begins o + q), bit-none (8 + (begins o + q))) (and-false (ltb q 8))
 
 both : (u a b c d : Bool) → (u && ((a || b) || (c || d))) ≡ ((u && (a || c)) || (u && (b || d)))
 both false a b c d = refl
@@ -98,11 +109,11 @@ both true false false c d = refl
 
 pub read-or : (w x q o : ℕ) → readIn (bitOr w x) q o ≡ (readIn w q o || readIn x q o)
 unfolding readIn
-read-or w x q o = rw (bit-or (16 * family o + q) w x, bit-or (8 + (16 * family o + q)) w x)
-    (both (ltb q 8) (bit (16 * family o + q) w) (bit (16 * family o + q) x) (bit (8 + (16 * family o + q)) w) (bit (8 + (16 * family o + q)) x))
+read-or w x q o = rw (bit-or (begins o + q) w x, bit-or (8 + (begins o + q)) w x)
+    (both (ltb q 8) (bit (begins o + q) w) (bit (begins o + q) x) (bit (8 + (begins o + q)) w) (bit (8 + (begins o + q)) x))
 
 -- the streams at an offset
-pub streams : (w k q o : ℕ) → 16 * family o ≡ k → bit q (bitOr w (w / 2 ^ 8) / 2 ^ k % 2 ^ 8) ≡ readIn w q o
+pub streams : (w k q o : ℕ) → begins o ≡ k → bit q (bitOr w (w / 2 ^ 8) / 2 ^ k % 2 ^ 8) ≡ readIn w q o
 unfolding readIn
 streams w k q o e = rw e (go (decLt q 8))
   where
@@ -125,27 +136,27 @@ bit-of-byte b k = go (ℕ-discrete (b / 64 % 2) 1)
     go (yes e) = rw e (bit-shl k (b % 64) (omega arith))
     go (no n) = let e : b / 64 % 2 ≡ 0 = omega arith in rw e (ap (bit k) (omega arith) ∙ bit-none k)
 
--- one of the two bits of stream q in family f is bit k
-two-bits : (q f k : ℕ) → (ltb q 8 && (eqb (16 * f + q) k || eqb (8 + (16 * f + q)) k)) ≡ (eqb (k % 8) q && eqb (k / 16) f)
-two-bits q f k = go (decLt q 8) (ℕ-discrete (k % 8) q) (ℕ-discrete (k / 16) f)
+-- one of the two bits of stream q from f on is bit k
+two-bits : (q f k : ℕ) → f % 16 ≡ 0 → (ltb q 8 && (eqb (f + q) k || eqb (8 + (f + q)) k)) ≡ (eqb (k % 8) q && eqb (16 * (k / 16)) f)
+two-bits q f k z = go (decLt q 8) (ℕ-discrete (k % 8) q) (ℕ-discrete (16 * (k / 16)) f)
   where
-    go : Dec (q < 8) → Dec (k % 8 ≡ q) → Dec (k / 16 ≡ f) → (ltb q 8 && (eqb (16 * f + q) k || eqb (8 + (16 * f + q)) k)) ≡ (eqb (k % 8) q && eqb (k / 16) f)
+    go : Dec (q < 8) → Dec (k % 8 ≡ q) → Dec (16 * (k / 16) ≡ f) → (ltb q 8 && (eqb (f + q) k || eqb (8 + (f + q)) k)) ≡ (eqb (k % 8) q && eqb (16 * (k / 16)) f)
     go (no l) g h = rw (le-ltb q 8 (omega arith), ne-eqb (k % 8) q (λ e. omega arith))
-    go (yes l) (no g) h = rw (lt-ltb q 8 l, ne-eqb (k % 8) q g, ne-eqb (16 * f + q) k (λ e. g (omega arith)), ne-eqb (8 + (16 * f + q)) k (λ e. g (omega arith)))
+    go (yes l) (no g) h = rw (lt-ltb q 8 l, ne-eqb (k % 8) q g, ne-eqb (f + q) k (λ e. g (omega arith)), ne-eqb (8 + (f + q)) k (λ e. g (omega arith)))
     go (yes l) (yes g) (no h) =
-        rw (lt-ltb q 8 l, eq-eqb (k % 8) q g, ne-eqb (k / 16) f h, ne-eqb (16 * f + q) k (λ e. h (omega arith)), ne-eqb (8 + (16 * f + q)) k (λ e. h (omega arith)))
-    go (yes l) (yes g) (yes h) = rw (lt-ltb q 8 l, eq-eqb (k % 8) q g, eq-eqb (k / 16) f h) (one (ℕ-discrete (16 * f + q) k))
+        rw (lt-ltb q 8 l, eq-eqb (k % 8) q g, ne-eqb (16 * (k / 16)) f h, ne-eqb (f + q) k (λ e. h (omega arith)), ne-eqb (8 + (f + q)) k (λ e. h (omega arith)))
+    go (yes l) (yes g) (yes h) = rw (lt-ltb q 8 l, eq-eqb (k % 8) q g, eq-eqb (16 * (k / 16)) f h) (one (ℕ-discrete (f + q) k))
       where
-        one : Dec (16 * f + q ≡ k) → (eqb (16 * f + q) k || eqb (8 + (16 * f + q)) k) ≡ true
-        one (yes e) = rw (eq-eqb (16 * f + q) k e)
-        one (no n) = or-second (eqb (16 * f + q) k) _ (eq-eqb (8 + (16 * f + q)) k (omega arith))
+        one : Dec (f + q ≡ k) → (eqb (f + q) k || eqb (8 + (f + q)) k) ≡ true
+        one (yes e) = rw (eq-eqb (f + q) k e)
+        one (no n) = or-second (eqb (f + q) k) _ (eq-eqb (8 + (f + q)) k (omega arith))
 
 one-read : (b x : ℕ) → Bit b x → (q o : ℕ) → readIn x q o ≡ byteReads q o b
 unfolding readIn byteReads
-one-read b x has q o = rw (has (16 * family o + q), has (8 + (16 * family o + q))) (go (eqb (b / 64 % 2) 1))
+one-read b x has q o = rw (has (begins o + q), has (8 + (begins o + q))) (go (eqb (b / 64 % 2) 1))
   where
-    go : (u : Bool) → (ltb q 8 && ((u && eqb (16 * family o + q) (b % 64)) || (u && eqb (8 + (16 * family o + q)) (b % 64)))) ≡ (u && (eqb (b % 64 % 8) q && eqb (b % 64 / 16) (family o)))
-    go true = two-bits q (family o) (b % 64)
+    go : (u : Bool) → (ltb q 8 && ((u && eqb (begins o + q) (b % 64)) || (u && eqb (8 + (begins o + q)) (b % 64)))) ≡ (u && (eqb (b % 64 % 8) q && eqb (16 * (b % 64 / 16)) (begins o)))
+    go true = two-bits q (begins o) (b % 64) (sixteens o)
     go false = and-false (ltb q 8)
 
 -- the bits so far, and the reads of the bytes that are left

@@ -8,15 +8,15 @@ use Rattle.words.specs.Bits.{bit}
 use Rattle.sheet.specs.Expression.{Expr, parse, tree}
 use Rattle.lola.specs.Reads.{hasRead}
 
--- the family of the reads at the offset with this number, 0 now, 1 earlier, 2 later: those of family f begin at 16 f
-abbrev pub family : ℕ → ℕ
-family zero = 1
-family (suc zero) = 0
-family (suc (suc o)) = suc (suc o)
+-- where the bits of the reads at the offset with this number begin: their first byte less 0x40
+abbrev pub begins : ℕ → ℕ
+begins zero = 16
+begins (suc zero) = 0
+begins (suc (suc o)) = 32 + 16 * o
 
 -- the word has a read of stream q, one of eight, at the offset number o, whatever the default
 unfoldable pub readIn : ℕ → ℕ → ℕ → Bool
-readIn w q o = ltb q 8 && (bit (16 * family o + q) w || bit (8 + (16 * family o + q)) w)
+readIn w q o = ltb q 8 && (bit (begins o + q) w || bit (8 + (begins o + q)) w)
 
 -- the word has the reads of the expression with these bytes, and no others
 pub record ReadsOf (e : List ℕ) (w : ℕ) : Type 0 where

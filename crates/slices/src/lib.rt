@@ -13,10 +13,10 @@ use outcomes::verdict_number;
 use record::JournalRecord;
 
 // The record has 30 numbers, and the answer room for 16.
-pub fn sized(journal: usize, answer: usize) -> bool
-    ensures { λ r. ⌜ r ≡ (eqb journal 30 && leb 16 answer) ⌝ }
+pub fn sized(rec: usize, answer: usize) -> bool
+    ensures { λ r. ⌜ r ≡ (eqb rec 30 && leb 16 answer) ⌝ }
 {
-    if journal != 30 {
+    if rec != 30 {
         return false;
     }
     16 <= answer

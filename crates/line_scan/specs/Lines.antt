@@ -21,6 +21,15 @@ linesFrom part (b ∷ bs) = cond (eqb b 10) (part ∷ linesFrom [] bs) (linesFro
 abbrev pub linesOf : List ℕ → List (List ℕ)
 linesOf input = linesFrom [] input
 
+-- the whole lines of an input: its bytes up to and with the last line feed
+unfoldable pub hasFeed : List ℕ → Bool
+hasFeed [] = false
+hasFeed (b ∷ bs) = eqb b 10 || hasFeed bs
+
+unfoldable pub wholeLines : List ℕ → List ℕ
+wholeLines [] = []
+wholeLines (b ∷ bs) = cond (hasFeed (b ∷ bs)) (b ∷ wholeLines bs) []
+
 -- `0`, `1` or `?`
 abbrev pub isMark : ℕ → Bool
 isMark b = eqb b 48 || (eqb b 49 || eqb b 63)

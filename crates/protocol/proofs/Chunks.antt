@@ -15,7 +15,7 @@ rest-printed x (fed {chunk = chunk} {text = text} {others = others} {chunks = ch
     rw (← append-assoc seen chunk (flatten chunks), ← append-assoc wrote text others) (rest-printed x r sheet (seen ++ chunk) (wrote ++ text) (g sheet seen wrote st))
 rest-printed x (stopped {chunks = chunks} o) sheet seen wrote st =
     let f : Over sheet seen wrote = rw o at (st .stage) in
-    rw (append-nil wrote) (f (flatten chunks))
+    rw (append-nil wrote) (f .whatever (flatten chunks))
 
 pub any-chunks : AnyChunks
 any-chunks sheet chunks text (turnedDown r t wrote e b) = (rw e at b) (flatten chunks)

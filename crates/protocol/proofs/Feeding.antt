@@ -1,10 +1,11 @@
 -- How a run goes on: by a byte, by a line, by a chunk, to the end of the input.
 use mathlib.Core.Path.{_≡_, refl, sym, ap, _∙_, subst}
-use mathlib.Core.Bool.{Bool, true, false}
+use mathlib.Core.Bool.{Bool, true, false, _||_, or-true}
 use mathlib.Core.List.{List, [], _∷_, _++_, append-assoc, append-nil}
 use Prim.Native.Nat.{ℕ, _+_, _≤_, _<_}
 use native.Mathlib.Omega.{arith}
 use native.Mathlib.Numerals.{add-one}
+use lib.Dec.{eqb}
 use lib.ListN.{length, take, drop, getD, take-append-drop}
 use lib.Seq.{append-snoc, take-suc}
 use borrow.Author.Tests.{eq-eqb, ne-eqb}
@@ -19,7 +20,7 @@ use Rattle.circular.specs.SheetChecks.{sheetChecks, AcceptedSheet}
 use Rattle.text.specs.Text.{sheetRefusal}
 use Rattle.claims.specs.Book.{emptyBook}
 use Rattle.claims.specs.Session.{Held, held}
-use Rattle.line_scan.specs.Lines.{linesFrom}
+use Rattle.line_scan.specs.Lines.{linesFrom, hasFeed, wholeLines}
 use Rattle.line_scan.specs.Scan.{Scanned}
 use Rattle.line_scan.specs.declared.Pending.{Pending}
 use Rattle.line_end.specs.Printed.{Written, ended, Printed, refusedSheet, journal}
@@ -47,6 +48,42 @@ unfolding linesFrom
 lines-last [] n = absurd (n refl)
 lines-last (b ∷ p) n = refl
 
+-- ---- whole lines
+
+-- what follows either has a line feed, or leaves the whole lines what they were
+feed-after : (xs ys : List ℕ) → hasFeed ys ≡ true → hasFeed (xs ++ ys) ≡ true
+unfolding hasFeed
+feed-after [] ys h = h
+feed-after (b ∷ xs) ys h = rw (feed-after xs ys h) (or-true (eqb b 10))
+
+no-feed-after : (xs ys : List ℕ) → hasFeed ys ≡ false → hasFeed (xs ++ ys) ≡ hasFeed xs
+unfolding hasFeed
+no-feed-after [] ys h = h
+no-feed-after (b ∷ xs) ys h = ap (λ (z : Bool). eqb b 10 || z) (no-feed-after xs ys h)
+
+no-whole : (ys : List ℕ) → hasFeed ys ≡ false → wholeLines ys ≡ []
+unfolding wholeLines
+no-whole [] h = refl
+no-whole (b ∷ ys) h = rw h refl
+
+whole-more : (xs ys : List ℕ) → hasFeed ys ≡ true → wholeLines (xs ++ ys) ≡ xs ++ wholeLines ys
+unfolding wholeLines
+whole-more [] ys h = refl
+whole-more (b ∷ xs) ys h = rw (feed-after (b ∷ xs) ys h) (ap (λ (z : List ℕ). b ∷ z) (whole-more xs ys h))
+
+whole-same : (xs ys : List ℕ) → hasFeed ys ≡ false → wholeLines (xs ++ ys) ≡ wholeLines xs
+unfolding wholeLines
+whole-same [] ys h = no-whole ys h
+whole-same (b ∷ xs) ys h = rw (no-feed-after (b ∷ xs) ys h, whole-same xs ys h) refl
+
+whole-byte : (xs : List ℕ) (b : ℕ) → (b ≡ 10 → ⊥) → wholeLines (xs ++ b ∷ []) ≡ wholeLines xs
+unfolding hasFeed
+whole-byte xs b n = whole-same xs (b ∷ []) (rw (ne-eqb b 10 n) refl)
+
+whole-feed : (xs : List ℕ) (b : ℕ) → b ≡ 10 → wholeLines (xs ++ b ∷ []) ≡ xs ++ b ∷ []
+unfolding hasFeed wholeLines
+whole-feed xs b e = whole-more xs (b ∷ []) (rw (eq-eqb b 10 e) refl) ∙ rw (eq-eqb b 10 e) refl
+
 -- ---- places in the input and in the buffer
 
 pub seen-more : (seen chunk : List ℕ) (i : ℕ) → i < length chunk → seen ++ take (i + 1) chunk ≡ seen ++ take i chunk ++ getD chunk i 0 ∷ []
@@ -66,6 +103,7 @@ module _ (sheet : List ℕ) (x : Sheet) (line : ℕ) (q : Pending) (h : Held) (s
     part = m .part ++ b ∷ [];
     serves = m .serves;
     scanned = f (m .part) (m .scanned);
+    whole = rw (whole-byte seen b n) (m .whole);
     more = λ rest t w. rw (append-snoc seen b rest) (m .more (b ∷ rest) t (rw (lines-byte (m .part) b rest n) w));
   }
 
@@ -75,21 +113,26 @@ module _ (sheet : List ℕ) (x : Sheet) (line : ℕ) (q : Pending) (h : Held) (s
         → Midway sheet x (r .line) q₁ (held t (r .record)) (seen ++ b ∷ []) (wrote ++ le .text)
     line-more b q₁ f o s =
         let on : Onward sheet (ruleSheet x) (m .book) line (m .part) (le .text) (r .line) (held t (r .record)) = rw o at (le .ends) in
+        let more : (rest u : List ℕ) → Written (ruleSheet x) (on .book) (r .line) (linesFrom [] rest) u → Printed sheet (seen ++ b ∷ [] ++ rest) (wrote ++ le .text ++ u) =
+        λ rest u w.
+        rw (append-snoc seen b rest, append-assoc wrote (le .text) u)
+        (m .more (b ∷ rest) (le .text ++ u) (rw (lines-feed (m .part) b rest f) (on .onward (linesFrom [] rest) u w))) in
         record {
           book = on .book;
           part = [];
           serves = on .serves;
           scanned = s;
-          more = λ rest u w.
-              rw (append-snoc seen b rest, append-assoc wrote (le .text) u)
-              (m .more (b ∷ rest) (le .text ++ u) (rw (lines-feed (m .part) b rest f) (on .onward (linesFrom [] rest) u w)));
+          whole = rw (whole-feed seen b f) (rw (append-nil (seen ++ b ∷ []), append-nil (wrote ++ le .text)) at (more [] [] (rw lines-none ended)));
+          more = more;
         }
 
     -- a line feed, and the run is over
     pub line-over : (b : ℕ) → b ≡ 10 → r .over ≡ true → Over sheet (seen ++ b ∷ []) (wrote ++ le .text)
-    line-over b f o rest =
+    line-over b f o =
         let last : (ls : List (List ℕ)) → Written (ruleSheet x) (m .book) line (m .part ∷ ls) (le .text) = rw o at (le .ends) in
-        rw (append-snoc seen b rest) (m .more (b ∷ rest) (le .text) (rw (lines-feed (m .part) b rest f) (last (linesFrom [] rest))))
+        let whatever : (rest : List ℕ) → Printed sheet (seen ++ b ∷ [] ++ rest) (wrote ++ le .text) =
+        λ rest. rw (append-snoc seen b rest) (m .more (b ∷ rest) (le .text) (rw (lines-feed (m .part) b rest f) (last (linesFrom [] rest)))) in
+        record { whole = rw (whole-feed seen b f) (rw (append-nil (seen ++ b ∷ [])) at (whatever [])); whatever = whatever }
 
     -- the end of the input, with no line feed
     pub line-last : (m .part ≡ [] → ⊥) → Printed sheet seen (wrote ++ le .text)
@@ -109,22 +152,29 @@ Way x line q h line₁ q₁ h₁ xs ys = (sheet seen wrote : List ℕ) → Accep
 
 -- ---- a run that is over
 
+pub over-more : (sheet seen wrote : List ℕ) → Over sheet seen wrote → (more : List ℕ) → Over sheet (seen ++ more) wrote
+over-more sheet seen wrote o more = record { whole = go (hasFeed more) refl; whatever = λ rest. rw (append-assoc seen more rest) (o .whatever (more ++ rest)) }
+  where
+    go : (t : Bool) → hasFeed more ≡ t → Printed sheet (wholeLines (seen ++ more)) wrote
+    go true e = rw (whole-more seen more e) (o .whatever (wholeLines more))
+    go false e = rw (whole-same seen more e) (o .whole)
+
 pub over-all : (sheet seen chunk wrote : List ℕ) (i : ℕ) → Over sheet (seen ++ take i chunk) wrote → Over sheet (seen ++ chunk) wrote
-over-all sheet seen chunk wrote i f rest =
-    subst (λ (z : List ℕ). Printed sheet z wrote)
-    (append-assoc seen (take i chunk) (drop i chunk ++ rest) ∙ ap (λ (z : List ℕ). seen ++ z) (sym (append-assoc (take i chunk) (drop i chunk) rest) ∙ ap (λ (z : List ℕ). z ++ rest) (take-append-drop i chunk)) ∙ sym (append-assoc seen chunk rest))
-    (f (drop i chunk ++ rest))
+over-all sheet seen chunk wrote i o =
+    subst (λ (z : List ℕ). Over sheet z wrote)
+    (append-assoc seen (take i chunk) (drop i chunk) ∙ ap (λ (z : List ℕ). seen ++ z) (take-append-drop i chunk))
+    (over-more sheet (seen ++ take i chunk) wrote o (drop i chunk))
 
 module _ (sheet : List ℕ) (x : Sheet) (s : Progress) (t seen wrote : List ℕ) (st : Stands sheet x s t seen wrote) where
   pub stands-over : (chunk : List ℕ) → s .over ≡ true → Stands sheet x s t (seen ++ chunk) (wrote ++ [])
   stands-over chunk o =
       let f : Over sheet seen wrote = rw o at (st .stage) in
-      record { accepts = st .accepts; stage = rw (o, append-nil wrote) (over-all sheet seen chunk wrote 0 (rw (append-nil seen) f)) }
+      record { accepts = st .accepts; stage = rw (o, append-nil wrote) (over-more sheet seen wrote f chunk) }
 
   pub over-last : s .over ≡ true → Printed sheet seen (wrote ++ [])
   over-last o =
       let f : Over sheet seen wrote = rw o at (st .stage) in
-      rw (append-nil wrote) (rw (append-nil seen) at (f []))
+      rw (append-nil wrote) (rw (append-nil seen) at (f .whatever []))
 
   pub stands-midway : s .over ≡ false → Midway sheet x (s .line) (s .pending) (held t (s .record)) seen wrote
   stands-midway o = rw o at (st .stage)
@@ -132,7 +182,8 @@ module _ (sheet : List ℕ) (x : Sheet) (s : Progress) (t seen wrote : List ℕ)
 -- ---- the beginning
 
 pub midway-start : (sheet : List ℕ) (x : Sheet) (q : Pending) (h : Held) → AcceptedSheet sheet x → Serves sheet (ruleSheet x) emptyBook h → Scanned (x .inputs) [] q → Midway sheet x 1 q h [] []
-midway-start sheet x q h o sv s = record { book = emptyBook; part = []; serves = sv; scanned = s; more = λ rest t w. journal (o .decided) (o .reads) w }
+unfolding linesFrom wholeLines
+midway-start sheet x q h o sv s = record { book = emptyBook; part = []; serves = sv; scanned = s; whole = journal {t = []} (o .decided) (o .reads) ended; more = λ rest t w. journal (o .decided) (o .reads) w }
 
 pub refused-start : (sheet input d e : List ℕ) (q : Refusal) (r : ℕ) → Decided (sheetChecks sheet) (Refused q) → Placed d 0 (sheetRefusal q) e r → Printed sheet input (take r e)
 refused-start sheet input d e q r h w = subst (λ (z : List ℕ). Printed sheet input z) (sym (take-placed w)) (refusedSheet q h)

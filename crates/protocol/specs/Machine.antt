@@ -11,7 +11,7 @@ use Rattle.circular.specs.SheetChecks.{AcceptedSheet}
 use Rattle.circular.specs.Accepted.{IsAccepted}
 use Rattle.claims.specs.Book.{Book}
 use Rattle.claims.specs.Session.{Held, held}
-use Rattle.line_scan.specs.Lines.{linesFrom}
+use Rattle.line_scan.specs.Lines.{linesFrom, wholeLines}
 use Rattle.line_scan.specs.Scan.{Scanned}
 use Rattle.line_scan.specs.declared.Pending.{Pending}
 use Rattle.line_end.specs.Printed.{Written, Printed}
@@ -21,18 +21,20 @@ use Rattle.protocol.specs.declared.Started.{Started}
 
 -- ---- Between two bytes
 
--- The bytes `seen` have come and the bytes `wrote` have gone out. Of the line with this number the bytes `part` have come, and what the book
--- has written for the lines from it on completes what is to be written.
+-- The bytes `seen` have come and the bytes `wrote` have gone out, which is all that is written for the whole lines so far. Of the line with
+-- this number the bytes `part` have come, and what the book has written for the lines from it on completes what is to be written.
 pub record Midway (sheet : List ℕ) (x : Sheet) (line : ℕ) (q : Pending) (h : Held) (seen wrote : List ℕ) : Type 0 where
   pub book : Book
   pub part : List ℕ
   pub serves : Serves sheet (ruleSheet x) book h
   pub scanned : Scanned (x .inputs) part q
+  pub whole : Printed sheet (wholeLines seen) wrote
   pub more : (rest t : List ℕ) → Written (ruleSheet x) book line (linesFrom part rest) t → Printed sheet (seen ++ rest) (wrote ++ t)
 
 -- the run is over: nothing more is written, whatever follows
-abbrev pub Over : List ℕ → List ℕ → List ℕ → Type 0
-Over sheet seen wrote = (rest : List ℕ) → Printed sheet (seen ++ rest) wrote
+pub record Over (sheet seen wrote : List ℕ) : Type 0 where
+  pub whole : Printed sheet (wholeLines seen) wrote
+  pub whatever : (rest : List ℕ) → Printed sheet (seen ++ rest) wrote
 
 abbrev pub Stage : List ℕ → Sheet → Progress → Held → List ℕ → List ℕ → Bool → Type 0
 Stage sheet x s h seen wrote true = Over sheet seen wrote

@@ -3,8 +3,8 @@
 //!
 //! `sheet`, `circular` and `language` follow the definitions as directly as they can, and so do
 //! `pairs`, `monitor` and `journal` for verdicts, and `session` for the journal program. `random`
-//! and `cases` supply the inputs, `library` makes the calls, and `vectors` has whole sessions for a
-//! proved program that runs many.
+//! and `cases` supply the inputs, `library` makes the calls, `program` runs the journal program, and
+//! `vectors` has whole sessions for a proved program that runs many.
 
 pub mod cases;
 pub mod circular;
@@ -13,6 +13,7 @@ pub mod language;
 pub mod library;
 pub mod monitor;
 pub mod pairs;
+pub mod program;
 pub mod random;
 pub mod session;
 pub mod sheet;

@@ -17,15 +17,24 @@ pub fn run(sheet: &[u8], input: &[u8]) -> String {
 
 /// What the program writes once its sheet is accepted.
 pub fn keep(monitor: &Monitor, input: &[u8]) -> String {
+    answers(monitor, input).concat()
+}
+
+/// The same line by line, with nothing for a blank line and none for those after a refused one.
+pub fn answers(monitor: &Monitor, input: &[u8]) -> Vec<String> {
     let mut book = Book::new(monitor);
-    let mut written = String::new();
+    let mut written = Vec::new();
     for (place, line) in lines(input).into_iter().enumerate() {
         if line.is_empty() {
+            written.push(String::new());
             continue;
         }
         match answer(&mut book, line) {
-            Ok(text) => written += &text,
-            Err(number) => return written + &format!("refused {number} line {}\n", place + 1),
+            Ok(text) => written.push(text),
+            Err(number) => {
+                written.push(format!("refused {number} line {}\n", place + 1));
+                break;
+            }
         }
     }
     written

@@ -3,60 +3,12 @@
 
 use outside::cases::{longest, plain, session_sheet};
 use outside::journal::MAX_ROUNDS;
+use outside::program::Folder;
 use outside::{session, vectors};
-use std::env;
-use std::fs::{self, File};
 use std::io::{self, Write};
-use std::path::{Path, PathBuf};
-use std::process::{self, Command, Stdio};
+use std::process::Stdio;
 use std::thread;
 use std::time::Duration;
-
-/// A folder for the program to run in, with an input and perhaps a sheet.
-struct Folder {
-    program: PathBuf,
-    path: PathBuf,
-}
-
-impl Folder {
-    /// None where the program is missing, which is told even where the output of tests is held back.
-    fn new(name: &str) -> Option<Folder> {
-        let program = Path::new(env!("CARGO_MANIFEST_DIR")).join("../target/bin/journal");
-        let Ok(program) = program.canonicalize() else {
-            let told =
-                writeln!(io::stderr(), "skipped {name}: target/bin/journal is missing, `rt check journal` builds it");
-            told.expect("standard error");
-            return None;
-        };
-        let path = env::temp_dir().join(format!("journal-{}-{name}", process::id()));
-        fs::create_dir_all(&path).expect("a new folder");
-        Some(Folder { program, path })
-    }
-
-    /// What the program writes for a sheet's file, which may be missing, and an input.
-    fn run(&self, sheet: Option<&[u8]>, input: &[u8]) -> String {
-        let (place, lines) = (self.path.join("sheet.slr"), self.path.join("lines"));
-        match sheet {
-            Some(bytes) => fs::write(place, bytes).expect("a file"),
-            None if place.exists() => fs::remove_file(place).expect("a file"),
-            None => {}
-        }
-        fs::write(&lines, input).expect("a file");
-        self.written(File::open(lines).expect("a file").into())
-    }
-
-    fn written(&self, input: Stdio) -> String {
-        let done = Command::new(&self.program).current_dir(&self.path).stdin(input).output().expect("a run");
-        assert!(done.status.success() && done.stderr.is_empty(), "{:?}", done.status);
-        String::from_utf8(done.stdout).expect("plain text")
-    }
-}
-
-impl Drop for Folder {
-    fn drop(&mut self) {
-        let _ = fs::remove_dir_all(&self.path);
-    }
-}
 
 #[test]
 fn sheets_and_sessions() {
@@ -125,18 +77,15 @@ fn a_million_rounds() {
 /// Input that comes in pieces.
 #[test]
 fn pieces() {
-    let Some(folder) = Folder::new("pieces") else { return };
-    fs::write(folder.path.join("sheet.slr"), session_sheet()).expect("a file");
-    let mut command = Command::new(&folder.program);
-    command.current_dir(&folder.path).stdin(Stdio::piped()).stdout(Stdio::piped());
-    let mut child = command.spawn().expect("a run");
-    let mut pipe = child.stdin.take().expect("a pipe");
+    let Some(folder) = Folder::with_sheet("pieces", &session_sheet()) else { return };
+    let (input, mut pipe) = io::pipe().expect("a pipe");
+    let mut command = folder.command();
+    command.stdin(input);
+    let run = folder.start(command);
     for piece in ["1", "0", "\n?1\n1", "?\n00\n0", "1\n", "."] {
         pipe.write_all(piece.as_bytes()).expect("a write");
         thread::sleep(Duration::from_millis(5));
     }
     drop(pipe);
-    let done = child.wait_with_output().expect("an end");
-    let expected = "?1\n11\n?1\n11\n!!\n=!!\n# 0 2 0 2 1 400\n# 1 4 0 0 1 800\n";
-    assert_eq!(String::from_utf8(done.stdout).expect("plain text"), expected);
+    run.end().expect("?1\n11\n?1\n11\n!!\n=!!\n# 0 2 0 2 1 400\n# 1 4 0 0 1 800\n", "");
 }

@@ -1,11 +1,10 @@
 -- How a run goes on: by a byte, by a line, by a chunk, to the end of the input.
 use mathlib.Core.Path.{_≡_, refl, sym, ap, _∙_, subst}
-use mathlib.Core.Bool.{Bool, true, false, _||_, or-true}
+use mathlib.Core.Bool.{Bool, true, false}
 use mathlib.Core.List.{List, [], _∷_, _++_, append-assoc, append-nil}
 use Prim.Native.Nat.{ℕ, _+_, _≤_, _<_}
 use native.Mathlib.Omega.{arith}
 use native.Mathlib.Numerals.{add-one}
-use lib.Dec.{eqb}
 use lib.ListN.{length, take, drop, getD, take-append-drop}
 use lib.Seq.{append-snoc, take-suc}
 use borrow.Author.Tests.{eq-eqb, ne-eqb}
@@ -28,6 +27,7 @@ use Rattle.line_end.specs.LineEnd.{Serves, Onward, Ends, LineEnded, mostBytes}
 use Rattle.line_end.specs.declared.Ended.{Ended}
 use Rattle.protocol.specs.Machine.{Midway, Over, Stands}
 use Rattle.protocol.specs.declared.Progress.{Progress}
+use Rattle.protocol.proofs.WholeLines.{whole-more, whole-same, whole-byte, whole-feed}
 
 -- ---- lines
 
@@ -47,42 +47,6 @@ lines-last : (p : List ℕ) → (p ≡ [] → ⊥) → linesFrom p [] ≡ p ∷ 
 unfolding linesFrom
 lines-last [] n = absurd (n refl)
 lines-last (b ∷ p) n = refl
-
--- ---- whole lines
-
--- what follows either has a line feed, or leaves the whole lines what they were
-feed-after : (xs ys : List ℕ) → hasFeed ys ≡ true → hasFeed (xs ++ ys) ≡ true
-unfolding hasFeed
-feed-after [] ys h = h
-feed-after (b ∷ xs) ys h = rw (feed-after xs ys h) (or-true (eqb b 10))
-
-no-feed-after : (xs ys : List ℕ) → hasFeed ys ≡ false → hasFeed (xs ++ ys) ≡ hasFeed xs
-unfolding hasFeed
-no-feed-after [] ys h = h
-no-feed-after (b ∷ xs) ys h = ap (λ (z : Bool). eqb b 10 || z) (no-feed-after xs ys h)
-
-no-whole : (ys : List ℕ) → hasFeed ys ≡ false → wholeLines ys ≡ []
-unfolding wholeLines
-no-whole [] h = refl
-no-whole (b ∷ ys) h = rw h refl
-
-whole-more : (xs ys : List ℕ) → hasFeed ys ≡ true → wholeLines (xs ++ ys) ≡ xs ++ wholeLines ys
-unfolding wholeLines
-whole-more [] ys h = refl
-whole-more (b ∷ xs) ys h = rw (feed-after (b ∷ xs) ys h) (ap (λ (z : List ℕ). b ∷ z) (whole-more xs ys h))
-
-whole-same : (xs ys : List ℕ) → hasFeed ys ≡ false → wholeLines (xs ++ ys) ≡ wholeLines xs
-unfolding wholeLines
-whole-same [] ys h = no-whole ys h
-whole-same (b ∷ xs) ys h = rw (no-feed-after (b ∷ xs) ys h, whole-same xs ys h) refl
-
-whole-byte : (xs : List ℕ) (b : ℕ) → (b ≡ 10 → ⊥) → wholeLines (xs ++ b ∷ []) ≡ wholeLines xs
-unfolding hasFeed
-whole-byte xs b n = whole-same xs (b ∷ []) (rw (ne-eqb b 10 n) refl)
-
-whole-feed : (xs : List ℕ) (b : ℕ) → b ≡ 10 → wholeLines (xs ++ b ∷ []) ≡ xs ++ b ∷ []
-unfolding hasFeed wholeLines
-whole-feed xs b e = whole-more xs (b ∷ []) (rw (eq-eqb b 10 e) refl) ∙ rw (eq-eqb b 10 e) refl
 
 -- ---- places in the input and in the buffer
 

@@ -1,3 +1,4 @@
+pub mod WholeLines
 pub mod Feeding
 pub mod Chunks
 pub mod OneText

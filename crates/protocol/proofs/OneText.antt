@@ -1,8 +1,10 @@
--- What is to be written is settled: no two texts fit.
+-- What is to be written is settled: no two texts fit, and what the whole lines earn stays when the input goes on.
 use mathlib.Core.Path.{_≡_, refl, sym, ap, ap₂, _∙_, subst}
-use mathlib.Core.List.{List, [], _++_}
-use mathlib.Core.Bool.{true≢false}
+use mathlib.Core.List.{List, [], _∷_, _++_, append-assoc, append-nil}
+use mathlib.Core.Bool.{Bool, true, false, true≢false}
 use Prim.Native.Nat.{ℕ}
+use native.Mathlib.Omega.{arith}
+use lib.ListN.{length, length-append}
 use Rattle.outcomes.specs.declared.Refusal.{Refusal}
 use Rattle.outcomes.specs.declared.Outcome.the-variants.{Accepted, Refused}
 use Rattle.outcomes.specs.declared.Verdict.{Verdict}
@@ -14,9 +16,10 @@ use Rattle.circular.specs.SheetChecks.{sheetChecks}
 use Rattle.text.specs.Text.{verdictLine, closingText, lineRefusal, sheetRefusal}
 use Rattle.claims.specs.Book.{Call, Answer, refused, verdicts, closed, Book, emptyBook, counted, BookStep}
 use Rattle.claims.proofs.BookLaws.{step-unique}
-use Rattle.line_scan.specs.Lines.{Line, blank, calls, malformed, readLine, linesOf}
+use Rattle.line_scan.specs.Lines.{Line, blank, calls, malformed, readLine, linesFrom, linesOf, hasFeed, wholeLines}
 use Rattle.line_end.specs.Printed.{nextLine, Written, ended, passed, rounded, shut, turnedDown, unread, refusedSheet, journal}
-use Rattle.protocol.specs.Chunks.{OneText}
+use Rattle.protocol.specs.Chunks.{Beginning, OneText}
+use Rattle.protocol.proofs.WholeLines.{no-whole, last-feed, lines-split}
 
 -- ---- what a line stands for
 
@@ -61,44 +64,64 @@ same-refused e = cc
 
 -- ---- the lines
 
-closeText : RuleSheet → List Verdict → List ℕ → Book → List ℕ → List ℕ
-closeText x vs xs b t = closingText (outputs x) vs (counted (b .told)) xs ++ t
+-- two texts for the first lines and for all of them: the first is a beginning of the second
+abbrev Begins : List ℕ → List ℕ → Type 0
+Begins t u = (v : List ℕ) × (u ≡ t ++ v)
 
-written-once : (x : RuleSheet) {b : Book} {l : ℕ} {ls : List (List ℕ)} {t u : List ℕ} → Written x b l ls t → Written x b l ls u → t ≡ u
+begins-same : {t u : List ℕ} → u ≡ t → Begins t u
+begins-same {t} e = ([], e ∙ sym (append-nil t))
+
+begins-behind : (s t : List ℕ) {r u : List ℕ} → r ≡ s → Begins t u → Begins (s ++ t) (r ++ u)
+begins-behind s t e g = (g .0, ap₂ (λ (a b : List ℕ). a ++ b) e (g .1) ∙ sym (append-assoc s t (g .0)))
+
+closeText : RuleSheet → List Verdict → List ℕ → Book → List ℕ
+closeText x vs xs b = closingText (outputs x) vs (counted (b .told)) xs
+
+written-begins : (x : RuleSheet) {b : Book} {l : ℕ} {ls : List (List ℕ)} (ms : List (List ℕ)) {t u : List ℕ} → Written x b l ls t → Written x b l (ls ++ ms) u → Begins t u
 unfolding closeText
-written-once x ended ended = refl
-written-once x (passed p) (passed q) = written-once x p q
-written-once x (passed p) (rounded e s q) = absurd (no-call (x .inputs) e)
-written-once x (passed p) (shut e s q) = absurd (no-call (x .inputs) e)
-written-once x (passed p) (turnedDown e s) = absurd (no-call (x .inputs) e)
-written-once x (passed p) (unread e) = absurd (not-malformed (x .inputs) e)
-written-once x (rounded e s p) (passed q) = absurd (no-call (x .inputs) e)
-written-once x (rounded {b₁ = b₁} {l = l} {ls = ls} {vs = vs} {t = t} e s p) (rounded {b₁ = b₂} {vs = ws} {t = u} f r q) =
+written-begins x ms {u = u} ended q = (u, refl)
+written-begins x ms (passed p) (passed q) = written-begins x ms p q
+written-begins x ms (passed p) (rounded e s q) = absurd (no-call (x .inputs) e)
+written-begins x ms (passed p) (shut e s q) = absurd (no-call (x .inputs) e)
+written-begins x ms (passed p) (turnedDown e s) = absurd (no-call (x .inputs) e)
+written-begins x ms (passed p) (unread e) = absurd (not-malformed (x .inputs) e)
+written-begins x ms (rounded e s p) (passed q) = absurd (no-call (x .inputs) e)
+written-begins x ms (rounded {b₁ = b₁} {l = l} {ls = ls} {vs = vs} {t = t} e s p) (rounded {b₁ = b₂} {vs = ws} {t = u} f r q) =
     let g = same-step x e f s r in
-    let h : t ≡ u = written-once x p (subst (λ (k : Book). Written x k (nextLine l) ls u) (sym (g .1)) q) in
-    ap₂ (λ (v : List Verdict) (w : List ℕ). verdictLine v ++ w) (same-verdicts (g .0)) h
-written-once x (rounded e s p) (shut f r q) = absurd (no-close (same-step x e f s r .0))
-written-once x (rounded e s p) (turnedDown f r) = absurd (no-refusal (same-step x e f s r .0))
-written-once x (rounded e s p) (unread f) = absurd (one-reading e f)
-written-once x (shut e s p) (passed q) = absurd (no-call (x .inputs) e)
-written-once x (shut e s p) (rounded f r q) = absurd (no-close (sym (same-step x e f s r .0)))
-written-once x (shut {b₁ = b₁} {l = l} {ls = ls} {vs = vs} {xs = xs} {t = t} e s p) (shut {b₁ = b₂} {vs = ws} {xs = ys} {t = u} f r q) =
+    begins-behind (verdictLine vs) t (sym (ap verdictLine (same-verdicts (g .0)))) (written-begins x ms p (subst (λ (k : Book). Written x k (nextLine l) (ls ++ ms) u) (sym (g .1)) q))
+written-begins x ms (rounded e s p) (shut f r q) = absurd (no-close (same-step x e f s r .0))
+written-begins x ms (rounded e s p) (turnedDown f r) = absurd (no-refusal (same-step x e f s r .0))
+written-begins x ms (rounded e s p) (unread f) = absurd (one-reading e f)
+written-begins x ms (shut e s p) (passed q) = absurd (no-call (x .inputs) e)
+written-begins x ms (shut e s p) (rounded f r q) = absurd (no-close (sym (same-step x e f s r .0)))
+written-begins x ms (shut {b₁ = b₁} {l = l} {ls = ls} {vs = vs} {xs = xs} {t = t} e s p) (shut {b₁ = b₂} {vs = ws} {xs = ys} {t = u} f r q) =
     let g = same-step x e f s r in
     let k = same-closed (g .0) in
-    let h : t ≡ u = written-once x p (subst (λ (k : Book). Written x k (nextLine l) ls u) (sym (g .1)) q) in
-    λ i. closeText x (k .0 i) (k .1 i) (g .1 i) (h i)
-written-once x (shut e s p) (turnedDown f r) = absurd (closed-not-refused (same-step x e f s r .0))
-written-once x (shut e s p) (unread f) = absurd (one-reading e f)
-written-once x (turnedDown e s) (passed q) = absurd (no-call (x .inputs) e)
-written-once x (turnedDown e s) (rounded f r q) = absurd (no-refusal (sym (same-step x e f s r .0)))
-written-once x (turnedDown e s) (shut f r q) = absurd (closed-not-refused (sym (same-step x e f s r .0)))
-written-once x (turnedDown {l = l} e s) (turnedDown f r) = ap (λ (q : Refusal). lineRefusal q l) (same-refused (same-step x e f s r .0))
-written-once x (turnedDown e s) (unread f) = absurd (one-reading e f)
-written-once x (unread e) (passed q) = absurd (not-malformed (x .inputs) e)
-written-once x (unread e) (rounded f r q) = absurd (one-reading f e)
-written-once x (unread e) (shut f r q) = absurd (one-reading f e)
-written-once x (unread e) (turnedDown f r) = absurd (one-reading f e)
-written-once x (unread e) (unread f) = refl
+    begins-behind (closeText x vs xs b₁) t (sym (λ i. closeText x (k .0 i) (k .1 i) (g .1 i))) (written-begins x ms p (subst (λ (k : Book). Written x k (nextLine l) (ls ++ ms) u) (sym (g .1)) q))
+written-begins x ms (shut e s p) (turnedDown f r) = absurd (closed-not-refused (same-step x e f s r .0))
+written-begins x ms (shut e s p) (unread f) = absurd (one-reading e f)
+written-begins x ms (turnedDown e s) (passed q) = absurd (no-call (x .inputs) e)
+written-begins x ms (turnedDown e s) (rounded f r q) = absurd (no-refusal (sym (same-step x e f s r .0)))
+written-begins x ms (turnedDown e s) (shut f r q) = absurd (closed-not-refused (sym (same-step x e f s r .0)))
+written-begins x ms (turnedDown {l = l} e s) (turnedDown f r) = begins-same (sym (ap (λ (q : Refusal). lineRefusal q l) (same-refused (same-step x e f s r .0))))
+written-begins x ms (turnedDown e s) (unread f) = absurd (one-reading e f)
+written-begins x ms (unread e) (passed q) = absurd (not-malformed (x .inputs) e)
+written-begins x ms (unread e) (rounded f r q) = absurd (one-reading f e)
+written-begins x ms (unread e) (shut f r q) = absurd (one-reading f e)
+written-begins x ms (unread e) (turnedDown f r) = absurd (one-reading f e)
+written-begins x ms (unread e) (unread f) = begins-same refl
+
+written-once : (x : RuleSheet) {b : Book} {l : ℕ} {ls : List (List ℕ)} {t u : List ℕ} → Written x b l ls t → Written x b l ls u → t ≡ u
+written-once x {b} {l} {ls} {t} {u} p q =
+    let all : (z : List ℕ) → Written x b l ls z → Written x b l (ls ++ []) z = λ z w. rw (append-nil ls) w in
+    same t u (written-begins x [] p (all u q)) (written-begins x [] q (all t p))
+  where
+    same : (t u : List ℕ) → Begins t u → Begins u t → t ≡ u
+    same t u (v, e) (w, f) = go v (omega (arith, ap length e, ap length f, length-append t v, length-append u w)) e
+      where
+        go : (v : List ℕ) → length v ≡ 0 → u ≡ t ++ v → t ≡ u
+        go [] n e = sym (e ∙ append-nil t)
+        go (b ∷ v) n e = absurd (omega (arith, n))
 
 -- ---- the program
 
@@ -111,3 +134,23 @@ one-text sheet input t u (refusedSheet r d) (journal e f w) = absurd (not-both (
 one-text sheet input t u (journal e f w) (refusedSheet r d) = absurd (not-both (decided-once (sheetChecks sheet) (Refused r) Accepted d e))
 one-text sheet input t u (journal {x = x} d e v) (journal {x = y} f g w) =
     written-once x v (subst (λ (k : RuleSheet). Written k emptyBook 1 (linesOf input) u) (one-sheet sheet y x g e) w)
+
+-- ---- an input that goes on
+
+whole-begins : (x : RuleSheet) (input rest : List ℕ) {t u : List ℕ} → Written x emptyBook 1 (linesOf (wholeLines input)) t → Written x emptyBook 1 (linesOf (input ++ rest)) u → Begins t u
+unfolding linesFrom
+whole-begins x input rest {t} {u} p q = go (hasFeed input) refl
+  where
+    go : (f : Bool) → hasFeed input ≡ f → Begins t u
+    go true e =
+        let l = last-feed input e in
+        let ends : linesOf (input ++ rest) ≡ linesOf (l .0 ++ 10 ∷ []) ++ linesOf (l .1 ++ rest) =
+        ap (λ (z : List ℕ). linesOf (z ++ rest)) (l .2) ∙ ap linesOf (append-assoc (l .0) (10 ∷ l .1) rest) ∙ lines-split [] (l .0) (l .1 ++ rest) in
+        written-begins x (linesOf (l .1 ++ rest)) (subst (λ (z : List ℕ). Written x emptyBook 1 (linesOf z) t) (l .3) p) (subst (λ (z : List (List ℕ)). Written x emptyBook 1 z u) ends q)
+    go false e = (u, ap (λ (z : List ℕ). z ++ u) (written-once x (subst (λ (z : List ℕ). Written x emptyBook 1 (linesOf z) []) (sym (no-whole input e)) ended) p))
+
+pub beginning : Beginning
+beginning sheet input rest t u (refusedSheet r d) q = begins-same (one-text sheet (input ++ rest) u (sheetRefusal r) q (refusedSheet r d))
+beginning sheet input rest t u (journal e f w) (refusedSheet r d) = absurd (not-both (decided-once (sheetChecks sheet) (Refused r) Accepted d e))
+beginning sheet input rest t u (journal {x = x} d e v) (journal {x = y} f g w) =
+    whole-begins x input rest v (subst (λ (k : RuleSheet). Written k emptyBook 1 (linesOf (input ++ rest)) u) (one-sheet sheet y x g e) w)

@@ -8,6 +8,7 @@ use Prim.Native.Nat.{ℕ}
 use Rattle.outcomes.specs.declared.Refusal.{Refusal}
 use Rattle.outcomes.specs.declared.Outcome.the-variants.{Accepted, Refused}
 use Rattle.sheet.specs.declared.Sheet.{Sheet}
+use Rattle.line_scan.specs.Lines.{wholeLines}
 use Rattle.line_end.specs.Printed.{Printed}
 use Rattle.protocol.specs.Machine.{Begun, Goes, Finishes}
 use Rattle.protocol.specs.declared.Progress.{Progress}
@@ -28,6 +29,10 @@ pub data Run (sheet : List ℕ) : List (List ℕ) → List ℕ → Type 0 where
 -- however the input is cut
 abbrev pub AnyChunks : Type 0
 AnyChunks = (sheet : List ℕ) (chunks : List (List ℕ)) (text : List ℕ) → Run sheet chunks text → Printed sheet (flatten chunks) text
+
+-- what is written for the whole lines of an input is a beginning of what is written for all of it, however it goes on
+abbrev pub Beginning : Type 0
+Beginning = (sheet input rest t u : List ℕ) → Printed sheet (wholeLines input) t → Printed sheet (input ++ rest) u → (v : List ℕ) × (u ≡ t ++ v)
 
 -- no two texts fit a sheet and an input
 abbrev pub OneText : Type 0

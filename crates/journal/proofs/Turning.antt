@@ -79,11 +79,11 @@ pub write-turn : (x : Sheet) (d d₁ : Dialogue) (t out buf : List ℕ) (r : Rep
 write-turn x d d₁ t out buf (Moved n) g p w = rw (lt-ltb (d .from) (d .to) p) (w x t)
 write-turn x d d₁ t out buf Interrupted g p w = w x t
 write-turn x d d₁ t out buf NotReady g p w = w x t
-write-turn x d d₁ t out buf Failed g p w = λ sheet h talks. ends-unwritten sheet x d t out h talks
+write-turn x d d₁ t out buf Failed g p w = λ sheet h talks. (w x t sheet h talks, ends-unwritten sheet x d t out h talks)
 
 pub read-turn : (x : Sheet) (d d₁ : Dialogue) (t out t₁ out₁ buf : List ℕ) (r : Reply) (g : Bool) → d .more ≡ true → d .to ≤ d .from → Read x d t out buf r d₁ t₁ out₁
     → Goes x d t out buf (record { reply = r; dialogue = d₁; going = g; end = InputFailed }) t₁ out₁ (goesOn r)
 read-turn x d d₁ t out t₁ out₁ buf (Moved n) g m s w = rw (le-ltb (d .from) (d .to) s) w
 read-turn x d d₁ t out t₁ out₁ buf Interrupted g m s w = w
 read-turn x d d₁ t out t₁ out₁ buf NotReady g m s w = w
-read-turn x d d₁ t out t₁ out₁ buf Failed g m s w = λ sheet h talks. ends-unread sheet x d t out h talks m s
+read-turn x d d₁ t out t₁ out₁ buf Failed g m s w = λ sheet h talks. (w sheet h talks, ends-unread sheet x d t out h talks m s)

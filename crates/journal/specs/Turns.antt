@@ -2,16 +2,16 @@
 use mathlib.Core.Path.{_≡_}
 use mathlib.Core.Bool.{Bool, true, false, cond}
 use mathlib.Core.List.{List, []}
-use Prim.Native.Nat.{ℕ, _+_, _≤_}
+use Prim.Native.Nat.{ℕ, _+_, _≤_, _<_}
 use lib.Dec.{ltb}
 use lib.ListN.{length, take, drop}
 use Rattle.sheet.specs.declared.Sheet.{Sheet}
-use Rattle.dialogue.specs.History.{Event, came, went, again, Ends, Served, FirstBytes}
+use Rattle.dialogue.specs.History.{Event, came, went, again, Ends, FirstBytes}
 use Rattle.dialogue.specs.Talks.{Talks, Steps}
 use Rattle.dialogue.specs.declared.Dialogue.{Dialogue}
-use Rattle.dialogue.specs.declared.End.{End}
 use Rattle.dialogue.specs.declared.Reply.{Reply}
 use Rattle.dialogue.specs.declared.Reply.the-variants.{Moved, Interrupted, NotReady, Failed}
+use Rattle.journal.specs.declared.Ended.{Ended}
 use Rattle.journal.specs.declared.Loaded.{Loaded}
 use Rattle.journal.specs.declared.Turned.{Turned}
 use Rattle.journal.specs.declared.Loaded.the-variants.{Bytes, Missing, Unopened, Unread}
@@ -50,11 +50,12 @@ eventOf d out buf Failed = again
 -- a turn, and whether it goes on: by its event, or to the end
 abbrev pub Goes : Sheet → Dialogue → List ℕ → List ℕ → List ℕ → Turned → List ℕ → List ℕ → Bool → Type 0
 Goes x d t out buf r t₁ out₁ true = Steps x d t out (eventOf d out buf (r .reply)) (r .dialogue) t₁ out₁
-Goes x d t out buf r t₁ out₁ false = (sheet : List ℕ) (h : List Event) → Talks sheet x d t out h → Ends sheet h (r .end)
+Goes x d t out buf r t₁ out₁ false = (sheet : List ℕ) (h : List Event) → Talks sheet x d t out h → Talks sheet x (r .dialogue) t₁ out₁ h × Ends sheet h (r .end)
 
--- from the first call to the end
-abbrev pub Serves : Sheet → Dialogue → List ℕ → List ℕ → ℕ → End → Type 0
-Serves x d t out calls end = (sheet : List ℕ) → Talks sheet x d t out [] → Served sheet calls end
+-- from the first call to the end: as many events as calls, which lead to where the talk, the storage and the buffer stand at the end
+abbrev pub Serves : Sheet → Dialogue → List ℕ → List ℕ → Ended → List ℕ → List ℕ → Type 0
+Serves x d t out r t₁ out₁ =
+    (sheet : List ℕ) → Talks sheet x d t out [] → (h : List Event) × (length h ≡ r .calls) × Talks sheet x (r .dialogue) t₁ out₁ h × Ends sheet h (r .end)
 
 -- ---- the sheet's file
 
@@ -62,9 +63,9 @@ Serves x d t out calls end = (sheet : List ℕ) → Talks sheet x d t out [] →
 abbrev pub Added : List ℕ → ℕ → List ℕ → Reply → Type 0
 Added bytes n bytes₁ r = (take n bytes₁ ≡ take n bytes) × ((k : ℕ) → r ≡ Moved k → n + k ≤ length bytes₁)
 
--- what was made of the file: the bytes that it gave, if any
-abbrev pub Gave : Loaded → List ℕ → ℕ → Type 0
-Gave (Bytes n) bytes calls = (n ≤ length bytes) × FirstBytes (length bytes) (take n bytes) calls
-Gave Missing bytes calls = Unit {0}
-Gave Unopened bytes calls = Unit {0}
-Gave Unread bytes calls = Unit {0}
+-- What was made of the file. It gave n bytes: if there was room for more, the last read said that it was at its end.
+abbrev pub Gave : Loaded → Reply → List ℕ → ℕ → Type 0
+Gave (Bytes n) r bytes calls = (n ≤ length bytes) × (n < length bytes → r ≡ Moved 0) × FirstBytes (length bytes) (take n bytes) calls
+Gave Missing r bytes calls = Unit {0}
+Gave Unopened r bytes calls = Unit {0}
+Gave Unread r bytes calls = Unit {0}

@@ -29,10 +29,11 @@ struct Turned {
     end: End,
 }
 
-// How a run ended, and how many calls went before its end.
+// How a run ended, how many calls went before its end, and where the talk then stood.
 struct Ended {
     end: End,
     calls: u64,
+    dialogue: Dialogue,
 }
 
 // How many bytes the sheet's file gave, or why none.
@@ -43,9 +44,10 @@ enum Loaded {
     Unread,
 }
 
-// What came of the sheet's file, by so many reads.
+// What came of the sheet's file, what the system said last, and how many reads there were.
 struct Reading {
     loaded: Loaded,
+    reply: Reply,
     calls: u64,
 }
 
@@ -153,7 +155,7 @@ fn turn(x: Sheet, d: Dialogue, storage: &mut [u64], buf: &mut [u8], out: &mut [u
 // All turns. A proved loop has to end, and nothing says that the input does, so the calls are counted.
 fn run(x: Sheet, start: Dialogue, storage: &mut [u64], out: &mut [u8]) -> Ended
     requires { ⌜ Wants x start × (64470 ≤ length (now out)) × Within start (now out) ⌝ }
-    ensures { λ r. ⌜ Serves x start (now (storage .entry)) (now (out .entry)) (r .calls) (r .end) ⌝ }
+    ensures { λ r. ⌜ Serves x start (now (storage .entry)) (now (out .entry)) r (now (storage .exit)) (now (out .exit)) ⌝ }
 {
     let mut buf = [0u8; 8000];
     let mut d = start;
@@ -163,13 +165,18 @@ fn run(x: Sheet, start: Dialogue, storage: &mut [u64], out: &mut [u8]) -> Ended
         d = turned.dialogue;
         if !turned.going {
             let end = turned.end;
-            return Ended { end, calls };
+            return Ended {
+                end,
+                calls,
+                dialogue: d,
+            };
         }
         calls += 1;
     }
     Ended {
         end: End::Unfinished,
         calls,
+        dialogue: d,
     }
 }
 
@@ -196,7 +203,7 @@ fn read_more(fd: i32, bytes: &mut [u8], n: usize) -> Reply
 
 // Reads until `bytes` is full or the file is at its end.
 fn read_file(fd: i32, bytes: &mut [u8]) -> Reading
-    ensures { λ r. ⌜ Gave (r .loaded) (now (bytes .exit)) (r .calls) ⌝ }
+    ensures { λ r. ⌜ Gave (r .loaded) (r .reply) (now (bytes .exit)) (r .calls) ⌝ }
 {
     let mut n = 0;
     let mut calls = 0u64;
@@ -206,22 +213,39 @@ fn read_file(fd: i32, bytes: &mut [u8]) -> Reading
         if let Reply::Moved(k) = reply {
             if k == 0 {
                 let loaded = Loaded::Bytes(n);
-                return Reading { loaded, calls };
+                return Reading {
+                    loaded,
+                    reply,
+                    calls,
+                };
             }
             n += k;
             continue;
         }
         if !wait(reply) {
             let loaded = Loaded::Unread;
-            return Reading { loaded, calls };
+            return Reading {
+                loaded,
+                reply,
+                calls,
+            };
         }
     }
+    let reply = Reply::NotReady;
     if n < bytes.len() {
         let loaded = Loaded::Unread;
-        return Reading { loaded, calls };
+        return Reading {
+            loaded,
+            reply,
+            calls,
+        };
     }
     let loaded = Loaded::Bytes(n);
-    Reading { loaded, calls }
+    Reading {
+        loaded,
+        reply,
+        calls,
+    }
 }
 
 // Opens the file for reading, again where a signal came in between.
@@ -237,7 +261,7 @@ fn open_file(path: &[u8]) -> i32 {
 
 // The first bytes of the sheet's file. It is closed before anything else is read, as it may have taken the place of standard input.
 fn load(bytes: &mut [u8]) -> Reading
-    ensures { λ r. ⌜ Gave (r .loaded) (now (bytes .exit)) (r .calls) ⌝ }
+    ensures { λ r. ⌜ Gave (r .loaded) (r .reply) (now (bytes .exit)) (r .calls) ⌝ }
 {
     let fd = open_file(b"sheet.slr");
     if fd >= 0 {
@@ -248,12 +272,21 @@ fn load(bytes: &mut [u8]) -> Reading
         }
         return reading;
     }
+    let reply = Reply::Failed;
     if os::errno() == libc::ENOENT {
         let loaded = Loaded::Missing;
-        return Reading { loaded, calls: 0 };
+        return Reading {
+            loaded,
+            reply,
+            calls: 0,
+        };
     }
     let loaded = Loaded::Unopened;
-    Reading { loaded, calls: 0 }
+    Reading {
+        loaded,
+        reply,
+        calls: 0,
+    }
 }
 
 // Says on standard error what failed, if anything did.

@@ -1,9 +1,10 @@
 -- `journal::read_file` meets its contract.
-use mathlib.Core.Path.{_≡_, refl}
-use Prim.Native.Nat.{_-_, _≤_}
+use mathlib.Core.Path.{_≡_, refl, ap}
+use Prim.Native.Nat.{ℕ, _-_, _≤_}
 use native.Mathlib.Omega.{arith}
 use lib.ListN.{length, take}
 use borrow.Author.Needs.{needs}
+use Rattle.dialogue.specs.declared.Reply.the-variants.{Moved}
 use Rattle.journal.proofs.Filling.{Given, given-none, given-more, given-again, given-end, given-full}
 use Rattle.journal.proofs.read_file.Statement.{statement}
 use Rattle.journal.proofs.read_file.Tie as tie
@@ -33,7 +34,7 @@ returns : tie.Need-returns Inv-loop μ-loop
 returns c =
     let l = c .before .before .before .before .before .before .before .before .before .before .loop in
     let r = c .before .before .before .before .before .before .read-more in
-    (omega (arith, l .inv .1, r .kept .1 .0), given-end _ _ (l .n) (l .calls) (l .inv .2) (r .ensures .0) _)
+    (omega (arith, l .inv .1, r .kept .1 .0), (λ h. ap (λ (k : ℕ). Moved k) (c .if2 .taken)), given-end _ _ (l .n) (l .calls) (l .inv .2) (r .ensures .0) _)
 
 add-n : tie.Need-add-n Inv-loop μ-loop
 add-n c =
@@ -81,7 +82,7 @@ same-length-4 c = search needs
 returns-4 : tie.Need-returns-4 Inv-loop μ-loop
 returns-4 c =
     let l = c .before .before .loop in
-    (l .inv .1, given-full _ (l .n) (l .calls) (l .inv .2) (l .inv .1) (c .if4 .left))
+    (l .inv .1, (λ h. absurd (omega (arith, h, c .if4 .left))), given-full _ (l .n) (l .calls) (l .inv .2) (l .inv .1) (c .if4 .left))
 
 pub read-file-spec : {M : Type 1} → statement M
 read-file-spec =

@@ -43,7 +43,8 @@ returns c =
     let ends = rw (not-true (t .result .going) (c .if1 .taken)) at (t .ensures .0) in
     λ sheet talks.
     let k = l .inv .5 sheet talks in
-    (k .0, k .1, k .2 .prompt, ends sheet (k .0) (k .2))
+    let e = ends sheet (k .0) (k .2) in
+    (k .0, k .1, e .0, e .1)
 
 add-calls : tie.Need-add-calls Inv-loop μ-loop
 add-calls c = search needs
@@ -77,7 +78,7 @@ returns-2 c =
     let l = c .before .loop in
     λ sheet talks.
     let k = l .inv .5 sheet talks in
-    (k .0, k .1, k .2 .prompt, ends-early sheet _ _ _ _ (k .0) (k .2))
+    (k .0, k .1, k .2, ends-early sheet _ _ _ _ (k .0) (k .2))
 
 pub run-spec : {M : Type 1} → statement M
 run-spec =

@@ -25,7 +25,7 @@ run-requires : tie.Need-run-requires
 run-requires c κs = search needs
 
 returns : tie.Need-returns
-returns c = c .before .before .run .ensures _ (c .before .before .before .before .before .before .before .before .before .«open» .ensures .0)
+returns c = let r = c .before .before .run .ensures _ (c .before .before .before .before .before .before .before .before .before .«open» .ensures .0) in (r .0, r .1, r .2 .prompt, r .3)
 
 pub serve-spec : {M : Type 1} → statement M
 serve-spec =

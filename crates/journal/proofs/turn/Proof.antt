@@ -52,7 +52,7 @@ returns-2 c =
 returns-3 : tie.Need-returns-3
 returns-3 c =
     let start = c .before .before .before .before .before .before in
-    ((λ sheet h talks. ends-whole sheet (start .args .x) (start .args .d) _ _ h talks (c .if2 .left) (c .before .if1 .left)), (start .pre .0, start .pre .2))
+    ((λ sheet h talks. (talks, ends-whole sheet (start .args .x) (start .args .d) _ _ h talks (c .if2 .left) (c .before .if1 .left))), (start .pre .0, start .pre .2))
 
 pub turn-spec : {M : Type 1} → statement M
 turn-spec =

@@ -13,7 +13,7 @@ use borrow.Author.Tests.{eqb-true, not-false}
 use Rattle.words.specs.Bits.{bit, digit}
 use Rattle.words.proofs.BitLaws.{bit-or, bit-none, bit-shr}
 use Rattle.words.proofs.Bools.{or-none}
-use Rattle.sheet.specs.Expression.{constant}
+use Rattle.sheet.specs.Expression.{constant, newest}
 use Rattle.sheet.specs.RuleSheet.{outputs}
 use Rattle.sheet.specs.Reading.{ruleSheet, Usable}
 use Rattle.sheet.specs.declared.Sheet.{Sheet}
@@ -90,7 +90,7 @@ module _ (x : Sheet) (u : Usable x) (ws : List ℕ) (r : OutputWords (x .code) (
       go : Dec (s < x .outputs) → readIn (getD ws s 0) (x .inputs + q) o ≡ hasRead (getD (ruleSheet x .expressions) s (constant false)) (x .inputs + q) o
       go (yes h) =
           rw (tree-at (x .inputs + x .outputs) (x .code) (x .len) (x .outputs) s (constant false) h)
-          (r .rows s l .there h .reads (x .inputs + x .outputs) _ (u .parts s h .parses) (x .inputs + q) o)
+          (r .rows s l .there h .reads (newest (x .inputs + x .outputs)) _ (u .parts s h .parses) (x .inputs + q) o)
       go (no h) =
           rw (r .rows s l .absent (omega arith), List·getD-eq-default (ruleSheet x .expressions) (constant false) {n = s} (omega (arith, outputs-are)))
           (none-in (x .inputs + q) o)

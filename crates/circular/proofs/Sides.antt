@@ -1,13 +1,13 @@
 -- The right sides of a sheet depend only on the values that are read.
 use mathlib.Core.Path.{_≡_, refl, ap, ap₂}
-use mathlib.Core.Bool.{Bool, true, false, cond, not, _&&_, _||_}
+use mathlib.Core.Bool.{Bool, true, false, cond, not, _&&_, _||_, Bool·beq}
 use Prim.Native.Nat.{ℕ, suc, _+_, _-_, _*_, _≤_, _<_}
 use native.Mathlib.Omega.{arith}
 use lib.ListN.{getD}
 use lib.Dec.{leb, ltb, eqb}
 use borrow.Author.Tests.{ltb-false, leb-true, eq-eqb}
 use Rattle.words.proofs.Bools.{and-split, and-join, or-first, or-second}
-use Rattle.sheet.specs.Expression.{Expr, constant, negation, conjunction, disjunction, read}
+use Rattle.sheet.specs.Expression.{Expr, constant, negation, conjunction, disjunction, equality, read, newest}
 use Rattle.sheet.specs.Postfix.{InSheet}
 use Rattle.sheet.specs.RuleSheet.{RuleSheet, outputs}
 use Rattle.sheet.specs.declared.Offset.{Offset}
@@ -34,6 +34,7 @@ value-same f g h (constant c) = refl
 value-same f g h (negation e) = ap not (value-same f g h e)
 value-same f g h (conjunction a b) = ap₂ _&&_ (value-same f g h a) (value-same f g h b)
 value-same f g h (disjunction a b) = ap₂ _||_ (value-same f g h a) (value-same f g h b)
+value-same f g h (equality a b) = ap₂ Bool·beq (value-same f g h a) (value-same f g h b)
 value-same f g h (read q o d) = h q o d
 
 offset-le : (o : Offset) → offsetNo o ≤ 2
@@ -46,7 +47,7 @@ module _ (m n N t : ℕ) (xs v w : Assignment) where
   abbrev Agree : Expr → Type 0
   Agree e = (q u o : ℕ) → hasRead e (m + q) o ≡ true → q < n → o ≤ 2 → u + 1 ≡ t + o → 1 ≤ u → u ≤ N → v q u ≡ w q u
 
-  value-only : (e : Expr) → InSheet (m + n) e → Agree e → value (lookAt m N xs v t) e ≡ value (lookAt m N xs w t) e
+  value-only : (e : Expr) → InSheet (newest (m + n)) e → Agree e → value (lookAt m N xs v t) e ≡ value (lookAt m N xs w t) e
   unfolding value hasRead lookAt joint InSheet
   value-only (constant c) h a = refl
   value-only (negation e) h a = ap not (value-only e h a)
@@ -58,6 +59,10 @@ module _ (m n N t : ℕ) (xs v w : Assignment) where
       ap₂ _||_
       (value-only e (h .0) (λ q u o r. a q u o (or-first (hasRead e (m + q) o) (hasRead f (m + q) o) r)))
       (value-only f (h .1) (λ q u o r. a q u o (or-second (hasRead e (m + q) o) (hasRead f (m + q) o) r)))
+  value-only (equality e f) h a =
+      ap₂ Bool·beq
+      (value-only e (h .1) (λ q u o r. a q u o (or-first (hasRead e (m + q) o) (hasRead f (m + q) o) r)))
+      (value-only f (h .2) (λ q u o r. a q u o (or-second (hasRead e (m + q) o) (hasRead f (m + q) o) r)))
   value-only (read q f d) h a = inside (leb 2 (t + o) && leb (t + o) (suc N)) refl
     where
       o : ℕ

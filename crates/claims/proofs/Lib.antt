@@ -8,4 +8,5 @@ pub mod Further
 pub mod Tidy
 pub mod Forgotten
 pub mod Longest
+pub mod Versions
 pub mod Share

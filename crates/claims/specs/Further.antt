@@ -1,14 +1,17 @@
--- Further sentences of 01, "The sheet", "Completions and verdicts" and "Tallies", as types.
+-- Further sentences of 01, "The sheet", "Completions and verdicts" and "Tallies", and of 02, W1, as types.
 -- Manual: "The sheet", "Completions and verdicts", "Preparation", "Tallies".
 use mathlib.Core.Path.{_≡_}
 use mathlib.Core.Bool.{false}
 use mathlib.Core.List.{List, [], _∷_, _++_}
 use mathlib.Core.Option.{Option}
 use Prim.Native.Nat.{ℕ, _+_, _≤_, _<_}
-use lib.ListN.{length}
+use lib.ListN.{length, getD}
 use Rattle.outcomes.specs.declared.Verdict.{Verdict}
 use Rattle.outcomes.specs.declared.Verdict.the-variants.{Broken}
 use Rattle.outcomes.specs.declared.Outcome.the-variants.{Accepted}
+use Rattle.sheet.specs.Expression.{constant}
+use Rattle.sheet.specs.Header.{versionOf}
+use Rattle.sheet.specs.Postfix.{InSheet}
 use Rattle.sheet.specs.RuleSheet.{RuleSheet, outputs, streams, accepted, readSheet}
 use Rattle.circular.specs.SheetChecks.{OfSheet}
 use Rattle.record.specs.Record.{maxRounds, sumAt}
@@ -26,6 +29,18 @@ use Rattle.claims.specs.Session.{Held, held, Session}
 -- a sheet that is read has at most 463 bytes (01, "The sheet")
 abbrev pub LongestSheet : Type 0
 LongestSheet = (bs : List ℕ) (x : RuleSheet) → readSheet bs ≡ accepted x → length bs ≤ 463
+
+-- a sheet of version 1 has no equality in any expression (02, W1)
+abbrev pub VersionOne : Type 0
+VersionOne =
+    (bs : List ℕ) (x : RuleSheet) → versionOf bs ≡ 1 → readSheet bs ≡ accepted x
+    → (k : ℕ) → k < outputs x → InSheet (record { version = 1; streams = streams x }) (getD (x .expressions) k (constant false))
+
+-- what is read as a sheet of version 1 is read as the same sheet where its bytes say version 2 (02, W1)
+abbrev pub VersionsAgree : Type 0
+VersionsAgree =
+    (a b c : ℕ) (bs : List ℕ) (x : RuleSheet)
+    → readSheet (a ∷ (b ∷ (c ∷ (1 ∷ (0 ∷ bs))))) ≡ accepted x → readSheet (a ∷ (b ∷ (c ∷ (2 ∷ (0 ∷ bs))))) ≡ accepted x
 
 -- every sheet of at most 8 streams (01, "The sheet", allows no more) has a set of just its live pairs, so that they have an exact number (01,
 -- "Completions and verdicts")

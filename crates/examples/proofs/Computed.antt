@@ -19,7 +19,7 @@ use Rattle.words.proofs.Tests.{and-left, and-right, true-of, of-true}
 use Rattle.words.proofs.Options.{nothing, same-some}
 use Rattle.sheet.specs.Bytes.{opOf, readsOf}
 use Rattle.sheet.specs.Expression.{applyOp, final, parse}
-use Rattle.sheet.specs.Header.{markOk, versionOf, countsOk, assumedAt, headerOf}
+use Rattle.sheet.specs.Header.{markOk, versionOf, versionOk, countsOk, assumedAt, headerOf}
 use Rattle.sheet.specs.RuleSheet.{RuleSheet, outputs, streams, readOutputs, readSheet}
 use Rattle.sheet.proofs.Formed.{read-formed}
 use Rattle.lola.specs.Value.{value, near}
@@ -223,7 +223,7 @@ none-fails k (d ∷ cs) h i c e = go (works d) refl h (none-fails (suc k) cs) i 
     go true w h more (suc j) e = more h j c e
 
 computed : failing 0 table ≡ []
-unfolding failing works table one-input session allOf below satisfied gives deep liveSet reachedSet masked startSet pairsVerdict endsVerdict layer liveWithin endSet backSet anyPair anyNext anyBelow countPairs countBelow sumBelow holds equations value near bit digit allowed allTrue readSheet headerOf markOk versionOf countsOk assumedAt readOutputs parse final applyOp opOf readsOf circular? circularAt atLeast0 Best top larger plus loop pick blow turned edges hasRead
+unfolding failing works table one-input session allOf below satisfied gives deep liveSet reachedSet masked startSet pairsVerdict endsVerdict layer liveWithin endSet backSet anyPair anyNext anyBelow countPairs countBelow sumBelow holds equations value near bit digit allowed allTrue readSheet headerOf markOk versionOf versionOk countsOk assumedAt readOutputs parse final applyOp opOf readsOf circular? circularAt atLeast0 Best top larger plus loop pick blow turned edges hasRead
 computed = refl
 
 -- The marked examples.

@@ -5,7 +5,7 @@ use lib.Dec.{T}
 use Rattle.words.specs.Below.{anyBelow}
 use Rattle.sheet.specs.Bytes.{opOf, readsOf}
 use Rattle.sheet.specs.Expression.{applyOp, final, parse}
-use Rattle.sheet.specs.Header.{markOk, versionOf, countsOk, assumedAt, headerOf}
+use Rattle.sheet.specs.Header.{markOk, versionOf, versionOk, countsOk, assumedAt, headerOf}
 use Rattle.sheet.specs.RuleSheet.{readOutputs, readSheet}
 use Rattle.lola.specs.Reads.{hasRead}
 use Rattle.circular.specs.Circular.{edges}
@@ -16,7 +16,7 @@ use Rattle.examples.specs.Longest.{longOutputs, longest, LongestMet}
 use Rattle.examples.proofs.Accepted.{allOf, ofReading, read-passed, levelTest, accepted-as}
 
 tested : T (ofReading (readSheet longest) (λ x. levelTest x ∷ []))
-unfolding allOf longest longOutputs one-input anyBelow readSheet headerOf markOk versionOf countsOk assumedAt readOutputs parse final applyOp opOf readsOf circular? circularAt atLeast0 Best top larger plus loop pick blow turned edges hasRead
+unfolding allOf longest longOutputs one-input anyBelow readSheet headerOf markOk versionOf versionOk countsOk assumedAt readOutputs parse final applyOp opOf readsOf circular? circularAt atLeast0 Best top larger plus loop pick blow turned edges hasRead
 tested = tt
 
 pub longest-met : LongestMet

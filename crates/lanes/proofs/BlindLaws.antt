@@ -1,6 +1,6 @@
 -- The equations see of the round before only the streams that some expression reads there.
 use mathlib.Core.Path.{_≡_, refl, sym, ap, ap₂, _∙_}
-use mathlib.Core.Bool.{Bool, true, false, not, _&&_, _||_}
+use mathlib.Core.Bool.{Bool, true, false, not, _&&_, _||_, Bool·beq}
 use mathlib.Core.List.{List, []}
 use mathlib.Core.Option.{Option, some}
 use Prim.Native.Nat.{ℕ, _+_, _≤_, _<_}
@@ -11,7 +11,7 @@ use borrow.Author.Tests.{eq-eqb}
 use Rattle.words.specs.Bits.{bit}
 use Rattle.words.proofs.BitLaws.{bit-and}
 use Rattle.words.proofs.Bools.{or-first, or-second}
-use Rattle.sheet.specs.Expression.{Expr, constant, negation, conjunction, disjunction, read, parse}
+use Rattle.sheet.specs.Expression.{Expr, constant, negation, conjunction, disjunction, equality, read, newest, parse}
 use Rattle.sheet.specs.Reading.{treeOf, codeAt}
 use Rattle.sheet.specs.declared.Offset.the-variants.{Earlier, Now, Later}
 use Rattle.lola.specs.Value.{value, near, neighbours}
@@ -26,16 +26,16 @@ use Rattle.lanes.proofs.CodeLaws.{agreed-same, agreed-holds}
 
 -- the word w has every read of the round before that an expression below k has
 pub record Covers (s : ℕ) (code len : List ℕ) (w k : ℕ) : Type 0 where
-  pub has : (j : ℕ) → j < k → (q : ℕ) → hasRead (treeOf (parse s [] (codeAt code len j))) q 0 ≡ true → readIn w q 0 ≡ true
+  pub has : (j : ℕ) → j < k → (q : ℕ) → hasRead (treeOf (parse (newest s) [] (codeAt code len j))) q 0 ≡ true → readIn w q 0 ≡ true
 
 pub covers-none : (s : ℕ) (code len : List ℕ) (w : ℕ) → Covers s code len w 0
 covers-none s code len w = record { has = λ j h. absurd (omega arith) }
 
-pub covers-more : (s : ℕ) (code len : List ℕ) (w k x : ℕ) → Covers s code len w k → ((q o : ℕ) → readIn x q o ≡ hasRead (treeOf (parse s [] (codeAt code len k))) q o)
+pub covers-more : (s : ℕ) (code len : List ℕ) (w k x : ℕ) → Covers s code len w k → ((q o : ℕ) → readIn x q o ≡ hasRead (treeOf (parse (newest s) [] (codeAt code len k))) q o)
     → Covers s code len (bitOr w x) (k + 1)
 covers-more s code len w k x f g =
     record {
-      has = below-more (λ j. (q : ℕ) → hasRead (treeOf (parse s [] (codeAt code len j))) q 0 ≡ true → readIn (bitOr w x) q 0 ≡ true) k
+      has = below-more (λ j. (q : ℕ) → hasRead (treeOf (parse (newest s) [] (codeAt code len j))) q 0 ≡ true → readIn (bitOr w x) q 0 ≡ true) k
           (λ j h q e. read-or w x q 0 ∙ or-first (readIn w q 0) (readIn x q 0) (f .has j h q e))
           (λ q e. read-or w x q 0 ∙ or-second (readIn w q 0) (readIn x q 0) (g q 0 ∙ e));
     }
@@ -53,6 +53,8 @@ value-blind a a′ b c (conjunction x y) f =
     ap₂ _&&_ (value-blind a a′ b c x (λ q e. f q (or-first (hasRead x q 0) (hasRead y q 0) e))) (value-blind a a′ b c y (λ q e. f q (or-second (hasRead x q 0) (hasRead y q 0) e)))
 value-blind a a′ b c (disjunction x y) f =
     ap₂ _||_ (value-blind a a′ b c x (λ q e. f q (or-first (hasRead x q 0) (hasRead y q 0) e))) (value-blind a a′ b c y (λ q e. f q (or-second (hasRead x q 0) (hasRead y q 0) e)))
+value-blind a a′ b c (equality x y) f =
+    ap₂ Bool·beq (value-blind a a′ b c x (λ q e. f q (or-first (hasRead x q 0) (hasRead y q 0) e))) (value-blind a a′ b c y (λ q e. f q (or-second (hasRead x q 0) (hasRead y q 0) e)))
 value-blind a a′ b c (read q Earlier d) f = f q (ap (λ (u : Bool). u && true) (eq-eqb q q refl))
 value-blind a a′ b c (read q Now d) f = refl
 value-blind a a′ b c (read q Later d) f = refl

@@ -9,7 +9,7 @@ use native.Mathlib.Numerals.{add-one}
 use native.Mathlib.Omega.{arith}
 use lib.ListN.{length, getD, take, drop}
 use Rattle.words.specs.Bits.{bit}
-use Rattle.sheet.specs.Expression.{Expr, parse, tree}
+use Rattle.sheet.specs.Expression.{Expr, newest, parse, tree}
 use Rattle.sheet.specs.Reading.{treeOf, codeAt, treesOf}
 use Rattle.sheet.specs.declared.Offset.{Offset}
 use Rattle.sheet.proofs.Sheets.{length-trees}
@@ -43,22 +43,22 @@ module _ (look : Look) (s : ℕ) (code len : List ℕ) (q v : ℕ) where
   unfolding treesOf agreed
   agreed-none = refl
 
-  agreed-suc : (k : ℕ) → firstAgreed (suc k) ≡ (firstAgreed k && Bool·beq (bit (q + k) v) (value look (treeOf (parse s [] (codeAt code len k)))))
+  agreed-suc : (k : ℕ) → firstAgreed (suc k) ≡ (firstAgreed k && Bool·beq (bit (q + k) v) (value look (treeOf (parse (newest s) [] (codeAt code len k)))))
   unfolding treesOf
   agreed-suc k =
-      agreed-snoc look (treesOf s code len k) (treeOf (parse s [] (codeAt code len k))) q v
-      ∙ ap (λ (r : ℕ). firstAgreed k && Bool·beq (bit (q + r) v) (value look (treeOf (parse s [] (codeAt code len k))))) (length-trees s code len k)
+      agreed-snoc look (treesOf s code len k) (treeOf (parse (newest s) [] (codeAt code len k))) q v
+      ∙ ap (λ (r : ℕ). firstAgreed k && Bool·beq (bit (q + r) v) (value look (treeOf (parse (newest s) [] (codeAt code len k))))) (length-trees s code len k)
 
-  pub agreed-more : (k : ℕ) (u w : Bool) → u ≡ firstAgreed k → w ≡ Bool·beq (value look (treeOf (parse s [] (codeAt code len k)))) (bit (q + k) v)
+  pub agreed-more : (k : ℕ) (u w : Bool) → u ≡ firstAgreed k → w ≡ Bool·beq (value look (treeOf (parse (newest s) [] (codeAt code len k)))) (bit (q + k) v)
       → (u && w) ≡ firstAgreed (k + 1)
   agreed-more k u w e f =
-      ap₂ _&&_ e (f ∙ beq-comm (value look (treeOf (parse s [] (codeAt code len k)))) (bit (q + k) v)) ∙ sym (agreed-suc k) ∙ ap firstAgreed (sym (add-one k))
+      ap₂ _&&_ e (f ∙ beq-comm (value look (treeOf (parse (newest s) [] (codeAt code len k)))) (bit (q + k) v)) ∙ sym (agreed-suc k) ∙ ap firstAgreed (sym (add-one k))
 
   -- an equation that fails is enough
   agreed-fails : (k d : ℕ) → firstAgreed k ≡ false → firstAgreed (k + d) ≡ false
   agreed-fails k zero e = ap firstAgreed (omega arith) ∙ e
   agreed-fails k (suc d) e =
-      ap firstAgreed (add-suc k d) ∙ agreed-suc (k + d) ∙ ap (λ (u : Bool). u && Bool·beq (bit (q + (k + d)) v) (value look (treeOf (parse s [] (codeAt code len (k + d)))))) (agreed-fails k d e)
+      ap firstAgreed (add-suc k d) ∙ agreed-suc (k + d) ∙ ap (λ (u : Bool). u && Bool·beq (bit (q + (k + d)) v) (value look (treeOf (parse (newest s) [] (codeAt code len (k + d)))))) (agreed-fails k d e)
 
   pub agreed-stop : (k n : ℕ) → k ≤ n → firstAgreed k ≡ false → false ≡ firstAgreed n
   agreed-stop k n h e = let z : k + (n - k) ≡ n = omega arith in sym (ap firstAgreed (sym z) ∙ agreed-fails k (n - k) e)
@@ -70,7 +70,7 @@ module _ (look : Look) (s : ℕ) (code len : List ℕ) (q v : ℕ) where
 
 -- the equations agree where the values of the expressions do
 pub agreed-same : (look look′ : Look) (s : ℕ) (code len : List ℕ) (q v k : ℕ)
-    → ((j : ℕ) → j < k → value look (treeOf (parse s [] (codeAt code len j))) ≡ value look′ (treeOf (parse s [] (codeAt code len j))))
+    → ((j : ℕ) → j < k → value look (treeOf (parse (newest s) [] (codeAt code len j))) ≡ value look′ (treeOf (parse (newest s) [] (codeAt code len j))))
     → agreed look (treesOf s code len k) q v ≡ agreed look′ (treesOf s code len k) q v
 agreed-same look look′ s code len q v zero f = agreed-none look s code len q v ∙ sym (agreed-none look′ s code len q v)
 agreed-same look look′ s code len q v (suc k) f =
@@ -93,7 +93,7 @@ module _ (m n : ℕ) (code len : List ℕ) (c : Coded m n code len) where
       → (ks : List ℕ) → agreed look (treesOf (m + n) code len n) m v ≡ holds (sheetOf m n code len ks) p v x
   look-holds look p v x f ks =
       agreed-same look (neighbours p v x) (m + n) code len m v n
-      (λ j l. value-of-bytes look (neighbours p v x) f (m + n) (codeAt code len j) _ (c .parts j l .parses))
+      (λ j l. value-of-bytes look (neighbours p v x) f (newest (m + n)) (codeAt code len j) _ (c .parts j l .parses))
       ∙ agreed-holds ks p v x
 
 -- ---- the bytes of output k, as the code cuts them out
@@ -102,7 +102,7 @@ module _ (m n : ℕ) (code len : List ℕ) (c : Coded m n code len) (k : ℕ) (h
   pub part-room : (k < 7) × (getD len k 0 ≤ 64) × (64 * k + getD len k 0 ≤ 448)
   part-room = (omega (arith, c .ranges .outputs), c .small k h, omega (arith, c .ranges .outputs, c .small k h))
 
-  pub part-parses : parse (m + n) [] (take (64 * k + getD len k 0 - 64 * k) (drop (64 * k) code)) ≡ tree (treeOf (parse (m + n) [] (codeAt code len k)))
+  pub part-parses : parse (newest (m + n)) [] (take (64 * k + getD len k 0 - 64 * k) (drop (64 * k) code)) ≡ tree (treeOf (parse (newest (m + n)) [] (codeAt code len k)))
   part-parses =
       let e : 64 * k + getD len k 0 - 64 * k ≡ getD len k 0 = omega arith in
-      ap (λ (l : ℕ). parse (m + n) [] (take l (drop (64 * k) code))) e ∙ c .parts k h .parses
+      ap (λ (l : ℕ). parse (newest (m + n)) [] (take l (drop (64 * k) code))) e ∙ c .parts k h .parses

@@ -11,18 +11,19 @@ use lib.Seq.{drop-cons}
 use Rattle.outcomes.specs.declared.Refusal.the-variants.{Byte, Values}
 use Rattle.words.specs.Bits.{bit}
 use Rattle.sheet.specs.Bytes.{opOf, readOf}
-use Rattle.sheet.specs.Expression.{Expr, constant, negation, conjunction, disjunction, read, stack, breaks, tree, applyOp, final, go-on, parse}
+use Rattle.sheet.specs.Expression.{Expr, constant, negation, conjunction, disjunction, equality, read, stack, breaks, tree, applyOp, final, go-on, parse}
+use Rattle.sheet.specs.declared.Grammar.{Grammar}
 use Rattle.sheet.specs.declared.Offset.{Offset}
 use Rattle.sheet.specs.declared.Offset.the-variants.{Earlier, Now, Later}
 use Rattle.sheet.specs.declared.Op.{Op}
-use Rattle.sheet.specs.declared.Op.the-variants.{Const, Not, And, Or, Read, Rejected}
+use Rattle.sheet.specs.declared.Op.the-variants.{Const, Not, And, Or, Equal, Read, Rejected}
 use Rattle.sheet.proofs.Ops.{op-cases}
-use Rattle.sheet.proofs.Sheets.{no-tree}
+use Rattle.sheet.proofs.Sheets.{no-tree, at-equal}
 use Rattle.lola.specs.Value.{Look, value}
 use Rattle.lola.specs.Slots.{readNo}
-use Rattle.lanes.specs.Machine.{negTop, andTop, orTop, stepped}
+use Rattle.lanes.specs.Machine.{negTop, andTop, orTop, equalTop, stepped}
 use Rattle.lanes.specs.Around.{readAt, laneLook, downFrom, laneStack, Stepped}
-use Rattle.lanes.proofs.StackLaws.{byte-read, byte-const, byte-not, byte-and, byte-or}
+use Rattle.lanes.proofs.StackLaws.{byte-read, byte-const, byte-not, byte-and, byte-or, byte-equal}
 
 -- the values of a stack of trees, which lie on r
 unfoldable pub values : Look → List Bool → List Expr → List Bool
@@ -40,6 +41,7 @@ Means env b (Const v) = (s : List Bool) → v ∷ s ≡ stepped env b s
 Means env b Not = (s : List Bool) → negTop s ≡ stepped env b s
 Means env b And = (s : List Bool) → andTop s ≡ stepped env b s
 Means env b Or = (s : List Bool) → orTop s ≡ stepped env b s
+Means env b Equal = (s : List Bool) → equalTop s ≡ stepped env b s
 Means env b (Read q o d) = (s : List Bool) → env (readNo (q .0) o d) ∷ s ≡ stepped env b s
 Means env b (Rejected r) = Unit {0}
 
@@ -53,9 +55,6 @@ family env lo hi k b o d f e h l u s =
 const-is : (env : ℕ → Bool) (b : ℕ) (s : List Bool) (k : ℕ) (v : Bool) → b ≡ k → k < 2 → eqb k 1 ≡ v → v ∷ s ≡ stepped env b s
 const-is env b s k v e l f = ap (λ (u : Bool). u ∷ s) (sym (ap (λ (j : ℕ). eqb j 1) e ∙ f)) ∙ byte-const env b s (omega arith)
 
-or-is : (env : ℕ → Bool) (b : ℕ) (s : List Bool) → b ≡ 4 → orTop s ≡ stepped env b s
-or-is env b s e = byte-or env b s (omega arith) (λ q. omega arith) (λ q. omega arith) (omega arith)
-
 pub op-means : (env : ℕ → Bool) (b : ℕ) → Means env b (opOf b)
 unfolding readNo
 op-means env b =
@@ -64,7 +63,8 @@ op-means env b =
     (λ e s. const-is env b s 1 true e (omega arith) refl)
     (λ e s. byte-not env b s e)
     (λ e s. byte-and env b s e)
-    (λ e s. or-is env b s e)
+    (λ e s. byte-or env b s e)
+    (λ e s. byte-equal env b s (omega arith) (omega arith))
     (family env 0x40 0x47 0 b Now false (λ q. omega arith) refl (omega arith))
     (family env 0x50 0x57 16 b Earlier false (λ q. refl) refl (omega arith))
     (family env 0x58 0x5F 24 b Earlier true (λ q. refl) refl (omega arith))
@@ -75,15 +75,15 @@ op-means env b =
 -- ---- one byte
 
 -- the rest of the bytes, from a stack of trees with the values vs, which lie on r
-pub record Stacked (look : Look) (r : List Bool) (s : ℕ) (x : Expr) (rest : List ℕ) (vs : List Bool) : Type 0 where
+pub record Stacked (look : Look) (r : List Bool) (s : Grammar) (x : Expr) (rest : List ℕ) (vs : List Bool) : Type 0 where
   pub trees : List Expr
   pub left : parse s trees rest ≡ tree x
   pub same : vs ≡ values look r trees
 
-module _ (env : ℕ → Bool) (r : List Bool) (s : ℕ) (x : Expr) (b : ℕ) (bs : List ℕ) (vs : List Bool) where
+module _ (env : ℕ → Bool) (r : List Bool) (s : Grammar) (x : Expr) (b : ℕ) (bs : List ℕ) (vs : List Bool) where
   by-op : (op : Op) → Means env b op → (st : List Expr) → vs ≡ values (reads env) r st → go-on (applyOp s op st) (λ st′. parse s st′ bs) ≡ tree x
       → Stacked (reads env) r s x bs (stepped env b vs)
-  unfolding applyOp values value negTop andTop orTop
+  unfolding applyOp values value negTop andTop orTop equalTop
   by-op (Const v) m st e h = record { trees = constant v ∷ st; left = h; same = sym (m vs) ∙ ap (λ (z : List Bool). v ∷ z) e }
   by-op Not m [] e h = absurd (no-tree Values x h)
   by-op Not m (y ∷ st) e h = record { trees = negation y ∷ st; left = h; same = sym (m vs) ∙ ap negTop e }
@@ -93,7 +93,10 @@ module _ (env : ℕ → Bool) (r : List Bool) (s : ℕ) (x : Expr) (b : ℕ) (bs
   by-op Or m [] e h = absurd (no-tree Values x h)
   by-op Or m (y ∷ []) e h = absurd (no-tree Values x h)
   by-op Or m (y ∷ (z ∷ st)) e h = record { trees = disjunction z y ∷ st; left = h; same = sym (m vs) ∙ ap orTop e }
-  by-op (Read q o d) m st e h = go (ltb (q .0) s) h
+  by-op Equal m st e h =
+      at-equal s (λ st′. parse s st′ bs) x (λ st′. vs ≡ values (reads env) r st′ → Stacked (reads env) r s x bs (stepped env b vs))
+      (λ v y z st′ k e′. record { trees = equality z y ∷ st′; left = k; same = sym (m vs) ∙ ap equalTop e′ }) st h e
+  by-op (Read q o d) m st e h = go (ltb (q .0) (s .streams)) h
     where
       go : (u : Bool) → go-on (cond u (stack (read (q .0) o d ∷ st)) (breaks Byte)) (λ st′. parse s st′ bs) ≡ tree x
           → Stacked (reads env) r s x bs (stepped env b vs)
@@ -105,7 +108,7 @@ module _ (env : ℕ → Bool) (r : List Bool) (s : ℕ) (x : Expr) (b : ℕ) (bs
   unfolding parse
   next k = by-op (opOf b) (op-means env b) (k .trees) (k .same) (k .left)
 
-last : (look : Look) (r : List Bool) (s : ℕ) (x : Expr) (vs : List Bool) → Stacked look r s x [] vs → vs ≡ value look x ∷ r
+last : (look : Look) (r : List Bool) (s : Grammar) (x : Expr) (vs : List Bool) → Stacked look r s x [] vs → vs ≡ value look x ∷ r
 unfolding parse final values
 last look r s x vs k = go (k .trees) (k .left) (k .same)
   where
@@ -118,7 +121,7 @@ last look r s x vs k = go (k .trees) (k .left) (k .same)
 
 -- k bytes of e are done, on a stack that lies on r
 abbrev pub LaneDone : (ℕ → Bool) → List Bool → List ℕ → ℕ → List Bool → Type 0
-LaneDone env r e k vs = (s : ℕ) (x : Expr) → parse s [] e ≡ tree x → Stacked (reads env) r s x (drop k e) vs
+LaneDone env r e k vs = (s : Grammar) (x : Expr) → parse s [] e ≡ tree x → Stacked (reads env) r s x (drop k e) vs
 
 lane-more : (env : ℕ → Bool) (r : List Bool) (e : List ℕ) (k : ℕ) (vs vs′ : List Bool) → k < length e → LaneDone env r e k vs
     → vs′ ≡ stepped env (getD e k 0) vs → LaneDone env r e (k + 1) vs′
@@ -127,7 +130,7 @@ lane-more env r e k vs vs′ h d w s x p =
     rw (add-one k, w) (next env r s x (getD e k 0) (drop (suc k) e) vs f)
 
 lane-all : (env : ℕ → Bool) (r : List Bool) (e : List ℕ) (k : ℕ) (v : Bool) (vs : List Bool) → length e ≤ k → LaneDone env r e k (v ∷ vs)
-    → (s : ℕ) (x : Expr) → parse s [] e ≡ tree x → v ≡ value (reads env) x
+    → (s : Grammar) (x : Expr) → parse s [] e ≡ tree x → v ≡ value (reads env) x
 lane-all env r e k v vs l d s x p = ap head (last (reads env) r s x (v ∷ vs) (rw (drop-of-length-le e l) at (d s x p)))
   where
     head : List Bool → Bool
@@ -155,7 +158,7 @@ module _ (w env own : ℕ) (e r : List ℕ) where
     follows = λ j i g l. lane-more (readAt env own (64 * j + i)) (bit i (getD r j 0) ∷ []) e k _ _ h (d .follows j i g l) (z .lanes j i g l);
   }
 
-  pub all-done : (st top : List ℕ) (used k : ℕ) → Done w env own e r st top used k → length e ≤ k → (s : ℕ) (x : Expr) → parse s [] e ≡ tree x
+  pub all-done : (st top : List ℕ) (used k : ℕ) → Done w env own e r st top used k → length e ≤ k → (s : Grammar) (x : Expr) → parse s [] e ≡ tree x
       → (j i : ℕ) → j < w → i < 64 → bit i (getD top j 0) ≡ value (laneLook env own (64 * j + i)) x
   all-done st top used k d l s x p j i g h =
       lane-all (readAt env own (64 * j + i)) (bit i (getD r j 0) ∷ []) e k (bit i (getD top j 0)) (downFrom (λ n. bit i (getD st (w * n + j) 0)) used) l

@@ -1,6 +1,6 @@
 -- A stack of words is a stack of truth values in each lane: what each branch of a step does to it.
 use mathlib.Core.Path.{_≡_, refl, sym, ap, ap₂, _∙_}
-use mathlib.Core.Bool.{Bool, not, _&&_, _||_}
+use mathlib.Core.Bool.{Bool, not}
 use mathlib.Core.List.{List, _∷_}
 use Prim.Native.Nat.{ℕ, zero, suc, _+_, _-_, _%_, _≤_, _<_}
 use native.Mathlib.Omega.{arith}
@@ -8,7 +8,7 @@ use native.Mathlib.Numerals.{add-one}
 use native.Mathlib.Decide.{ℕ-discrete}
 use lib.Dec.{eqb}
 use borrow.Author.Tests.{eq-eqb, ne-eqb, lt-ltb, le-ltb}
-use Rattle.lanes.specs.Machine.{negTop, andTop, orTop, basic, stepped}
+use Rattle.lanes.specs.Machine.{negTop, andTop, orTop, equalTop, basic, stepped}
 use Rattle.lanes.specs.Around.{downFrom, laneStack}
 
 -- ---- what a byte does, by the tests that the code makes
@@ -35,9 +35,22 @@ module _ (env : ℕ → Bool) (e : ℕ) (s : List Bool) where
   byte-and q =
       let l : 2 ≤ e = omega arith in let n : e ≡ 2 → ⊥ = λ h. omega arith in sym (rw (le-ltb e 2 l, ne-eqb e 2 n, eq-eqb e 3 q)) ∙ byte-basic (omega arith)
 
-  pub byte-or : 2 ≤ e → (e ≡ 2 → ⊥) → (e ≡ 3 → ⊥) → e < 64 → orTop s ≡ stepped env e s
+  pub byte-or : e ≡ 4 → orTop s ≡ stepped env e s
   unfolding basic
-  byte-or l n2 n3 u = sym (rw (le-ltb e 2 l, ne-eqb e 2 n2, ne-eqb e 3 n3)) ∙ byte-basic u
+  byte-or q =
+      let l : 2 ≤ e = omega arith in
+      let n2 : e ≡ 2 → ⊥ = λ h. omega arith in
+      let n3 : e ≡ 3 → ⊥ = λ h. omega arith in
+      sym (rw (le-ltb e 2 l, ne-eqb e 2 n2, ne-eqb e 3 n3, eq-eqb e 4 q)) ∙ byte-basic (omega arith)
+
+  pub byte-equal : 4 < e → e < 64 → equalTop s ≡ stepped env e s
+  unfolding basic
+  byte-equal g u =
+      let l : 2 ≤ e = omega arith in
+      let n2 : e ≡ 2 → ⊥ = λ h. omega arith in
+      let n3 : e ≡ 3 → ⊥ = λ h. omega arith in
+      let n4 : e ≡ 4 → ⊥ = λ h. omega arith in
+      sym (rw (le-ltb e 2 l, ne-eqb e 2 n2, ne-eqb e 3 n3, ne-eqb e 4 n4)) ∙ byte-basic u
 
 -- ---- one lane
 
@@ -65,31 +78,23 @@ module _ (env : ℕ → Bool) (e : ℕ) (x : Bool) (E : ℕ → Bool) (n : ℕ) 
   unfolding negTop
   lane-not q p h = cons p (down-same E F n h) ∙ byte-not env e (laneStack x E n) q
 
--- an operation on two values; one that lacks a value changes nothing
+-- an operator on two values; one that lacks a value changes nothing
 module _ (env : ℕ → Bool) (e : ℕ) (x : Bool) (E : ℕ → Bool) (y : Bool) (F : ℕ → Bool) where
-  pub lane-and : (n : ℕ) → 1 ≤ n → e ≡ 3 → y ≡ (E (n - 1) && x) → ((k : ℕ) → k < n - 1 → F k ≡ E k)
-      → laneStack y F (n - 1) ≡ stepped env e (laneStack x E n)
-  unfolding andTop downFrom
-  lane-and zero l q p h = absurd (omega arith)
-  lane-and (suc n) l q p h =
+  pub lane-two : (op : Bool → Bool → Bool) → ((v : Bool) (s : List Bool) → op v x ∷ s ≡ stepped env e (x ∷ (v ∷ s)))
+      → (n : ℕ) → 1 ≤ n → y ≡ op (E (n - 1)) x → ((k : ℕ) → k < n - 1 → F k ≡ E k) → laneStack y F (n - 1) ≡ stepped env e (laneStack x E n)
+  unfolding downFrom
+  lane-two op does zero l p h = absurd (omega arith)
+  lane-two op does (suc n) l p h =
       let z : suc n - 1 ≡ n = omega arith in
-      ap (laneStack y F) z ∙ cons (p ∙ ap (λ (k : ℕ). E k && x) z) (down-same E F n (λ k g. h k (omega arith))) ∙ byte-and env e (laneStack x E (suc n)) q
+      ap (laneStack y F) z ∙ cons (p ∙ ap (λ (k : ℕ). op (E k) x) z) (down-same E F n (λ k g. h k (omega arith))) ∙ does (E n) (downFrom E n)
 
-  pub lane-or : (n : ℕ) → 1 ≤ n → 2 ≤ e → (e ≡ 2 → ⊥) → (e ≡ 3 → ⊥) → e < 64 → y ≡ (E (n - 1) || x) → ((k : ℕ) → k < n - 1 → F k ≡ E k)
-      → laneStack y F (n - 1) ≡ stepped env e (laneStack x E n)
-  unfolding orTop downFrom
-  lane-or zero l l2 n2 n3 u p h = absurd (omega arith)
-  lane-or (suc n) l l2 n2 n3 u p h =
-      let z : suc n - 1 ≡ n = omega arith in
-      ap (laneStack y F) z ∙ cons (p ∙ ap (λ (k : ℕ). E k || x) z) (down-same E F n (λ k g. h k (omega arith)))
-      ∙ byte-or env e (laneStack x E (suc n)) l2 n2 n3 u
-
-pub lane-lacks : (env : ℕ → Bool) (e : ℕ) (x : Bool) (E : ℕ → Bool) (n : ℕ) → n ≡ 0 → 2 ≤ e → (e ≡ 2 → ⊥) → e < 64
+pub lane-lacks : (env : ℕ → Bool) (e : ℕ) (x : Bool) (E : ℕ → Bool) (n : ℕ) → n ≡ 0 → 2 < e → e < 64
     → laneStack x E n ≡ stepped env e (laneStack x E n)
-unfolding andTop orTop downFrom
-lane-lacks env e x E (suc n) z l n2 u = absurd (omega arith)
-lane-lacks env e x E zero z l n2 u = go (ℕ-discrete e 3)
+unfolding andTop orTop equalTop downFrom
+lane-lacks env e x E (suc n) z l u = absurd (omega arith)
+lane-lacks env e x E zero z l u = go (ℕ-discrete e 3) (ℕ-discrete e 4)
   where
-    go : Dec (e ≡ 3) → laneStack x E zero ≡ stepped env e (laneStack x E zero)
-    go (yes q) = byte-and env e (laneStack x E zero) q
-    go (no n3) = byte-or env e (laneStack x E zero) l n2 n3 u
+    go : Dec (e ≡ 3) → Dec (e ≡ 4) → laneStack x E zero ≡ stepped env e (laneStack x E zero)
+    go (yes q) d = byte-and env e (laneStack x E zero) q
+    go (no n3) (yes q) = byte-or env e (laneStack x E zero) q
+    go (no n3) (no n4) = byte-equal env e (laneStack x E zero) (omega arith) u

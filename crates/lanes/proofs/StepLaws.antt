@@ -1,7 +1,7 @@
 -- One expression byte on a stack of rows, by the branches of the code.
 use mathlib.Core.Path.{_≡_, refl, sym, ap, _∙_}
-use mathlib.Core.Bool.{not}
-use mathlib.Core.List.{List}
+use mathlib.Core.Bool.{Bool, not, _&&_, _||_, Bool·beq}
+use mathlib.Core.List.{List, _∷_}
 use Prim.Native.Nat.{ℕ, _+_, _-_, _*_, _%_, _≤_, _<_}
 use native.Mathlib.Omega.{arith}
 use lib.Bits.{bitAnd, bitOr}
@@ -9,9 +9,10 @@ use lib.Dec.{eqb}
 use lib.ListN.{getD}
 use Rattle.words.specs.Bits.{bit}
 use Rattle.words.proofs.BitLaws.{bit-and, bit-or}
+use Rattle.lanes.specs.Machine.{andTop, orTop, equalTop, stepped}
 use Rattle.lanes.specs.Around.{readAt, laneStack, Stepped, Filled, Stored}
 use Rattle.lanes.proofs.RowLaws.{inside}
-use Rattle.lanes.proofs.StackLaws.{lane-read, lane-const, lane-not, lane-and, lane-or, lane-lacks}
+use Rattle.lanes.proofs.StackLaws.{byte-and, byte-or, byte-equal, lane-read, lane-const, lane-not, lane-two, lane-lacks}
 
 module _ (w env own e : ℕ) (st top : List ℕ) (used : ℕ) (st′ top′ : List ℕ) where
   pub step-read : Stored w used top st st′ → 64 ≤ e → ((j i : ℕ) → j < w → i < 64 → bit i (getD top′ j 0) ≡ readAt env own (64 * j + i) (e % 64))
@@ -42,30 +43,39 @@ module _ (w env own e : ℕ) (st top : List ℕ) (used : ℕ) (top′ : List ℕ
         (λ k. bit i (getD st (w * k + j) 0)) q (r j i h g) (λ k m. refl);
   }
 
+  -- an operator on two values
+  step-two : (op : Bool → Bool → Bool) → ((f : ℕ → Bool) (x v : Bool) (s : List Bool) → op v x ∷ s ≡ stepped f e (x ∷ (v ∷ s))) → (used ≡ 0 → ⊥)
+      → ((j i : ℕ) → j < w → i < 64 → bit i (getD top′ j 0) ≡ op (bit i (getD st (w * (used - 1) + j) 0)) (bit i (getD top j 0)))
+      → Stepped w env own e st top used st top′ (used - 1)
+  step-two op does n r = record {
+    grows = omega arith;
+    lanes = λ j i h g.
+        lane-two (readAt env own (64 * j + i)) e (bit i (getD top j 0)) (λ k. bit i (getD st (w * k + j) 0)) (bit i (getD top′ j 0))
+        (λ k. bit i (getD st (w * k + j) 0)) op (does (readAt env own (64 * j + i)) (bit i (getD top j 0))) used (omega arith) (r j i h g) (λ k m. refl);
+  }
+
   pub step-and : (used ≡ 0 → ⊥) → e ≡ 3 → Filled w (λ j. bitAnd (getD st (w * (used - 1) + j) 0) (getD top j 0)) top′
       → Stepped w env own e st top used st top′ (used - 1)
-  step-and n q z = record {
-    grows = omega arith;
-    lanes = λ j i h g.
-        lane-and (readAt env own (64 * j + i)) e (bit i (getD top j 0)) (λ k. bit i (getD st (w * k + j) 0)) (bit i (getD top′ j 0))
-        (λ k. bit i (getD st (w * k + j) 0)) used (omega arith) q (ap (bit i) (z j h) ∙ bit-and i (getD st (w * (used - 1) + j) 0) (getD top j 0))
-        (λ k m. refl);
-  }
+  unfolding andTop
+  step-and n q z =
+      step-two _&&_ (λ f x v s. byte-and f e (x ∷ (v ∷ s)) q) n (λ j i h g. ap (bit i) (z j h) ∙ bit-and i (getD st (w * (used - 1) + j) 0) (getD top j 0))
 
-  pub step-or : (used ≡ 0 → ⊥) → 2 ≤ e → (e ≡ 2 → ⊥) → (e ≡ 3 → ⊥) → e < 64
-      → Filled w (λ j. bitOr (getD st (w * (used - 1) + j) 0) (getD top j 0)) top′ → Stepped w env own e st top used st top′ (used - 1)
-  step-or n l n2 n3 u z = record {
-    grows = omega arith;
-    lanes = λ j i h g.
-        lane-or (readAt env own (64 * j + i)) e (bit i (getD top j 0)) (λ k. bit i (getD st (w * k + j) 0)) (bit i (getD top′ j 0))
-        (λ k. bit i (getD st (w * k + j) 0)) used (omega arith) l n2 n3 u
-        (ap (bit i) (z j h) ∙ bit-or i (getD st (w * (used - 1) + j) 0) (getD top j 0)) (λ k m. refl);
-  }
+  pub step-or : (used ≡ 0 → ⊥) → e ≡ 4 → Filled w (λ j. bitOr (getD st (w * (used - 1) + j) 0) (getD top j 0)) top′
+      → Stepped w env own e st top used st top′ (used - 1)
+  unfolding orTop
+  step-or n q z =
+      step-two _||_ (λ f x v s. byte-or f e (x ∷ (v ∷ s)) q) n (λ j i h g. ap (bit i) (z j h) ∙ bit-or i (getD st (w * (used - 1) + j) 0) (getD top j 0))
 
-pub step-lacks : (w env own e : ℕ) (st top : List ℕ) (used : ℕ) → used ≡ 0 → 2 ≤ e → (e ≡ 2 → ⊥) → e < 64 → Stepped w env own e st top used st top 0
-step-lacks w env own e st top used z l n u = record {
+  pub step-equal : (used ≡ 0 → ⊥) → 4 < e → e < 64
+      → ((j i : ℕ) → j < w → i < 64 → bit i (getD top′ j 0) ≡ Bool·beq (bit i (getD st (w * (used - 1) + j) 0)) (bit i (getD top j 0)))
+      → Stepped w env own e st top used st top′ (used - 1)
+  unfolding equalTop
+  step-equal n l u r = step-two Bool·beq (λ f x v s. byte-equal f e (x ∷ (v ∷ s)) l u) n r
+
+pub step-lacks : (w env own e : ℕ) (st top : List ℕ) (used : ℕ) → used ≡ 0 → 2 < e → e < 64 → Stepped w env own e st top used st top 0
+step-lacks w env own e st top used z l u = record {
   grows = omega arith;
   lanes = λ j i h g.
       ap (λ (k : ℕ). laneStack (bit i (getD top j 0)) (λ k. bit i (getD st (w * k + j) 0)) k) (sym z)
-      ∙ lane-lacks (readAt env own (64 * j + i)) e (bit i (getD top j 0)) (λ k. bit i (getD st (w * k + j) 0)) used z l n u;
+      ∙ lane-lacks (readAt env own (64 * j + i)) e (bit i (getD top j 0)) (λ k. bit i (getD st (w * k + j) 0)) used z l u;
 }

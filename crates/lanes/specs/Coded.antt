@@ -8,6 +8,7 @@ use Rattle.words.specs.Bits.{bit}
 use Rattle.words.specs.Sizes.{Sized}
 use Rattle.words.specs.declared.Size.{Size}
 use Rattle.sheet.specs.Expression.{Expr, parse, tree}
+use Rattle.sheet.specs.declared.Grammar.{Grammar}
 use Rattle.sheet.specs.RuleSheet.{RuleSheet}
 use Rattle.sheet.specs.Reading.{Ranges, Parses, codeAt, treesOf}
 use Rattle.lola.specs.Value.{Look, value}
@@ -40,7 +41,7 @@ agreed look (e ∷ es) q v = Bool·beq (bit q v) (value look e) && agreed look e
 
 -- the w words of a row have the values of the expression with these bytes, lane by lane
 pub record Values (w env own : ℕ) (bytes row : List ℕ) : Type 0 where
-  pub lanes : (s : ℕ) (x : Expr) → parse s [] bytes ≡ tree x → (j i : ℕ) → j < w → i < 64 → bit i (getD row j 0) ≡ value (laneLook env own (64 * j + i)) x
+  pub lanes : (s : Grammar) (x : Expr) → parse s [] bytes ≡ tree x → (j i : ℕ) → j < w → i < 64 → bit i (getD row j 0) ≡ value (laneLook env own (64 * j + i)) x
 
 -- the w words of a row have the lanes in which the first k equations agree with the round itself, b or the lane's valuation
 pub record Agree (w env own m n : ℕ) (code len : List ℕ) (b : ℕ) (row : List ℕ) (k : ℕ) : Type 0 where

@@ -7,6 +7,7 @@ ghost use Rattle.lanes.specs.Coded.{Coded, Values, Agree};
 use super::Reads;
 use super::output_stream;
 use super::row::and_row;
+use super::row::equal_row;
 use super::row::fill_row;
 use super::row::is_empty;
 use super::row::keep_row;
@@ -17,7 +18,7 @@ use super::row::store_row;
 use sheet::OutputNo;
 
 // One expression byte on a stack of rows of two words: the top is in `top`, what lies below it, `used` rows, in st. Returns how many then do.
-// Both operators test `used` for themselves: with one test before them, the compiler loads the words of the row before it knows which operator it
+// The operators test `used` for themselves: with one test before them, the compiler loads the words of the row before it knows which operator it
 // is, which takes a tenth more instructions.
 fn two_step(st: &mut [u64], top: &mut [u64], used: usize, env: u64, own: u64, e: u8) -> usize
     requires { ⌜ (length (now top) ≡ 4) × (2 * used + 2 ≤ length (now st)) ⌝ }
@@ -40,10 +41,17 @@ fn two_step(st: &mut [u64], top: &mut [u64], used: usize, env: u64, own: u64, e:
         return used - 1;
     }
     if 3 < e {
+        if e == 4 {
+            if used == 0 {
+                return 0;
+            }
+            or_row(top, 2, st, used - 1);
+            return used - 1;
+        }
         if used == 0 {
             return 0;
         }
-        or_row(top, 2, st, used - 1);
+        equal_row(top, 2, st, used - 1);
         return used - 1;
     }
     store_row(st, 2, used, top);
@@ -86,10 +94,17 @@ fn four_step(st: &mut [u64], top: &mut [u64], used: usize, env: u64, own: u64, e
         return used - 1;
     }
     if 3 < e {
+        if e == 4 {
+            if used == 0 {
+                return 0;
+            }
+            or_row(top, 4, st, used - 1);
+            return used - 1;
+        }
         if used == 0 {
             return 0;
         }
-        or_row(top, 4, st, used - 1);
+        equal_row(top, 4, st, used - 1);
         return used - 1;
     }
     store_row(st, 4, used, top);

@@ -31,7 +31,7 @@ pub fn not_row(row: &mut [u64], w: usize)
     }
 }
 
-// Row k of the stack and the row, or either of them.
+// Row k of the stack and the row, either of them, or where they are alike.
 pub fn and_row(row: &mut [u64], w: usize, st: &[u64], k: usize)
     requires { ⌜ (w ≤ 4) × (length (now row) ≡ 4) × (w * k + w ≤ length (now st)) ⌝ }
     ensures { λ r. ⌜ Filled w (λ j. bitAnd (getD (now (st .entry)) (w * k + j) 0) (getD (now (row .entry)) j 0)) (now (row .exit)) ⌝ }
@@ -50,6 +50,17 @@ pub fn or_row(row: &mut [u64], w: usize, st: &[u64], k: usize)
     let mut j: usize = 0;
     while j < w {
         row[j] = st[w * k + j] | row[j];
+        j += 1;
+    }
+}
+
+pub fn equal_row(row: &mut [u64], w: usize, st: &[u64], k: usize)
+    requires { ⌜ (w ≤ 4) × (length (now row) ≡ 4) × (w * k + w ≤ length (now st)) ⌝ }
+    ensures { λ r. ⌜ ((j i : ℕ) → j < w → i < 64 → bit i (getD (now (row .exit)) j 0) ≡ Bool·beq (bit i (getD (now (st .entry)) (w * k + j) 0)) (bit i (getD (now (row .entry)) j 0))) ⌝ }
+{
+    let mut j: usize = 0;
+    while j < w {
+        row[j] = alike(st[w * k + j], row[j]);
         j += 1;
     }
 }

@@ -1,6 +1,6 @@
 -- The stack of bits in one word follows the stack of trees.
 use mathlib.Core.Path.{_≡_, refl, ap, _∙_}
-use mathlib.Core.Bool.{Bool, true, false, cond, not, _&&_, _||_}
+use mathlib.Core.Bool.{Bool, true, false, cond, not, _&&_, _||_, Bool·beq}
 use mathlib.Core.List.{List, [], _∷_}
 use Prim.Native.Nat.{ℕ, suc, _+_, _-_, _*_, _/_, _%_, _^_, _≤_, _<_}
 use native.Mathlib.Numerals.{add-one}
@@ -16,13 +16,14 @@ use Rattle.words.specs.Bits.{bit}
 use Rattle.words.specs.Below.{one}
 use Rattle.words.proofs.BitLaws.{digit-of}
 use Rattle.sheet.specs.Bytes.{opOf, readOf}
-use Rattle.sheet.specs.Expression.{Expr, constant, negation, conjunction, disjunction, read, stack, breaks, tree, applyOp, final, go-on, parse}
+use Rattle.sheet.specs.Expression.{Expr, constant, negation, conjunction, disjunction, equality, read, stack, breaks, tree, applyOp, final, go-on, parse}
+use Rattle.sheet.specs.declared.Grammar.{Grammar}
 use Rattle.sheet.specs.declared.Offset.{Offset}
 use Rattle.sheet.specs.declared.Offset.the-variants.{Earlier, Now, Later}
 use Rattle.sheet.specs.declared.Op.{Op}
-use Rattle.sheet.specs.declared.Op.the-variants.{Const, Not, And, Or, Read, Rejected}
+use Rattle.sheet.specs.declared.Op.the-variants.{Const, Not, And, Or, Equal, Read, Rejected}
 use Rattle.sheet.proofs.Ops.{op-cases}
-use Rattle.sheet.proofs.Sheets.{no-tree}
+use Rattle.sheet.proofs.Sheets.{no-tree, at-equal}
 use Rattle.lola.specs.Value.{Look, value}
 use Rattle.lola.specs.Slots.{readNo, slots, Works}
 
@@ -38,6 +39,7 @@ Means env b (Const v) = (b < 2) × (b ≡ one v)
 Means env b Not = b ≡ 2
 Means env b And = b ≡ 3
 Means env b Or = b ≡ 4
+Means env b Equal = b ≡ 5
 Means env b (Read q o d) = (0x40 ≤ b) × (b < 0x70) × (slots env (q .0) o d ≡ bit (b - 0x40) env)
 Means env b (Rejected r) = Unit {0}
 
@@ -49,7 +51,7 @@ family env lo hi k b o d f e h l u = (omega arith, omega arith, f (b - lo) ∙ a
 op-means : (env b : ℕ) → Means env b (opOf b)
 unfolding slots readNo
 op-means env b =
-    op-cases (Means env b) b (λ e. (omega arith, e)) (λ e. (omega arith, e)) (λ e. e) (λ e. e) (λ e. e)
+    op-cases (Means env b) b (λ e. (omega arith, e)) (λ e. (omega arith, e)) (λ e. e) (λ e. e) (λ e. e) (λ e. e)
     (family env 0x40 0x47 0 b Now false (λ q. ap (λ (z : ℕ). bit z env) (omega arith)) refl (omega arith))
     (family env 0x50 0x57 16 b Earlier false (λ q. refl) refl (omega arith))
     (family env 0x58 0x5F 24 b Earlier true (λ q. refl) refl (omega arith))
@@ -88,15 +90,21 @@ or-low true false n w r h e = omega (arith, two-low w 1 0 n (omega arith) (omega
 or-low false true n w r h e = omega (arith, two-low w 0 1 n (omega arith) (omega arith) h)
 or-low false false n w r h e = omega (arith, two-low w 0 0 n (omega arith) (omega arith) h)
 
+equal-low : (y x : Bool) (n w r : ℕ) → w ≡ one y + 2 * (one x + 2 * n) → r ≡ w / 4 * 2 + (w % 2 + w / 2 % 2 + 1) % 2 → r ≡ one (Bool·beq x y) + 2 * n
+equal-low true true n w r h e = let d = two-low w 1 1 n (omega arith) (omega arith) h in e ∙ rw (d .0, d .1, d .2) (omega arith)
+equal-low true false n w r h e = let d = two-low w 1 0 n (omega arith) (omega arith) h in e ∙ rw (d .0, d .1, d .2) (omega arith)
+equal-low false true n w r h e = let d = two-low w 0 1 n (omega arith) (omega arith) h in e ∙ rw (d .0, d .1, d .2) (omega arith)
+equal-low false false n w r h e = let d = two-low w 0 0 n (omega arith) (omega arith) h in e ∙ rw (d .0, d .1, d .2) (omega arith)
+
 -- ---- one byte
 
 -- the rest of the bytes, from a stack of trees whose number is w
-pub record Stacked (look : Look) (s : ℕ) (t : Expr) (rest : List ℕ) (w : ℕ) : Type 0 where
+pub record Stacked (look : Look) (s : Grammar) (t : Expr) (rest : List ℕ) (w : ℕ) : Type 0 where
   pub trees : List Expr
   pub left : parse s trees rest ≡ tree t
   pub same : w ≡ number look trees
 
-module _ (env s : ℕ) (t : Expr) (b : ℕ) (bs : List ℕ) (w r : ℕ) (does : Works env w b r) where
+module _ (env : ℕ) (s : Grammar) (t : Expr) (b : ℕ) (bs : List ℕ) (w r : ℕ) (does : Works env w b r) where
   by-op : (op : Op) → Means env b op → (st : List Expr) → w ≡ number (slots env) st → go-on (applyOp s op st) (λ st′. parse s st′ bs) ≡ tree t
       → Stacked (slots env) s t bs r
   unfolding applyOp number value
@@ -121,7 +129,15 @@ module _ (env s : ℕ) (t : Expr) (b : ℕ) (bs : List ℕ) (w r : ℕ) (does : 
         left = h;
         same = or-low (value (slots env) y) (value (slots env) x) (number (slots env) st) w r e (does .or m);
       }
-  by-op (Read q o d) m st e h = go (ltb (q .0) s) h
+  by-op Equal m st e h =
+      at-equal s (λ st′. parse s st′ bs) t (λ st′. w ≡ number (slots env) st′ → Stacked (slots env) s t bs r)
+      (λ v y x st′ k e′. record {
+        trees = equality x y ∷ st′;
+        left = k;
+        same = equal-low (value (slots env) y) (value (slots env) x) (number (slots env) st′) w r e′ (does .equal m);
+      })
+      st h e
+  by-op (Read q o d) m st e h = go (ltb (q .0) (s .streams)) h
     where
       go : (u : Bool) → go-on (cond u (stack (read (q .0) o d ∷ st)) (breaks Byte)) (λ st′. parse s st′ bs) ≡ tree t → Stacked (slots env) s t bs r
       go true k =
@@ -143,7 +159,7 @@ module _ (env s : ℕ) (t : Expr) (b : ℕ) (bs : List ℕ) (w r : ℕ) (does : 
 pub record Done (env : ℕ) (e : List ℕ) (w i : ℕ) : Type 0 where
   pub inside : i ≤ length e
   pub small : w < 2 ^ i
-  pub follows : (s : ℕ) (t : Expr) → parse s [] e ≡ tree t → Stacked (slots env) s t (drop i e) w
+  pub follows : (s : Grammar) (t : Expr) → parse s [] e ≡ tree t → Stacked (slots env) s t (drop i e) w
 
 pub none-done : (env : ℕ) (e : List ℕ) → Done env e 0 0
 unfolding number
@@ -161,7 +177,7 @@ one-done env e w i r h d does =
 pub fits : (w i : ℕ) → w < 2 ^ i → i < 64 → w < 2 ^ 63
 fits w i h l = let g : 2 ^ i ≤ 2 ^ 63 = pow-mono {i = i} {j = 63} (omega arith) in omega arith
 
-last : (look : Look) (s : ℕ) (t : Expr) (w : ℕ) → Stacked look s t [] w → eqb (w % 2) 1 ≡ value look t
+last : (look : Look) (s : Grammar) (t : Expr) (w : ℕ) → Stacked look s t [] w → eqb (w % 2) 1 ≡ value look t
 unfolding parse final number
 last look s t w x = go (x .trees) (x .left) (x .same)
   where
@@ -174,5 +190,5 @@ last look s t w x = go (x .trees) (x .left) (x .same)
     go (y ∷ []) h e = let z : y ≡ t = cc in low (value look y) e ∙ ap (value look) z
     go (y ∷ (z ∷ st)) h e = absurd (no-tree Values t h)
 
-pub all-done : (env : ℕ) (e : List ℕ) (w i : ℕ) → length e ≤ i → Done env e w i → (s : ℕ) (t : Expr) → parse s [] e ≡ tree t → eqb (w % 2) 1 ≡ value (slots env) t
+pub all-done : (env : ℕ) (e : List ℕ) (w i : ℕ) → length e ≤ i → Done env e w i → (s : Grammar) (t : Expr) → parse s [] e ≡ tree t → eqb (w % 2) 1 ≡ value (slots env) t
 all-done env e w i h d s t p = last (slots env) s t w (rw (drop-of-length-le e h) at (d .follows s t p))

@@ -15,8 +15,9 @@ use Rattle.words.specs.Bits.{bit}
 use Rattle.words.proofs.BitLaws.{bit-or, bit-none, bit-shl, bit-shr, bit-high}
 use Rattle.words.proofs.Bools.{or-second}
 use Rattle.words.proofs.JoinLaws.{bit-of-low}
-use Rattle.sheet.specs.Expression.{Expr, constant, negation, conjunction, disjunction, read}
+use Rattle.sheet.specs.Expression.{Expr, constant, negation, conjunction, disjunction, equality, read}
 use Rattle.sheet.specs.Postfix.{readByte, written, InSheet}
+use Rattle.sheet.specs.declared.Grammar.{Grammar}
 use Rattle.sheet.specs.declared.Offset.{Offset}
 use Rattle.sheet.specs.declared.Offset.the-variants.{Earlier, Now, Later}
 use Rattle.sheet.proofs.Postfixes.{tree-exactly}
@@ -85,13 +86,14 @@ module _ (q o : ℕ) where
   unfolding anyByte
   two b xs ys u v e f g = rw (any-append (byteReads q o) xs (ys ++ (b ∷ [])), any-append (byteReads q o) ys (b ∷ []), e, or-false (any ys), f, g)
 
-  tree-bytes : (s : ℕ) (t : Expr) → InSheet s t → any (written t) ≡ hasRead t q o
+  tree-bytes : (s : Grammar) (t : Expr) → InSheet s t → any (written t) ≡ hasRead t q o
   unfolding anyByte byteReads written InSheet hasRead
   tree-bytes s (constant false) h = refl
   tree-bytes s (constant true) h = refl
   tree-bytes s (negation x) h = any-append _ (written x) _ ∙ or-false _ ∙ tree-bytes s x h
   tree-bytes s (conjunction x y) h = two 0x03 (written x) (written y) _ _ refl (tree-bytes s x (h .0)) (tree-bytes s y (h .1))
   tree-bytes s (disjunction x y) h = two 0x04 (written x) (written y) _ _ refl (tree-bytes s x (h .0)) (tree-bytes s y (h .1))
+  tree-bytes s (equality x y) h = two 0x05 (written x) (written y) _ _ refl (tree-bytes s x (h .1)) (tree-bytes s y (h .2))
   tree-bytes s (read k p d) h = or-false _ ∙ read-byte k p d (h .1)
 
 -- ---- the reads in a word

@@ -6,6 +6,7 @@ use Prim.Native.Nat.{ℕ, zero, suc, _+_, _*_}
 use lib.Dec.{ltb}
 use Rattle.words.specs.Bits.{bit}
 use Rattle.sheet.specs.Expression.{Expr, parse, tree}
+use Rattle.sheet.specs.declared.Grammar.{Grammar}
 use Rattle.lola.specs.Reads.{hasRead}
 
 -- where the bits of the reads at the offset with this number begin: their first byte less 0x40
@@ -20,4 +21,4 @@ readIn w q o = ltb q 8 && (bit (begins o + q) w || bit (8 + (begins o + q)) w)
 
 -- the word has the reads of the expression with these bytes, and no others
 pub record ReadsOf (e : List ℕ) (w : ℕ) : Type 0 where
-  pub reads : (s : ℕ) (x : Expr) → parse s [] e ≡ tree x → (q o : ℕ) → readIn w q o ≡ hasRead x q o
+  pub reads : (s : Grammar) (x : Expr) → parse s [] e ≡ tree x → (q o : ℕ) → readIn w q o ≡ hasRead x q o

@@ -3,7 +3,7 @@
 use mathlib.Core.Bool.{Bool, false, _&&_, _||_}
 use Prim.Native.Nat.{ℕ}
 use lib.Dec.{eqb}
-use Rattle.sheet.specs.Expression.{Expr, constant, negation, conjunction, disjunction, read}
+use Rattle.sheet.specs.Expression.{Expr, constant, negation, conjunction, disjunction, equality, read}
 use Rattle.sheet.specs.declared.Offset.{Offset}
 use Rattle.sheet.specs.declared.Offset.the-variants.{Earlier, Now, Later}
 
@@ -19,4 +19,5 @@ hasRead (constant c) q o = false
 hasRead (negation e) q o = hasRead e q o
 hasRead (conjunction e f) q o = hasRead e q o || hasRead f q o
 hasRead (disjunction e f) q o = hasRead e q o || hasRead f q o
+hasRead (equality e f) q o = hasRead e q o || hasRead f q o
 hasRead (read q′ o′ d) q o = eqb q′ q && eqb (offsetNo o′) o

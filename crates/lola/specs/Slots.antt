@@ -19,11 +19,12 @@ readNo q Later true = 40 + q
 unfoldable pub slots : ℕ → Look
 slots env q o d = bit (readNo q o d) env
 
--- what the byte b makes of the stack w: not, and, or, a constant or a read
+-- what the byte b makes of the stack w: not, and, or, equal, a constant or a read
 pub record Works (env w b r : ℕ) : Type 0 where
   pub small : r ≤ 2 * w + 1
   pub const : b < 2 → r ≡ w * 2 + b
   pub not : b ≡ 2 → r ≡ w + 1 - 2 * (w % 2)
   pub and : b ≡ 3 → r ≡ w / 4 * 2 + (w % 2 + w / 2 % 2) / 2
   pub or : b ≡ 4 → r ≡ w / 4 * 2 + (w % 2 + w / 2 % 2 + 1) / 2
+  pub equal : b ≡ 5 → r ≡ w / 4 * 2 + (w % 2 + w / 2 % 2 + 1) % 2
   pub read : 0x40 ≤ b → b < 0x70 → r ≡ w * 2 + digit (b - 0x40) env

@@ -1,9 +1,10 @@
 // The value of one expression in one round. The definitions of the language stand in specs/.
 ghost use mathlib.Core.Path.{_≡_};
 ghost use mathlib.Core.List.{[]};
-ghost use Prim.Native.Nat.{ℕ, _<_, _≤_, _^_};
+ghost use Prim.Native.Nat.{_<_, _≤_, _^_};
 ghost use lib.ListN.{length};
 ghost use Rattle.sheet.specs.Expression.{Expr, parse, tree};
+ghost use Rattle.sheet.specs.declared.Grammar.{Grammar};
 ghost use Rattle.lola.specs.Value.{value};
 ghost use Rattle.lola.specs.Slots.{slots, Works};
 
@@ -34,13 +35,16 @@ fn step_bit(env: u64, stack: u64, byte: u8) -> u64
             stack / 4 * 2 + 1
         };
     }
+    if 4 < byte {
+        return stack / 4 * 2 + (stack % 2 + stack / 2 % 2 + 1) % 2;
+    }
     stack * 2 + words::wide(byte % 2)
 }
 
 // The value of an expression whose reads are the bits of `env`.
 pub fn value_bit(env: u64, e: &[u8]) -> bool
     requires { ⌜ length (now e) ≤ 64 ⌝ }
-    ensures { λ r. ⌜ ((s : ℕ) (t : Expr) → parse s [] (now (e .entry)) ≡ tree t → r ≡ value (slots env) t) ⌝ }
+    ensures { λ r. ⌜ ((s : Grammar) (t : Expr) → parse s [] (now (e .entry)) ≡ tree t → r ≡ value (slots env) t) ⌝ }
 {
     let mut stack: u64 = 0;
     let mut i: usize = 0;

@@ -18,7 +18,7 @@ abbrev pub refusalNo : Refusal → ℕ
 refusalNo Short = 1
 -- bytes 0 to 2 are not the mark
 refusalNo Mark = 2
--- the version is not 1
+-- the version is neither 1 nor 2
 refusalNo Version = 3
 -- m, n or m + n is out of range
 refusalNo Counts = 4

@@ -12,14 +12,15 @@ use Rattle.outcomes.specs.declared.Refusal.the-variants.{Length}
 use Rattle.outcomes.specs.declared.Outcome.the-variants.{Accepted}
 use Rattle.outcomes.specs.declared.Outcome.the-variants as outcome
 use Rattle.sheet.specs.Expression.{Parsed, tree, broken, parse, outcomeOf}
+use Rattle.sheet.specs.declared.Grammar.{Grammar}
 use Rattle.reader.specs.Answer.{outputAt, outputOf}
 use Rattle.reader.specs.declared.OutputRead.the-variants.{Bytes, Refused}
 
-pub no-byte : (s at : ℕ) (bs : List ℕ) → length bs ≤ at → outputAt s (drop at bs) ≡ Refused Length
+pub no-byte : (s : Grammar) (at : ℕ) (bs : List ℕ) → length bs ≤ at → outputAt s (drop at bs) ≡ Refused Length
 unfolding outputAt
 no-byte s at bs h = rw (drop-of-length-le bs h)
 
-module _ (s at : ℕ) (bs : List ℕ) (h : at < length bs) where
+module _ (s : Grammar) (at : ℕ) (bs : List ℕ) (h : at < length bs) where
   first : outputAt s (drop at bs) ≡ outputAt s (getD bs at 0 ∷ drop (at + 1) bs)
   first = ap (outputAt s) (drop-cons bs at 0 h ∙ ap (λ (n : ℕ). getD bs at 0 ∷ drop n bs) (sym (add-one at)))
 

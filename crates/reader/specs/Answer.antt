@@ -9,6 +9,7 @@ use Rattle.outcomes.specs.declared.Outcome.{Outcome}
 use Rattle.outcomes.specs.declared.Outcome.the-variants as outcome
 use Rattle.sheet.specs.Expression.{Expr, Parsed, tree, broken, parse}
 use Rattle.sheet.specs.Reading.{codeAt, Parses}
+use Rattle.sheet.specs.declared.Grammar.{Grammar}
 use Rattle.sheet.specs.RuleSheet.{lengthOk, Outputs, trees, breaks}
 use Rattle.reader.specs.declared.OutputRead.{OutputRead}
 use Rattle.reader.specs.declared.OutputRead.the-variants.{Bytes, Refused}
@@ -18,7 +19,7 @@ outputOf l (tree t) = Bytes l
 outputOf l (broken r) = Refused r
 
 -- what the first output of a list of bytes gives
-unfoldable pub outputAt : ℕ → List ℕ → OutputRead
+unfoldable pub outputAt : Grammar → List ℕ → OutputRead
 outputAt s [] = Refused Length
 outputAt s (l ∷ bs) = cond (lengthOk l bs) (outputOf l (parse s [] (take l bs))) (Refused Length)
 

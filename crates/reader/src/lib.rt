@@ -10,6 +10,7 @@ use outcomes::Outcome;
 use outcomes::Refusal;
 use sheet::Assumed;
 use sheet::AssumedRead;
+use sheet::Grammar;
 use sheet::Header;
 use sheet::OutputNo;
 use sheet::Sheet;
@@ -60,7 +61,7 @@ fn read_header(s: &[u8]) -> Header
     if !has_mark(s) {
         return Header::Refused(Refusal::Mark);
     }
-    if version(s) != 1 {
+    if !sheet::version_fits(version(s)) {
         return Header::Refused(Refusal::Version);
     }
     let m = s[5];
@@ -82,8 +83,8 @@ enum OutputRead {
 }
 
 // Reads the output whose length byte is at a place of the sheet. The expression reader is handed its stretch alone.
-fn read_output(s: &[u8], at: usize, streams: u8) -> OutputRead
-    ensures { λ r. ⌜ r ≡ outputAt streams (drop at (now (s .entry))) ⌝ }
+fn read_output(s: &[u8], at: usize, grammar: Grammar) -> OutputRead
+    ensures { λ r. ⌜ r ≡ outputAt grammar (drop at (now (s .entry))) ⌝ }
 {
     if s.len() <= at {
         return OutputRead::Refused(Refusal::Length);
@@ -100,7 +101,7 @@ fn read_output(s: &[u8], at: usize, streams: u8) -> OutputRead
         return OutputRead::Refused(Refusal::Length);
     }
     let end = start + len;
-    let got = sheet::read_expression(&s[start..end], streams);
+    let got = sheet::read_expression(&s[start..end], grammar);
     match got {
         Outcome::Accepted => OutputRead::Bytes(len),
         Outcome::Refused(r) => OutputRead::Refused(r),
@@ -120,16 +121,16 @@ fn put(buffer: &mut [u8], from: usize, e: &[u8])
 }
 
 // Reads the outputs, from byte 8 on, and what is left after them. Output k's expression goes to the code from 64 k on.
-fn read_outputs(s: &[u8], streams: u8, n: u8, len: &mut [usize], code: &mut [u8]) -> Outcome
+fn read_outputs(s: &[u8], grammar: Grammar, n: u8, len: &mut [usize], code: &mut [u8]) -> Outcome
     requires { ⌜ (8 ≤ length (now s)) × (n ≤ 7) × (length (now len) ≡ 7) × (length (now code) ≡ 448) ⌝ }
-    ensures reading { λ r. ⌜ outputsBy r (treesOf streams (now (code .exit)) (now (len .exit)) n) ≡ readOutputs streams n (drop 8 (now (s .entry))) ⌝ }
-    ensures held { λ r. ⌜ whenAccepted r (PackedOutputs streams n (now (len .exit)) (now (code .exit))) ⌝ }
+    ensures reading { λ r. ⌜ outputsBy r (treesOf (grammar .streams) (now (code .exit)) (now (len .exit)) n) ≡ readOutputs grammar n (drop 8 (now (s .entry))) ⌝ }
+    ensures held { λ r. ⌜ whenAccepted r (PackedOutputs (grammar .streams) n (now (len .exit)) (now (code .exit))) ⌝ }
 {
     let outputs = n as usize;
     let mut at: usize = 8;
     let mut k: usize = 0;
     while k < outputs {
-        let got = read_output(s, at, streams);
+        let got = read_output(s, at, grammar);
         match got {
             OutputRead::Bytes(bytes) => {
                 let from = at + 1;
@@ -176,7 +177,12 @@ pub fn read_sheet(s: &[u8]) -> SheetRead
         Header::Fields(m, n, a) => {
             let mut len = [0usize; 7];
             let mut code = [0u8; 448];
-            let outcome = read_outputs(s, m + n, n, &mut len, &mut code);
+            let streams = m + n;
+            let grammar = Grammar {
+                version: version(s),
+                streams,
+            };
+            let outcome = read_outputs(s, grammar, n, &mut len, &mut code);
             match outcome {
                 Outcome::Accepted => {
                     let sheet = Sheet {

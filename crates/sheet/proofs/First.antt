@@ -18,14 +18,15 @@ use Rattle.outcomes.specs.declared.Outcome.the-variants.{Accepted, Refused}
 use Rattle.outcomes.proofs.Decisions.{test-decides}
 use Rattle.words.proofs.Bools.{and-split}
 use Rattle.sheet.specs.Bytes.{opOf}
-use Rattle.sheet.specs.Expression.{Expr, stack, Parsed, tree, broken, applyOp, final, parse}
+use Rattle.sheet.specs.Expression.{Expr, hasEqual, stack, Parsed, tree, broken, applyOp, final, parse}
 use Rattle.sheet.specs.Expression
-use Rattle.sheet.specs.Header.{markOk, versionOf, countsOk, assumedAt, fieldsOf, headerOf}
+use Rattle.sheet.specs.Header.{markOk, versionOf, versionOk, countsOk, assumedAt, fieldsOf, headerOf}
 use Rattle.sheet.specs.RuleSheet.{Outputs, trees, breaks, lengthOk, after, andThen, readOutputs, withOutputs, withHeader, readSheet}
-use Rattle.sheet.specs.ReadingChecks.{inputsOf, outputsOf, outputAt, lengthAt, expressionOf, known, needs, heightFrom, badLength, opAt, badByte, badValues, badEnd, leftOver, byteChecks, outputChecks, readingChecks}
+use Rattle.sheet.specs.ReadingChecks.{inputsOf, outputsOf, grammarOf, outputAt, lengthAt, expressionOf, known, needs, heightFrom, badLength, opAt, badByte, badValues, badEnd, leftOver, byteChecks, outputChecks, readingChecks}
 use Rattle.sheet.specs.Decided.{readingOutcome, ReadingDecided}
+use Rattle.sheet.specs.declared.Grammar.{Grammar}
 use Rattle.sheet.specs.declared.Op.{Op}
-use Rattle.sheet.specs.declared.Op.the-variants.{Const, Not, And, Or, Read, Rejected}
+use Rattle.sheet.specs.declared.Op.the-variants.{Const, Not, And, Or, Equal, Read, Rejected}
 use Rattle.sheet.specs.declared.Assumed.{Assumed}
 use Rattle.sheet.specs.declared.Assumed.the-variants.{Nothing, Output}
 use Rattle.sheet.specs.declared.AssumedRead.the-variants as assumed
@@ -34,12 +35,21 @@ use Rattle.sheet.specs.declared.Header.the-variants as header
 use Rattle.sheet.proofs.Ops.{OnlyByte, only-byte}
 
 -- what one operation does: it is unknown, or lacks a value, or goes on
-data Does (s : ℕ) (op : Op) (st : List Expr) : Type 0 where
+data Does (s : Grammar) (op : Op) (st : List Expr) : Type 0 where
   unknown : known s op ≡ false → applyOp s op st ≡ Expression.breaks Byte → Does s op st
   lacks : known s op ≡ true → length st < needs op → applyOp s op st ≡ Expression.breaks Values → Does s op st
   goes : known s op ≡ true → needs op ≤ length st → (st′ : List Expr) → applyOp s op st ≡ stack st′ → length st′ ≡ length st + 1 - needs op → Does s op st
 
-does : (s : ℕ) (op : Op) (st : List Expr) → OnlyByte op → Does s op st
+equals : (s : Grammar) (st : List Expr) (t : Bool) → hasEqual s ≡ t → Does s Equal st
+unfolding known needs applyOp
+equals s [] true e = lacks e (omega arith) (rw e)
+equals s (b ∷ []) true e = lacks e (omega arith) (rw e)
+equals s (b ∷ (a ∷ st)) true e = goes e (omega arith) (Expression.equality a b ∷ st) (rw e) (omega arith)
+equals s [] false e = unknown e (rw e)
+equals s (b ∷ []) false e = unknown e (rw e)
+equals s (b ∷ (a ∷ st)) false e = unknown e (rw e)
+
+does : (s : Grammar) (op : Op) (st : List Expr) → OnlyByte op → Does s op st
 unfolding known needs applyOp
 does s (Const v) st ok = goes refl (omega arith) _ refl (omega arith)
 does s Not [] ok = lacks refl (omega arith) refl
@@ -50,9 +60,10 @@ does s And (b ∷ (a ∷ st)) ok = goes refl (omega arith) _ refl (omega arith)
 does s Or [] ok = lacks refl (omega arith) refl
 does s Or (b ∷ []) ok = lacks refl (omega arith) refl
 does s Or (b ∷ (a ∷ st)) ok = goes refl (omega arith) _ refl (omega arith)
-does s (Read q o v) st ok = go (ltb (q .0) s) refl
+does s Equal st ok = equals s st (hasEqual s) refl
+does s (Read q o v) st ok = go (ltb (q .0) (s .streams)) refl
   where
-    go : (t : Bool) → ltb (q .0) s ≡ t → Does s (Read q o v) st
+    go : (t : Bool) → ltb (q .0) (s .streams) ≡ t → Does s (Read q o v) st
     go true e = goes e (omega arith) (Expression.read (q .0) o v ∷ st) (rw e) (omega arith)
     go false e = unknown e (rw e)
 does s (Rejected r) st ok = unknown refl (ap Expression.breaks ok)
@@ -82,16 +93,13 @@ height-more d [] b = refl
 height-more d (x ∷ xs) b = height-more (d + 1 - needs (opOf x)) xs b
 
 module _ (bs : List ℕ) (k : ℕ) where
-  abbrev streams : ℕ
-  streams = inputsOf bs + outputsOf bs
-
   abbrev e : List ℕ
   e = expressionOf bs k
 
   byte-law : (i : ℕ) (st : List Expr) (more : List Check) (x : Outcome) → length st ≡ heightFrom 0 (take i e)
-      → ((st′ : List Expr) → length st′ ≡ heightFrom 0 (take i e) + 1 - needs (opAt bs k i) → Decided more (afterParse (parse streams st′ (drop (suc i) e)) x))
-      → Does streams (opAt bs k i) st
-      → Decided (test Byte (badByte bs k i) ∷ (test Values (badValues bs k i) ∷ more)) (afterParse (parse streams st (getD e i 0 ∷ drop (suc i) e)) x)
+      → ((st′ : List Expr) → length st′ ≡ heightFrom 0 (take i e) + 1 - needs (opAt bs k i) → Decided more (afterParse (parse (grammarOf bs) st′ (drop (suc i) e)) x))
+      → Does (grammarOf bs) (opAt bs k i) st
+      → Decided (test Byte (badByte bs k i) ∷ (test Values (badValues bs k i) ∷ more)) (afterParse (parse (grammarOf bs) st (getD e i 0 ∷ drop (suc i) e)) x)
   unfolding parse
   byte-law i st more x l rec (unknown q p) = inl (ap not q, rw p)
   byte-law i st more x l rec (lacks q n p) = inr (off (ap not q), inl (lt-ltb (heightFrom 0 (take i e)) (needs (opAt bs k i)) (rw l at n), rw p))
@@ -99,7 +107,7 @@ module _ (bs : List ℕ) (k : ℕ) where
       inr (off (ap not q), inr (off (le-ltb (heightFrom 0 (take i e)) (needs (opAt bs k i)) (rw l at n)), rw p (rec st′ (rw l at m))))
 
   expr-law : (rest : List Check) (x : Outcome) → Decided rest x → (r i : ℕ) (st : List Expr) → i + r ≡ length e → length st ≡ heightFrom 0 (take i e)
-      → Decided (byteChecks bs k i r ++ (test Values (badEnd bs k) ∷ rest)) (afterParse (parse streams st (drop i e)) x)
+      → Decided (byteChecks bs k i r ++ (test Values (badEnd bs k) ∷ rest)) (afterParse (parse (grammarOf bs) st (drop i e)) x)
   unfolding byteChecks parse
   expr-law rest x h zero i st g l =
       let a : i ≡ length e = omega arith in
@@ -111,7 +119,7 @@ module _ (bs : List ℕ) (k : ℕ) where
       rw (drop-cons e i 0 lt)
       (byte-law i st (byteChecks bs k (suc i) r ++ (test Values (badEnd bs k) ∷ rest)) x l
       (λ st′ m. expr-law rest x h r (suc i) st′ (omega arith) (m ∙ sym (ap (heightFrom 0) (take-suc e i 0 lt) ∙ height-more 0 (take i e) (getD e i 0))))
-      (does streams (opAt bs k i) st (only-byte (getD e i 0))))
+      (does (grammarOf bs) (opAt bs k i) st (only-byte (getD e i 0))))
 
 -- the law of the outputs
 
@@ -141,7 +149,7 @@ module _ (bs : List ℕ) where
 
   -- what their reading gives
   abbrev reads : ℕ → ℕ → Outcome
-  reads k r = outputsNo (readOutputs (streams bs k) r (drop (outputAt bs k) bs))
+  reads k r = outputsNo (readOutputs (grammarOf bs) r (drop (outputAt bs k) bs))
 
   -- the length rule, as the reading tests it
   size-same : (k : ℕ) → outputAt bs k < length bs → badLength bs k ≡ not (lengthOk (lengthAt bs k) (drop (outputAt bs k + 1) bs))
@@ -155,7 +163,7 @@ module _ (bs : List ℕ) where
 
   one-law : (k r : ℕ) → Decided (from (suc k) r) (reads (suc k) r) → outputAt bs k < length bs → (t : Bool) → lengthOk (lengthAt bs k) (drop (outputAt bs k + 1) bs) ≡ t
       → Decided (test Length (badLength bs k) ∷ (byteChecks bs k 0 (lengthAt bs k) ++ (test Values (badEnd bs k) ∷ from (suc k) r)))
-      (outputsNo (cond t (andThen (parse (streams bs k) [] (expressionOf bs k)) (readOutputs (streams bs k) r (drop (lengthAt bs k) (drop (outputAt bs k + 1) bs)))) (breaks Length)))
+      (outputsNo (cond t (andThen (parse (grammarOf bs) [] (expressionOf bs k)) (readOutputs (grammarOf bs) r (drop (lengthAt bs k) (drop (outputAt bs k + 1) bs)))) (breaks Length)))
   unfolding outputAt heightFrom
   one-law k r rec h false q = inl (size-same k h ∙ ap not q, refl)
   one-law k r rec h true q =
@@ -167,8 +175,8 @@ module _ (bs : List ℕ) where
       inr (
         off (size-same k h ∙ ap not q),
         subst (Decided (byteChecks bs k 0 n ++ (test Values (badEnd bs k) ∷ from (suc k) r)))
-            (ap (λ (z : List ℕ). afterParse (parse (streams bs k) [] (expressionOf bs k)) (outputsNo (readOutputs (streams bs k) r z))) (sym (drop-drop n (outputAt bs k + 1) bs))
-            ∙ sym (andThen-no (parse (streams bs k) [] (expressionOf bs k)) (readOutputs (streams bs k) r (drop n ys))))
+            (ap (λ (z : List ℕ). afterParse (parse (grammarOf bs) [] (expressionOf bs k)) (outputsNo (readOutputs (grammarOf bs) r z))) (sym (drop-drop n (outputAt bs k + 1) bs))
+            ∙ sym (andThen-no (parse (grammarOf bs) [] (expressionOf bs k)) (readOutputs (grammarOf bs) r (drop n ys))))
             (expr-law bs k (from (suc k) r) (reads (suc k) r) rec n 0 [] (omega (arith, length-take-le n ys fits)) refl),
       )
 
@@ -180,7 +188,7 @@ module _ (bs : List ℕ) where
   last-law k h =
       ap (λ (z : ℕ). cond {A = Outcome} (ltb (outputAt bs z) (length bs)) (Refused Leftover) Accepted) (sym h) ∙ go (ltb (outputAt bs k) (length bs)) refl
     where
-      go : (t : Bool) → ltb (outputAt bs k) (length bs) ≡ t → cond t (Refused Leftover) Accepted ≡ outputsNo (readOutputs (streams bs k) 0 (drop (outputAt bs k) bs))
+      go : (t : Bool) → ltb (outputAt bs k) (length bs) ≡ t → cond t (Refused Leftover) Accepted ≡ outputsNo (readOutputs (grammarOf bs) 0 (drop (outputAt bs k) bs))
       go true q = rw (drop-cons bs (outputAt bs k) 0 (ltb-true _ _ q))
       go false q = rw (drop-of-length-le bs (ltb-false _ _ q))
 
@@ -237,5 +245,5 @@ pub reading-decided : ReadingDecided
 unfolding readSheet headerOf assumedAt readingChecks outputAt
 reading-decided bs =
     header-law bs (from bs 0 (outputsOf bs))
-    (ltb (length bs) 8) (markOk bs) (eqb (versionOf bs) 1) (countsOk (inputsOf bs) (outputsOf bs)) (eqb (getD bs 7 0) 255) (ltb (getD bs 7 0) (outputsOf bs))
-    (λ a. subst (Decided (from bs 0 (outputsOf bs))) (sym (with-no (inputsOf bs) (outputsOf bs) a (readOutputs (inputsOf bs + outputsOf bs) (outputsOf bs) (drop 8 bs)))) (outputs-law bs (outputsOf bs) 0 (omega arith)))
+    (ltb (length bs) 8) (markOk bs) (versionOk (versionOf bs)) (countsOk (inputsOf bs) (outputsOf bs)) (eqb (getD bs 7 0) 255) (ltb (getD bs 7 0) (outputsOf bs))
+    (λ a. subst (Decided (from bs 0 (outputsOf bs))) (sym (with-no (inputsOf bs) (outputsOf bs) a (readOutputs (grammarOf bs) (outputsOf bs) (drop 8 bs)))) (outputs-law bs (outputsOf bs) 0 (omega arith)))

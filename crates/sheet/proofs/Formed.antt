@@ -6,33 +6,40 @@ use Prim.Native.Nat.{ℕ, zero, suc, _+_, _<_}
 use native.Mathlib.Omega.{arith}
 use lib.ListN.{length, getD, take, drop}
 use Rattle.outcomes.specs.declared.Refusal.the-variants.{Length}
-use Rattle.sheet.specs.Expression.{Expr, constant, Parsed, tree, broken, parse}
-use Rattle.sheet.specs.Header.{headerOf}
+use Rattle.sheet.specs.Expression.{Expr, constant, newest, Parsed, tree, broken, parse}
+use Rattle.sheet.specs.Header.{headerOf, versionOf}
 use Rattle.sheet.specs.RuleSheet.{RuleSheet, outputs, streams, accepted, Outputs, trees, breaks, lengthOk, andThen, readOutputs, withOutputs, withHeader, readSheet, requiredOf}
 use Rattle.sheet.specs.Reading.{ruleSheet, treeOf, codeAt, Usable, Ranges}
 use Rattle.sheet.specs.Postfix.{InSheet}
 use Rattle.sheet.specs.ReadingChecks.{inputsOf, outputsOf}
 use Rattle.sheet.specs.declared.Sheet.{Sheet}
 use Rattle.sheet.specs.declared.Assumed.{Assumed}
+use Rattle.sheet.specs.declared.Grammar.{Grammar}
 use Rattle.sheet.specs.declared.Header.{Header}
 use Rattle.sheet.specs.declared.Header.the-variants.{Fields, Refused}
 use Rattle.sheet.proofs.Sheets.{tree-at, length-trees}
 use Rattle.sheet.proofs.Headers.{fields, fields-are}
 use Rattle.sheet.proofs.Postfixes.{tree-exactly}
+use Rattle.sheet.proofs.Versions.{in-newest}
 
 -- bytes read as one sheet
 pub one-sheet : (bs : List ℕ) (x y : RuleSheet) → readSheet bs ≡ accepted x → readSheet bs ≡ accepted y → x ≡ y
 one-sheet bs x y e f = let z : accepted x ≡ accepted y = sym e ∙ f in cc
 
-pub record Formed (x : RuleSheet) : Type 0 where
+-- in a version: its expressions have no byte that the version lacks
+pub record FormedIn (v : ℕ) (x : RuleSheet) : Type 0 where
   pub ranges : Ranges (x .inputs) (outputs x)
-  pub each : (s : ℕ) → s < outputs x → InSheet (streams x) (getD (x .expressions) s (constant false))
+  pub each : (s : ℕ) → s < outputs x → InSheet (record { version = v; streams = streams x }) (getD (x .expressions) s (constant false))
+
+-- in the newest
+abbrev pub Formed : RuleSheet → Type 0
+Formed x = FormedIn 2 x
 
 -- the outputs that are read
-abbrev AllIn : ℕ → ℕ → List Expr → Type 0
+abbrev AllIn : Grammar → ℕ → List Expr → Type 0
 AllIn s k ts = (length ts ≡ k) × ((i : ℕ) → i < k → InSheet s (getD ts i (constant false)))
 
-all-in : (s k : ℕ) (bs : List ℕ) (ts : List Expr) → readOutputs s k bs ≡ trees ts → AllIn s k ts
+all-in : (s : Grammar) (k : ℕ) (bs : List ℕ) (ts : List Expr) → readOutputs s k bs ≡ trees ts → AllIn s k ts
 unfolding readOutputs
 all-in s zero [] ts h = let e : [] ≡ ts = cc in (ap length (sym e), λ i l. absurd (omega arith))
 all-in s zero (b ∷ bs) ts h = absurd (true≢false cc)
@@ -56,21 +63,26 @@ all-in s (suc k) (l ∷ bs) ts h =
     go true (broken x) e o r h = absurd (true≢false cc)
     go false p e o r h = absurd (true≢false cc)
 
-formed-of : (m n : ℕ) (a : Assumed) → Ranges m n → (bs : List ℕ) (o : Outputs) → readOutputs (m + n) n bs ≡ o → (x : RuleSheet) → withOutputs m n a o ≡ accepted x → Formed x
-formed-of m n a g bs (trees ts) e x h =
-    let r = all-in (m + n) n bs ts e in
+formed-of : (v m n : ℕ) (a : Assumed) → Ranges m n → (bs : List ℕ) (o : Outputs) → readOutputs (record { version = v; streams = m + n }) n bs ≡ o → (x : RuleSheet) → withOutputs m n a o ≡ accepted x → FormedIn v x
+formed-of v m n a g bs (trees ts) e x h =
+    let r = all-in (record { version = v; streams = m + n }) n bs ts e in
     let y : RuleSheet = record { inputs = m; expressions = ts; required = requiredOf a } in
     let same : y ≡ x = cc in
-    subst Formed same (record { ranges = rw (r .0) g; each = λ s l. subst (λ (z : ℕ). InSheet (m + z) (getD ts s (constant false))) (sym (r .0)) (r .1 s (omega (arith, r .0))) })
-formed-of m n a g bs (breaks r) e x h = absurd (true≢false cc)
+    subst (FormedIn v) same (record { ranges = rw (r .0) g; each = λ s l. subst (λ (z : ℕ). InSheet (record { version = v; streams = m + z }) (getD ts s (constant false))) (sym (r .0)) (r .1 s (omega (arith, r .0))) })
+formed-of v m n a g bs (breaks r) e x h = absurd (true≢false cc)
+
+pub formed-in : (bs : List ℕ) (x : RuleSheet) → readSheet bs ≡ accepted x → FormedIn (versionOf bs) x
+unfolding readSheet
+formed-in bs x h = go (headerOf bs) refl h
+  where
+    go : (k : Header) → headerOf bs ≡ k → withHeader bs k ≡ accepted x → FormedIn (versionOf bs) x
+    go (Fields m n a) f e = formed-of (versionOf bs) m n a (fields bs m n a f .1) (drop 8 bs) _ refl x e
+    go (Refused r) f e = absurd (true≢false cc)
 
 pub read-formed : (bs : List ℕ) (x : RuleSheet) → readSheet bs ≡ accepted x → Formed x
-unfolding readSheet
-read-formed bs x h = go (headerOf bs) refl h
-  where
-    go : (k : Header) → headerOf bs ≡ k → withHeader bs k ≡ accepted x → Formed x
-    go (Fields m n a) f e = formed-of m n a (fields bs m n a f .1) (drop 8 bs) (readOutputs (m + n) n (drop 8 bs)) refl x e
-    go (Refused r) f e = absurd (true≢false cc)
+read-formed bs x h =
+    let f = formed-in bs x h in
+    record { ranges = f .ranges; each = λ s l. in-newest (record { version = versionOf bs; streams = streams x }) _ (f .each s l) }
 
 pub usable-formed : (x : Sheet) → Usable x → Formed (ruleSheet x)
 usable-formed x u =
@@ -80,8 +92,8 @@ usable-formed x u =
       each = λ s l.
           let h : s < x .outputs = omega arith in
           rw (tree-at (x .inputs + x .outputs) (x .code) (x .len) (x .outputs) s (constant false) h)
-          (subst (λ (z : ℕ). InSheet (x .inputs + z) (treeOf (parse (x .inputs + x .outputs) [] (codeAt (x .code) (x .len) s)))) (sym n)
-          (tree-exactly (x .inputs + x .outputs) (codeAt (x .code) (x .len) s) _ .0 (u .parts s h .parses) .1));
+          (subst (λ (z : ℕ). InSheet (newest (x .inputs + z)) (treeOf (parse (newest (x .inputs + x .outputs)) [] (codeAt (x .code) (x .len) s)))) (sym n)
+          (tree-exactly (newest (x .inputs + x .outputs)) (codeAt (x .code) (x .len) s) _ .0 (u .parts s h .parses) .1));
     }
 
 -- the sheet's counts are those of its header
@@ -89,15 +101,15 @@ pub counts-of : (bs : List ℕ) (x : RuleSheet) → readSheet bs ≡ accepted x 
 unfolding readSheet
 counts-of bs x h = go (headerOf bs) refl h
   where
-    with : (m n : ℕ) (a : Assumed) (o : Outputs) → readOutputs (m + n) n (drop 8 bs) ≡ o → withOutputs m n a o ≡ accepted x → (x .inputs ≡ m) × (outputs x ≡ n)
+    with : (m n : ℕ) (a : Assumed) (o : Outputs) → readOutputs (record { version = versionOf bs; streams = m + n }) n (drop 8 bs) ≡ o → withOutputs m n a o ≡ accepted x → (x .inputs ≡ m) × (outputs x ≡ n)
     with m n a (trees ts) f e =
         let same : record { inputs = m; expressions = ts; required = requiredOf a } ≡ x = cc in
-        (sym (ap (λ (y : RuleSheet). y .inputs) same), sym (ap outputs same) ∙ all-in (m + n) n (drop 8 bs) ts f .0)
+        (sym (ap (λ (y : RuleSheet). y .inputs) same), sym (ap outputs same) ∙ all-in (record { version = versionOf bs; streams = m + n }) n (drop 8 bs) ts f .0)
     with m n a (breaks r) f e = absurd (true≢false cc)
 
     go : (k : Header) → headerOf bs ≡ k → withHeader bs k ≡ accepted x → (x .inputs ≡ inputsOf bs) × (outputs x ≡ outputsOf bs)
     go (Fields m n a) f e =
-        let c = with m n a (readOutputs (m + n) n (drop 8 bs)) refl e in
+        let c = with m n a _ refl e in
         let d = fields-are bs m n a f in
         (c .0 ∙ d .0, c .1 ∙ d .1)
     go (Refused r) f e = absurd (true≢false cc)

@@ -8,7 +8,7 @@ use lib.Dec.{leb, ltb, eqb}
 use borrow.Author.Tests.{leb-true, ltb-true, ltb-false}
 use Rattle.outcomes.specs.declared.Refusal.the-variants.{Short, Mark, Version, Counts, Assumption}
 use Rattle.words.proofs.Bools.{and-split}
-use Rattle.sheet.specs.Header.{markOk, versionOf, countsOk, assumedAt, fieldsOf, headerOf}
+use Rattle.sheet.specs.Header.{markOk, versionOf, versionOk, countsOk, assumedAt, fieldsOf, headerOf}
 use Rattle.sheet.specs.Reading.{Ranges, Below}
 use Rattle.sheet.specs.declared.Assumed.{Assumed}
 use Rattle.sheet.specs.declared.Assumed.the-variants.{Nothing, Output}
@@ -46,7 +46,7 @@ FieldsFit bs m n x = (8 ≤ length bs) × Ranges m n × Below x n
 pub fields : (bs : List ℕ) (m n : ℕ) (x : Assumed) → headerOf bs ≡ Fields m n x → FieldsFit bs m n x
 unfolding headerOf
 fields bs m n x h =
-    go (ltb (length bs) 8) (markOk bs) (eqb (versionOf bs) 1) (countsOk (getD bs 5 0) (getD bs 6 0)) (assumedAt (getD bs 7 0) (getD bs 6 0)) refl refl refl h
+    go (ltb (length bs) 8) (markOk bs) (versionOk (versionOf bs)) (countsOk (getD bs 5 0) (getD bs 6 0)) (assumedAt (getD bs 7 0) (getD bs 6 0)) refl refl refl h
   where
     go : (t u v w : Bool) (y : AssumedRead) → ltb (length bs) 8 ≡ t → countsOk (getD bs 5 0) (getD bs 6 0) ≡ w → assumedAt (getD bs 7 0) (getD bs 6 0) ≡ y
         → cond t (Refused Short) (cond u (cond v (cond w (fieldsOf (getD bs 5 0) (getD bs 6 0) y) (Refused Counts)) (Refused Version)) (Refused Mark)) ≡ Fields m n x
@@ -69,7 +69,7 @@ fields bs m n x h =
 pub fields-are : (bs : List ℕ) (m n : ℕ) (x : Assumed) → headerOf bs ≡ Fields m n x → (m ≡ getD bs 5 0) × (n ≡ getD bs 6 0)
 unfolding headerOf
 fields-are bs m n x h =
-    go (ltb (length bs) 8) (markOk bs) (eqb (versionOf bs) 1) (countsOk (getD bs 5 0) (getD bs 6 0)) (assumedAt (getD bs 7 0) (getD bs 6 0)) h
+    go (ltb (length bs) 8) (markOk bs) (versionOk (versionOf bs)) (countsOk (getD bs 5 0) (getD bs 6 0)) (assumedAt (getD bs 7 0) (getD bs 6 0)) h
   where
     go : (t u v w : Bool) (y : AssumedRead)
         → cond t (Refused Short) (cond u (cond v (cond w (fieldsOf (getD bs 5 0) (getD bs 6 0) y) (Refused Counts)) (Refused Version)) (Refused Mark)) ≡ Fields m n x

@@ -9,7 +9,7 @@ use Rattle.outcomes.specs.declared.Refusal.the-variants.{Byte}
 use Rattle.words.proofs.Bools.{and-split}
 use Rattle.sheet.specs.Bytes.{opOf, readOf, readsOf, within}
 use Rattle.sheet.specs.declared.Op.{Op}
-use Rattle.sheet.specs.declared.Op.the-variants.{Const, Not, And, Or, Read, Rejected}
+use Rattle.sheet.specs.declared.Op.the-variants.{Const, Not, And, Or, Equal, Read, Rejected}
 use Rattle.sheet.specs.declared.Offset.{Offset}
 use Rattle.sheet.specs.declared.Offset.the-variants.{Earlier, Now, Later}
 
@@ -26,11 +26,11 @@ under-range lo hi b h = simp (lt-leb lo b h)
 over-range : (lo hi b : ℕ) → hi < b → within lo hi b ≡ false
 over-range lo hi b h = simp (lt-leb b hi h, and-false)
 
-past-keys : (b : ℕ) → 4 < b → opOf b ≡ readsOf b
+past-keys : (b : ℕ) → 5 < b → opOf b ≡ readsOf b
 unfolding opOf
 past-keys b h =
     simp
-    (over b 0 (omega arith), over b 1 (omega arith), over b 2 (omega arith), over b 3 (omega arith), over b 4 h)
+    (over b 0 (omega arith), over b 1 (omega arith), over b 2 (omega arith), over b 3 (omega arith), over b 4 (omega arith), over b 5 h)
 
 pub is-now : (b : ℕ) → 0x40 ≤ b → b ≤ 0x47 → opOf b ≡ readOf 0x40 b Now false
 unfolding readsOf
@@ -70,7 +70,7 @@ is-later-true b l h =
       inside 0x68 0x6F b l h,
     )
 
-pub unknown-low : (b : ℕ) → 4 < b → b < 0x40 → opOf b ≡ Rejected Byte
+pub unknown-low : (b : ℕ) → 5 < b → b < 0x40 → opOf b ≡ Rejected Byte
 unfolding readsOf
 unknown-low b l h =
     past-keys b l
@@ -127,17 +127,17 @@ module _ (P : Op → Type 0) (b : ℕ) where
       go false e = g
 
   -- what holds of each operation that a byte can have, by what that says of the byte, holds of the byte's operation
-  pub op-cases : (b ≡ 0 → P (Const false)) → (b ≡ 1 → P (Const true)) → (b ≡ 2 → P Not) → (b ≡ 3 → P And) → (b ≡ 4 → P Or)
+  pub op-cases : (b ≡ 0 → P (Const false)) → (b ≡ 1 → P (Const true)) → (b ≡ 2 → P Not) → (b ≡ 3 → P And) → (b ≡ 4 → P Or) → (b ≡ 5 → P Equal)
       → (0x40 ≤ b → b ≤ 0x47 → P (readOf 0x40 b Now false))
       → (0x50 ≤ b → b ≤ 0x57 → P (readOf 0x50 b Earlier false)) → (0x58 ≤ b → b ≤ 0x5F → P (readOf 0x58 b Earlier true))
       → (0x60 ≤ b → b ≤ 0x67 → P (readOf 0x60 b Later false)) → (0x68 ≤ b → b ≤ 0x6F → P (readOf 0x68 b Later true))
       → P (Rejected Byte) → P (opOf b)
   unfolding opOf readsOf
-  op-cases f₀ f₁ f₂ f₃ f₄ now e₀ e₁ l₀ l₁ unknown =
-      key-case 0 _ _ f₀ (key-case 1 _ _ f₁ (key-case 2 _ _ f₂ (key-case 3 _ _ f₃ (key-case 4 _ _ f₄
+  op-cases f₀ f₁ f₂ f₃ f₄ f₅ now e₀ e₁ l₀ l₁ unknown =
+      key-case 0 _ _ f₀ (key-case 1 _ _ f₁ (key-case 2 _ _ f₂ (key-case 3 _ _ f₃ (key-case 4 _ _ f₄ (key-case 5 _ _ f₅
       (range-case 0x40 0x47 _ _ now
       (range-case 0x50 0x57 _ _ e₀ (range-case 0x58 0x5F _ _ e₁
-      (range-case 0x60 0x67 _ _ l₀ (range-case 0x68 0x6F _ _ l₁ unknown)))))))))
+      (range-case 0x60 0x67 _ _ l₀ (range-case 0x68 0x6F _ _ l₁ unknown))))))))))
 
 -- the only rule that a byte breaks by itself is 7
 abbrev pub OnlyByte : Op → Type 0
@@ -145,11 +145,12 @@ OnlyByte (Const v) = Unit {0}
 OnlyByte Not = Unit {0}
 OnlyByte And = Unit {0}
 OnlyByte Or = Unit {0}
+OnlyByte Equal = Unit {0}
 OnlyByte (Read q o v) = Unit {0}
 OnlyByte (Rejected r) = r ≡ Byte
 
 pub only-byte : (b : ℕ) → OnlyByte (opOf b)
-only-byte b = op-cases OnlyByte b (λ e. tt) (λ e. tt) (λ e. tt) (λ e. tt) (λ e. tt) (λ l h. tt) (λ l h. tt) (λ l h. tt) (λ l h. tt) (λ l h. tt) refl
+only-byte b = op-cases OnlyByte b (λ e. tt) (λ e. tt) (λ e. tt) (λ e. tt) (λ e. tt) (λ e. tt) (λ l h. tt) (λ l h. tt) (λ l h. tt) (λ l h. tt) (λ l h. tt) refl
 
 -- the number of the stream is what eights leave over
 pub by-eights : (base b : ℕ) (o : Offset) (d : Bool) → base % 8 ≡ 0 → base ≤ b → b ≤ base + 7 → opOf b ≡ readOf base b o d → Read (record { 0 = b % 8 }) o d ≡ opOf b

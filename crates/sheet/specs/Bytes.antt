@@ -7,7 +7,7 @@ use Rattle.outcomes.specs.declared.Refusal.the-variants.{Byte}
 use Rattle.sheet.specs.declared.Offset.{Offset}
 use Rattle.sheet.specs.declared.Offset.the-variants.{Earlier, Now, Later}
 use Rattle.sheet.specs.declared.Op.{Op}
-use Rattle.sheet.specs.declared.Op.the-variants.{Const, Not, And, Or, Read, Rejected}
+use Rattle.sheet.specs.declared.Op.the-variants.{Const, Not, And, Or, Equal, Read, Rejected}
 
 -- b lies in lo..hi, both ends counted
 abbrev pub within : ℕ → ℕ → ℕ → Bool
@@ -28,7 +28,7 @@ readsOf b =
     (cond (within 0x68 0x6F b) (readOf 0x68 b Later true)
     (Rejected Byte)))))
 
--- 00 false; 01 true; 02 not; 03 and; 04 or; the reads
+-- 00 false; 01 true; 02 not; 03 and; 04 or; 05 equal (02, W1); the reads
 unfoldable pub opOf : ℕ → Op
 opOf b =
     cond (eqb b 0x00) (Const false)
@@ -36,4 +36,5 @@ opOf b =
     (cond (eqb b 0x02) Not
     (cond (eqb b 0x03) And
     (cond (eqb b 0x04) Or
-    (readsOf b)))))
+    (cond (eqb b 0x05) Equal
+    (readsOf b))))))

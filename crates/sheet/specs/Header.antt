@@ -1,6 +1,6 @@
 -- The first 8 bytes of a sheet (01, "The sheet"): rules 1 to 5, in their order (01, "What is turned down").
 -- Manual: "The sheet".
-use mathlib.Core.Bool.{Bool, cond, _&&_}
+use mathlib.Core.Bool.{Bool, cond, _&&_, _||_}
 use mathlib.Core.List.{List}
 use Prim.Native.Nat.{ℕ, _+_, _*_}
 use lib.ListN.{length, getD}
@@ -19,6 +19,10 @@ markOk bs = eqb (getD bs 0 0) 0x53 && (eqb (getD bs 1 0) 0x4C && eqb (getD bs 2 
 -- bytes 3 and 4 hold the version, low byte first
 unfoldable pub versionOf : List ℕ → ℕ
 versionOf bs = getD bs 3 0 + 256 * getD bs 4 0
+
+-- a sheet has version 1 or 2 (02, W1)
+unfoldable pub versionOk : ℕ → Bool
+versionOk v = eqb v 1 || eqb v 2
 
 -- m is 1 to 6, n is 1 to 7, m + n is at most 8
 unfoldable pub countsOk : ℕ → ℕ → Bool
@@ -40,7 +44,7 @@ unfoldable pub headerOf : List ℕ → Header
 headerOf bs =
     cond (ltb (length bs) 8) (Refused Short)
     (cond (markOk bs)
-    (cond (eqb (versionOf bs) 1)
+    (cond (versionOk (versionOf bs))
     (cond (countsOk (getD bs 5 0) (getD bs 6 0))
     (fieldsOf (getD bs 5 0) (getD bs 6 0) (assumedAt (getD bs 7 0) (getD bs 6 0)))
     (Refused Counts))

@@ -7,7 +7,7 @@ use Prim.Native.Nat.{ℕ, zero, suc, _+_, _*_, _≤_, _<_}
 use lib.ListN.{length, take, drop, getD, replicate}
 use Rattle.outcomes.specs.declared.Outcome.{Outcome}
 use Rattle.outcomes.specs.declared.Outcome.the-variants.{Accepted, Refused}
-use Rattle.sheet.specs.Expression.{Expr, constant, Parsed, tree, broken, parse}
+use Rattle.sheet.specs.Expression.{Expr, constant, newest, Parsed, tree, broken, parse}
 use Rattle.sheet.specs.RuleSheet.{RuleSheet, Reading, refused, accepted, requiredOf}
 use Rattle.sheet.specs.declared.Assumed.{Assumed}
 use Rattle.sheet.specs.declared.Assumed.the-variants.{Nothing, Output}
@@ -23,10 +23,10 @@ treeOf (broken r) = constant false
 abbrev pub codeAt : List ℕ → List ℕ → ℕ → List ℕ
 codeAt code len k = take (getD len k 0) (drop (64 * k) code)
 
--- the trees of the first k outputs, in their order, in a sheet of s streams
+-- the trees of the first k outputs, in their order, in a sheet of s streams; a sheet that was read has no byte that its version lacks
 unfoldable pub treesOf : ℕ → List ℕ → List ℕ → ℕ → List Expr
 treesOf s code len zero = []
-treesOf s code len (suc k) = treesOf s code len k ++ (treeOf (parse s [] (codeAt code len k)) ∷ [])
+treesOf s code len (suc k) = treesOf s code len k ++ (treeOf (parse (newest s) [] (codeAt code len k)) ∷ [])
 
 -- the rule sheet that the code's sheet stands for
 abbrev pub ruleSheet : Sheet → RuleSheet
@@ -61,7 +61,7 @@ Below (Output k) n = k .0 < n
 pub record Parses (s : ℕ) (e : List ℕ) : Type 0 where
   pub some : 1 ≤ length e
   pub short : length e ≤ 64
-  pub parses : parse s [] e ≡ tree (treeOf (parse s [] e))
+  pub parses : parse (newest s) [] e ≡ tree (treeOf (parse (newest s) [] e))
 
 -- what a caller may use of an accepted sheet
 pub record Usable (x : Sheet) : Type 0 where

@@ -9,9 +9,11 @@ use lib.Dec.{leb, ltb, eqb}
 use Rattle.outcomes.specs.Decided.{Check, test}
 use Rattle.outcomes.specs.declared.Refusal.the-variants.{Short, Mark, Version, Counts, Assumption, Length, Byte, Values, Leftover}
 use Rattle.sheet.specs.Bytes.{opOf}
-use Rattle.sheet.specs.Header.{markOk, versionOf, countsOk}
+use Rattle.sheet.specs.Expression.{hasEqual}
+use Rattle.sheet.specs.Header.{markOk, versionOf, versionOk, countsOk}
+use Rattle.sheet.specs.declared.Grammar.{Grammar}
 use Rattle.sheet.specs.declared.Op.{Op}
-use Rattle.sheet.specs.declared.Op.the-variants.{Const, Not, And, Or, Read, Rejected}
+use Rattle.sheet.specs.declared.Op.the-variants.{Const, Not, And, Or, Equal, Read, Rejected}
 
 -- the counts in the header
 abbrev pub inputsOf : List ℕ → ℕ
@@ -19,6 +21,10 @@ inputsOf bs = getD bs 5 0
 
 abbrev pub outputsOf : List ℕ → ℕ
 outputsOf bs = getD bs 6 0
+
+-- the grammar of its expressions
+abbrev pub grammarOf : List ℕ → Grammar
+grammarOf bs = record { version = versionOf bs; streams = inputsOf bs + outputsOf bs }
 
 -- where output k's length byte stands: after the header, and after the outputs before it
 unfoldable pub outputAt : List ℕ → ℕ → ℕ
@@ -32,13 +38,14 @@ lengthAt bs k = getD bs (outputAt bs k) 0
 abbrev pub expressionOf : List ℕ → ℕ → List ℕ
 expressionOf bs k = take (lengthAt bs k) (drop (outputAt bs k + 1) bs)
 
--- an operation that may stand in a sheet of s streams
-unfoldable pub known : ℕ → Op → Bool
+-- an operation that may stand in a sheet of the grammar s
+unfoldable pub known : Grammar → Op → Bool
 known s (Const v) = true
 known s Not = true
 known s And = true
 known s Or = true
-known s (Read q o v) = ltb (q .0) s
+known s Equal = hasEqual s
+known s (Read q o v) = ltb (q .0) (s .streams)
 known s (Rejected r) = false
 
 -- the values that an operation takes; it leaves one
@@ -47,6 +54,7 @@ needs (Const v) = 0
 needs Not = 1
 needs And = 2
 needs Or = 2
+needs Equal = 2
 needs (Read q o v) = 0
 needs (Rejected r) = 0
 
@@ -65,9 +73,9 @@ badLength bs k =
 abbrev pub opAt : List ℕ → ℕ → ℕ → Op
 opAt bs k i = opOf (getD (expressionOf bs k) i 0)
 
--- it is unknown, or its stream isn't below m + n
+-- it is unknown to the sheet's version, or its stream isn't below m + n
 abbrev pub badByte : List ℕ → ℕ → ℕ → Bool
-badByte bs k i = not (known (inputsOf bs + outputsOf bs) (opAt bs k i))
+badByte bs k i = not (known (grammarOf bs) (opAt bs k i))
 
 -- it lacks a value
 abbrev pub badValues : List ℕ → ℕ → ℕ → Bool
@@ -97,7 +105,7 @@ unfoldable pub readingChecks : List ℕ → List Check
 readingChecks bs =
     test Short (ltb (length bs) 8)
     ∷ (test Mark (not (markOk bs))
-    ∷ (test Version (not (eqb (versionOf bs) 1))
+    ∷ (test Version (not (versionOk (versionOf bs)))
     ∷ (test Counts (not (countsOk (inputsOf bs) (outputsOf bs)))
     ∷ (test Assumption (not (eqb (getD bs 7 0) 255 || ltb (getD bs 7 0) (outputsOf bs)))
     ∷ (outputChecks bs 0 (outputsOf bs) ++ (test Leftover (leftOver bs) ∷ []))))))

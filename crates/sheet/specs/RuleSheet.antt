@@ -8,9 +8,10 @@ use lib.Dec.{leb}
 use Rattle.outcomes.specs.declared.Refusal.{Refusal}
 use Rattle.outcomes.specs.declared.Refusal.the-variants.{Length, Leftover}
 use Rattle.sheet.specs.Expression.{Expr, Parsed, tree, broken, parse}
-use Rattle.sheet.specs.Header.{headerOf}
+use Rattle.sheet.specs.Header.{headerOf, versionOf}
 use Rattle.sheet.specs.declared.Assumed.{Assumed}
 use Rattle.sheet.specs.declared.Assumed.the-variants.{Nothing, Output}
+use Rattle.sheet.specs.declared.Grammar.{Grammar}
 use Rattle.sheet.specs.declared.Header.{Header}
 use Rattle.sheet.specs.declared.Header.the-variants.{Fields, Refused}
 
@@ -52,8 +53,8 @@ abbrev pub andThen : Parsed → Outputs → Outputs
 andThen (tree t) rest = after (t ∷ []) rest
 andThen (broken r) rest = breaks r
 
--- k outputs, each a length byte and that many expression bytes, and nothing after them, in a sheet of s streams
-unfoldable pub readOutputs : ℕ → ℕ → List ℕ → Outputs
+-- k outputs, each a length byte and that many expression bytes, and nothing after them, in a sheet of the grammar s
+unfoldable pub readOutputs : Grammar → ℕ → List ℕ → Outputs
 readOutputs s zero [] = trees []
 readOutputs s zero (b ∷ bs) = breaks Leftover
 readOutputs s (suc k) [] = breaks Length
@@ -70,7 +71,7 @@ withOutputs m n a (trees ts) = accepted (record { inputs = m; expressions = ts; 
 withOutputs m n a (breaks r) = refused r
 
 abbrev pub withHeader : List ℕ → Header → Reading
-withHeader bs (Fields m n a) = withOutputs m n a (readOutputs (m + n) n (drop 8 bs))
+withHeader bs (Fields m n a) = withOutputs m n a (readOutputs (record { version = versionOf bs; streams = m + n }) n (drop 8 bs))
 withHeader bs (Refused r) = refused r
 
 unfoldable pub readSheet : List ℕ → Reading

@@ -1,11 +1,11 @@
-// The language of a rule sheet: its bytes, its expressions, its counts, and the types of what is read. Rules 4, 7 and 8.
+// The language of a rule sheet: its versions, its bytes, its expressions, its counts, and the types of what is read. Rules 3, 4, 7 and 8.
 ghost use mathlib.Core.Path.{_≡_};
 ghost use Prim.Native.Nat.{_+_, _%_, _^_, _<_};
 ghost use mathlib.Core.List.{[]};
 ghost use Rattle.sheet.specs.Bytes.{opOf};
 ghost use Rattle.sheet.specs.Expression.{parse, outcomeOf};
 ghost use Rattle.sheet.specs.Depth.{depthAfter};
-ghost use Rattle.sheet.specs.Header.{countsOk};
+ghost use Rattle.sheet.specs.Header.{versionOk, countsOk};
 use outcomes::Outcome;
 use outcomes::Refusal;
 
@@ -36,6 +36,7 @@ pub enum Op {
     Not,
     And,
     Or,
+    Equal,
     Read(StreamNo, Offset, bool),
     Rejected(Refusal),
 }
@@ -57,6 +58,7 @@ pub fn operation(byte: u8) -> Op
         0x02 => Op::Not,
         0x03 => Op::And,
         0x04 => Op::Or,
+        0x05 => Op::Equal,
         0x40..=0x47 => read(byte, Offset::Now, false),
         0x50..=0x57 => read(byte, Offset::Earlier, false),
         0x58..=0x5F => read(byte, Offset::Earlier, true),
@@ -66,15 +68,33 @@ pub fn operation(byte: u8) -> Op
     }
 }
 
+// The newest version of a sheet. It adds the byte 05 to version 1.
+const NEWEST: u64 = 2;
+
+pub fn version_fits(v: u64) -> bool
+    ensures { λ r. ⌜ r ≡ versionOk v ⌝ }
+{
+    if v == 1 {
+        return true;
+    }
+    v == NEWEST
+}
+
+// What a sheet says of the bytes that may stand in its expressions: its version, and how many streams there are.
+pub struct Grammar {
+    pub version: u64,
+    pub streams: u8,
+}
+
 // The number of values on the stack after a byte, or the rule that the byte breaks.
 enum Depth {
     Is(usize),
     Refused(Refusal),
 }
 
-fn after_byte(byte: u8, streams: u8, depth: usize) -> Depth
+fn after_byte(byte: u8, grammar: Grammar, depth: usize) -> Depth
     requires { ⌜ depth + 1 < 2 ^ 64 ⌝ }
-    ensures { λ r. ⌜ r ≡ depthAfter streams (opOf byte) depth ⌝ }
+    ensures { λ r. ⌜ r ≡ depthAfter grammar (opOf byte) depth ⌝ }
 {
     let op = operation(byte);
     match op {
@@ -97,9 +117,18 @@ fn after_byte(byte: u8, streams: u8, depth: usize) -> Depth
             }
             Depth::Is(depth - 1)
         }
+        Op::Equal => {
+            if grammar.version < NEWEST {
+                return Depth::Refused(Refusal::Byte);
+            }
+            if depth < 2 {
+                return Depth::Refused(Refusal::Values);
+            }
+            Depth::Is(depth - 1)
+        }
         Op::Read(stream, _, _) => {
             let q = stream.0;
-            if q < streams {
+            if q < grammar.streams {
                 return Depth::Is(depth + 1);
             }
             Depth::Refused(Refusal::Byte)
@@ -109,13 +138,13 @@ fn after_byte(byte: u8, streams: u8, depth: usize) -> Depth
 }
 
 // Checks one output's expression, a stretch of the sheet.
-pub fn read_expression(e: &[u8], streams: u8) -> Outcome
-    ensures { λ r. ⌜ r ≡ outcomeOf (parse streams [] (now (e .entry))) ⌝ }
+pub fn read_expression(e: &[u8], grammar: Grammar) -> Outcome
+    ensures { λ r. ⌜ r ≡ outcomeOf (parse grammar [] (now (e .entry))) ⌝ }
 {
     let mut depth: usize = 0;
     let mut i: usize = 0;
     while i < e.len() {
-        let d = after_byte(e[i], streams, depth);
+        let d = after_byte(e[i], grammar, depth);
         match d {
             Depth::Is(k) => {
                 depth = k;

@@ -13,8 +13,9 @@ use borrow.Author.Tests.{lt-ltb, le-ltb, le-leb, lt-leb}
 use Rattle.words.specs.Bits.{bit}
 use Rattle.words.proofs.BitLaws.{bit-none, bit-all, one-shl}
 use Rattle.words.proofs.JoinLaws.{bit-low, bit-above, bit-high-part, join-lt}
-use Rattle.sheet.specs.Expression.{Expr, tree, parse}
+use Rattle.sheet.specs.Expression.{Expr, newest, tree, parse}
 use Rattle.sheet.specs.Reading.{codeAt}
+use Rattle.sheet.specs.declared.Grammar.{Grammar}
 use Rattle.sheet.specs.declared.Offset.{Offset}
 use Rattle.sheet.specs.declared.Offset.the-variants.{Earlier, Now, Later}
 use Rattle.lola.specs.Value.{value}
@@ -135,13 +136,13 @@ pub part-short : (code len : List ℕ) (s : ℕ) → getD len s 0 ≤ 64 → len
 part-short code len s h = rw part-code (omega (arith, length-take (getD len s 0) (drop (64 * s) code)))
 
 pub place-value : (counts : Counts) (code len letters buf : List ℕ) (s t env : ℕ) (v : Bool) → Setting counts code len → s < counts .outputs → Environment (counts .inputs) letters buf t env
-    → ((w : ℕ) (x : Expr) → parse w [] (take (64 * s + getD len s 0 - 64 * s) (drop (64 * s) code)) ≡ tree x → v ≡ value (slots env) x)
+    → ((w : Grammar) (x : Expr) → parse w [] (take (64 * s + getD len s 0 - 64 * s) (drop (64 * s) code)) ≡ tree x → v ≡ value (slots env) x)
     → v ≡ sides counts code len letters (valuesOf buf) s t
 unfolding sides right
 place-value counts code len letters buf s t env v x h e f =
     let p = x .parses s h in
-    f (streamsOf counts) (treeIn (streamsOf counts) code len s) (ap (parse (streamsOf counts) []) (part-code code len s) ∙ p)
-    ∙ value-of-bytes (slots env) (lookAt (counts .inputs) (length letters) (valuesOf letters) (valuesOf buf) t) (e .reads) (streamsOf counts) (codeAt code len s) (treeIn (streamsOf counts) code len s) p
+    f (newest (streamsOf counts)) (treeIn (streamsOf counts) code len s) (ap (parse (newest (streamsOf counts)) []) (part-code code len s) ∙ p)
+    ∙ value-of-bytes (slots env) (lookAt (counts .inputs) (length letters) (valuesOf letters) (valuesOf buf) t) (e .reads) (newest (streamsOf counts)) (codeAt code len s) (treeIn (streamsOf counts) code len s) p
 
 -- ---- letters
 

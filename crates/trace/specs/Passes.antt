@@ -8,7 +8,7 @@ use lib.ListN.{length, getD}
 use Rattle.outcomes.specs.declared.Outcome.{Outcome}
 use Rattle.outcomes.specs.declared.Outcome.the-variants.{Accepted, Refused}
 use Rattle.words.specs.Bits.{bit}
-use Rattle.sheet.specs.Expression.{Expr, tree, parse}
+use Rattle.sheet.specs.Expression.{Expr, newest, tree, parse}
 use Rattle.sheet.specs.Reading.{treeOf, codeAt}
 use Rattle.sheet.specs.RuleSheet.{RuleSheet}
 use Rattle.sheet.specs.declared.Offset.{Offset}
@@ -29,7 +29,7 @@ streamsOf counts = counts .inputs + counts .outputs
 
 -- the expression of output k, in a sheet of s streams
 abbrev pub treeIn : ℕ → List ℕ → List ℕ → ℕ → Expr
-treeIn s code len k = treeOf (parse s [] (codeAt code len k))
+treeIn s code len k = treeOf (parse (newest s) [] (codeAt code len k))
 
 -- the right sides of the equations over the letters
 unfoldable pub sides : Counts → List ℕ → List ℕ → List ℕ → Assignment → Assignment
@@ -41,7 +41,7 @@ pub record Setting (counts : Counts) (code len : List ℕ) : Type 0 where
   pub code-size : length code ≡ 448
   pub sizes : length len ≡ 7
   pub small : (k : ℕ) → k < counts .outputs → getD len k 0 ≤ 64
-  pub parses : (k : ℕ) → k < counts .outputs → parse (streamsOf counts) [] (codeAt code len k) ≡ tree (treeIn (streamsOf counts) code len k)
+  pub parses : (k : ℕ) → k < counts .outputs → parse (newest (streamsOf counts)) [] (codeAt code len k) ≡ tree (treeIn (streamsOf counts) code len k)
 
 -- a letter of the inputs and a byte of the outputs for each round
 pub record RoundBytes (counts : Counts) (letters buf : List ℕ) : Type 0 where

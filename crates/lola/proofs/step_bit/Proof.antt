@@ -28,6 +28,7 @@ returns c = record {
   not = λ h. omega arith;
   and = λ h. omega arith;
   or = λ h. omega arith;
+  equal = λ h. omega arith;
   read = λ h k. let e : c .before .args .byte % 64 ≡ c .before .args .byte - 0x40 = omega arith in ap (λ (i : ℕ). c .before .args .stack * 2 + c .before .args .env / 2 ^ i % 2) e;
 }
 
@@ -38,6 +39,7 @@ returns-2 c = record {
   not = λ h. xor-one (c .before .before .args .stack);
   and = λ h. omega arith;
   or = λ h. omega arith;
+  equal = λ h. omega arith;
   read = λ h k. omega arith;
 }
 
@@ -65,14 +67,29 @@ returns-6 c = search needs
 mul-result-4 : tie.Need-mul-result-4
 mul-result-4 c = search needs
 
-wide-requires : tie.Need-wide-requires
-wide-requires c κs = search needs
-
 add-result-3 : tie.Need-add-result-3
 add-result-3 c = search needs
 
+add-result-4 : tie.Need-add-result-4
+add-result-4 c = search needs
+
+add-result-5 : tie.Need-add-result-5
+add-result-5 c = search needs
+
 returns-7 : tie.Need-returns-7
 returns-7 c = search needs
+
+mul-result-5 : tie.Need-mul-result-5
+mul-result-5 c = search needs
+
+wide-requires : tie.Need-wide-requires
+wide-requires c κs = search needs
+
+add-result-6 : tie.Need-add-result-6
+add-result-6 c = search needs
+
+returns-8 : tie.Need-returns-8
+returns-8 c = search needs
 
 pub step-bit-spec : {M : Type 1} → statement M
 step-bit-spec =
@@ -92,6 +109,11 @@ step-bit-spec =
     returns-5
     returns-6
     mul-result-4
-    wide-requires
     add-result-3
-    returns-7)
+    add-result-4
+    add-result-5
+    returns-7
+    mul-result-5
+    wide-requires
+    add-result-6
+    returns-8)

@@ -10,13 +10,13 @@ use Rattle.reader.proofs.read_outputs.Statement.{statement}
 use Rattle.reader.proofs.read_outputs.Tie as tie
 
 abbrev Inv-loop : tie.InvT-loop
-Inv-loop s streams n len₀ code₀ outputs at₀ k₀ len code at k = OutputsTo s streams n len code at k
+Inv-loop s grammar n len₀ code₀ outputs at₀ k₀ len code at k = OutputsTo s grammar n len code at k
 
 abbrev μ-loop : tie.MeasureT-loop
-μ-loop s streams n len₀ code₀ outputs at₀ k₀ len code at k = n - k
+μ-loop s grammar n len₀ code₀ outputs at₀ k₀ len code at k = n - k
 
 loop-holds : tie.Need-loop-holds Inv-loop μ-loop
-loop-holds c = let a = c .before .before .before in begins (now (a .args .s)) (a .args .streams) (a .args .n) _ _ (a .pre .0) (a .pre .2) (a .pre .3)
+loop-holds c = let a = c .before .before .before in begins (now (a .args .s)) (a .args .grammar) (a .args .n) _ _ (a .pre .0) (a .pre .2) (a .pre .3)
 
 read-output-requires : tie.Need-read-output-requires Inv-loop μ-loop
 read-output-requires c κs = search needs
@@ -31,7 +31,7 @@ add-at : tie.Need-add-at Inv-loop μ-loop
 add-at c =
     let p = c .before .before .before .before .before in
     let a = p .before .before .before .before .args in
-    let i = lies (now (a .s)) (a .streams) (a .n) (p .loop .len) (p .loop .code) (p .loop .at) (p .loop .k) (p .loop .inv) _ (sym (c .before .before .before .read-output .ensures) ∙ c .before .got .given .1) in
+    let i = lies (now (a .s)) (a .grammar) (a .n) (p .loop .len) (p .loop .code) (p .loop .at) (p .loop .k) (p .loop .inv) _ (sym (c .before .before .before .read-output .ensures) ∙ c .before .got .given .1) in
     omega (arith, i .inside)
 
 mul-len : tie.Need-mul-len Inv-loop μ-loop
@@ -53,14 +53,14 @@ part-put-end : tie.Need-part-put-end Inv-loop μ-loop
 part-put-end c =
     let p = c .before .before .before .before .before .before in
     let a = p .before .before .before .before .args in
-    let i = lies (now (a .s)) (a .streams) (a .n) (p .loop .len) (p .loop .code) (p .loop .at) (p .loop .k) (p .loop .inv) _ (sym (c .before .before .before .before .read-output .ensures) ∙ c .before .before .got .given .1) in
+    let i = lies (now (a .s)) (a .grammar) (a .n) (p .loop .len) (p .loop .code) (p .loop .at) (p .loop .k) (p .loop .inv) _ (sym (c .before .before .before .before .read-output .ensures) ∙ c .before .before .got .given .1) in
     omega (arith, i .inside)
 
 put-requires : tie.Need-put-requires Inv-loop μ-loop
 put-requires c κs =
     let p = c .before .before .before .before .before .before .before in
     let a = p .before .before .before .before .args in
-    let i = lies (now (a .s)) (a .streams) (a .n) (p .loop .len) (p .loop .code) (p .loop .at) (p .loop .k) (p .loop .inv) _ (sym (c .before .before .before .before .before .read-output .ensures) ∙ c .before .before .before .got .given .1) in
+    let i = lies (now (a .s)) (a .grammar) (a .n) (p .loop .len) (p .loop .code) (p .loop .at) (p .loop .k) (p .loop .inv) _ (sym (c .before .before .before .before .before .read-output .ensures) ∙ c .before .before .before .got .given .1) in
     simp add-sub-cancel-left (omega (arith, i .size, i .short, p .loop .inv .held .code-size))
 
 enum-known-got-2 : tie.Need-enum-known-got-2 Inv-loop μ-loop
@@ -82,7 +82,7 @@ returns : tie.Need-returns Inv-loop μ-loop
 returns c =
     let p = c .before .before .before .before .before in
     let a = p .before .before .before .before .args in
-    (rw (stopped (now (a .s)) (a .streams) (a .n) (p .loop .len) (p .loop .code) (p .loop .at) (p .loop .k) (p .loop .inv) (omega arith) _ (sym (c .before .before .before .read-output .ensures) ∙ c .before .got2 .given .1)) refl, tt)
+    (rw (stopped (now (a .s)) (a .grammar) (a .n) (p .loop .len) (p .loop .code) (p .loop .at) (p .loop .k) (p .loop .inv) (omega arith) _ (sym (c .before .before .before .read-output .ensures) ∙ c .before .got2 .given .1)) refl, tt)
 
 add-k : tie.Need-add-k Inv-loop μ-loop
 add-k c = omega arith
@@ -96,7 +96,7 @@ loop-again c =
     let after-read-output = after-got .before .before in
     let p = after-read-output .before .before in
     let a = p .before .before .before .before .args in
-    next (now (a .s)) (a .streams) (a .n) (p .loop .len) (p .loop .code) (p .loop .at) (p .loop .k) (p .loop .inv)
+    next (now (a .s)) (a .grammar) (a .n) (p .loop .len) (p .loop .code) (p .loop .at) (p .loop .k) (p .loop .inv)
     (omega arith) (omega arith) _ (sym (after-read-output .read-output .ensures) ∙ after-got .got .given .1) (c .before .before .put .last .0) (rw add-sub-cancel-left at (c .before .before .put .ensures))
 
 same-length-3 : tie.Need-same-length-3 Inv-loop μ-loop
@@ -109,7 +109,7 @@ returns-2 : tie.Need-returns-2 Inv-loop μ-loop
 returns-2 c =
     let p = c .before .before in
     let a = p .before .before .before .before .args in
-    (rw (left-over (now (a .s)) (a .streams) (a .n) (p .loop .len) (p .loop .code) (p .loop .at) (p .loop .k) (p .loop .inv) (omega arith) (omega arith)) refl, tt)
+    (rw (left-over (now (a .s)) (a .grammar) (a .n) (p .loop .len) (p .loop .code) (p .loop .at) (p .loop .k) (p .loop .inv) (omega arith) (omega arith)) refl, tt)
 
 same-length-5 : tie.Need-same-length-5 Inv-loop μ-loop
 same-length-5 c = c .before .before .loop .inv .held .sizes ∙ sym (c .before .before .before .before .before .before .pre .2)
@@ -121,7 +121,7 @@ returns-3 : tie.Need-returns-3 Inv-loop μ-loop
 returns-3 c =
     let p = c .before .before in
     let a = p .before .before .before .before .args in
-    (rw (nothing-left (now (a .s)) (a .streams) (a .n) (p .loop .len) (p .loop .code) (p .loop .at) (p .loop .k) (p .loop .inv) (omega arith) (omega arith)) refl, all-held (now (a .s)) (a .streams) (a .n) (p .loop .len) (p .loop .code) (p .loop .at) (p .loop .k) (p .loop .inv) (omega arith))
+    (rw (nothing-left (now (a .s)) (a .grammar) (a .n) (p .loop .len) (p .loop .code) (p .loop .at) (p .loop .k) (p .loop .inv) (omega arith) (omega arith)) refl, all-held (now (a .s)) (a .grammar) (a .n) (p .loop .len) (p .loop .code) (p .loop .at) (p .loop .k) (p .loop .inv) (omega arith))
 
 pub read-outputs-spec : {M : Type 1} → statement M
 read-outputs-spec =

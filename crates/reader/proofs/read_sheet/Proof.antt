@@ -17,8 +17,11 @@ read-header-requires c κs = search needs
 enum-known-h : tie.Need-enum-known-h
 enum-known-h c = search needs
 
-add-read-outputs : tie.Need-add-read-outputs
-add-read-outputs c = omega (arith, fields _ _ _ _ (sym (c .before .before .before .read-header .ensures) ∙ c .before .h .given .1) .1 .streams)
+add-streams : tie.Need-add-streams
+add-streams c = omega (arith, fields _ _ _ _ (sym (c .before .before .before .read-header .ensures) ∙ c .before .h .given .1) .1 .streams)
+
+version-requires : tie.Need-version-requires
+version-requires c κs = fields _ _ _ _ (sym (c .before .before .before .read-header .ensures) ∙ c .before .h .given .1) .0
 
 slice-aggregate-read-outputs : tie.Need-slice-aggregate-read-outputs
 slice-aggregate-read-outputs c = search needs
@@ -27,7 +30,7 @@ slice-aggregate-read-outputs-2 : tie.Need-slice-aggregate-read-outputs-2
 slice-aggregate-read-outputs-2 c = search needs
 
 read-outputs-requires : tie.Need-read-outputs-requires
-read-outputs-requires c κs = let f = fields _ _ _ _ (sym (c .before .before .before .before .before .read-header .ensures) ∙ c .before .before .before .h .given .1) in (f .0, f .1 .outputs, refl, refl)
+read-outputs-requires c κs = let f = fields _ _ _ _ (sym (c .before .before .before .before .before .before .read-header .ensures) ∙ c .before .before .before .before .h .given .1) in (f .0, f .1 .outputs, refl, refl)
 
 enum-told : tie.Need-enum-told
 enum-told c = search needs
@@ -47,28 +50,30 @@ refused-sheet-requires-2 c κs = search needs
 returns : tie.Need-returns
 unfolding readSheet
 returns c =
-    let after-h = c .before .before .before .before .before .before .before .before in
+    let after-h = c .before .before .before .before .before .before .before .before .before in
     let after-read-header = after-h .before .before in
     let e = sym (after-read-header .read-header .ensures) ∙ after-h .h .given .1 in
     let d = after-h .h .given .0 in
     let f = fields _ _ _ _ e in
     let r = c .before .before .before .before .read-outputs in
+    let v = c .before .before .before .before .before .before .before .version .ensures in
     let t = c .enum-told .given .1 in (
-      rw e (rw t at (reading-by (d .0) (d .1 .0) (d .1 .1 .0) (r .result) (treesOf (d .0 + d .1 .0) (r .last .1 .1 .1 .1 .0) (r .last .1 .1 .1 .0) (d .1 .0)) _ (r .ensures .0))),
+      rw e (rw t at (reading-by (d .0) (d .1 .0) (d .1 .1 .0) (r .result) (treesOf (d .0 + d .1 .0) (r .last .1 .1 .1 .1 .0) (r .last .1 .1 .1 .0) (d .1 .0)) _ (rw v at (r .ensures .0)))),
       (usable (d .0) (d .1 .0) (d .1 .1 .0) _ _ (f .1) (f .2) (rw t at (r .ensures .1)), tt),
     )
 
 returns-2 : tie.Need-returns-2
 unfolding readSheet
 returns-2 c =
-    let after-h = c .before .before .before .before .before .before .before .before .before .before in
+    let after-h = c .before .before .before .before .before .before .before .before .before .before .before in
     let after-read-header = after-h .before .before in
     let e = sym (after-read-header .read-header .ensures) ∙ after-h .h .given .1 in
     let d = after-h .h .given .0 in
     let r = c .before .before .before .before .before .before .read-outputs in
+    let v = c .before .before .before .before .before .before .before .before .before .version .ensures in
     let t = c .before .before .outcome .given .1 in
     let n = c .refused-sheet .ensures in (
-      rw (n .0, e) (rw t at (reading-by (d .0) (d .1 .0) (d .1 .1 .0) (r .result) (treesOf (d .0 + d .1 .0) (r .last .1 .1 .1 .1 .0) (r .last .1 .1 .1 .0) (d .1 .0)) _ (r .ensures .0))),
+      rw (n .0, e) (rw t at (reading-by (d .0) (d .1 .0) (d .1 .1 .0) (r .result) (treesOf (d .0 + d .1 .0) (r .last .1 .1 .1 .1 .0) (r .last .1 .1 .1 .0) (d .1 .0)) _ (rw v at (r .ensures .0)))),
       (rw (n .0) tt, rw (n .0) (n .1)),
     )
 
@@ -85,7 +90,8 @@ read-sheet-spec =
     (tie.spec
     read-header-requires
     enum-known-h
-    add-read-outputs
+    add-streams
+    version-requires
     slice-aggregate-read-outputs
     slice-aggregate-read-outputs-2
     read-outputs-requires

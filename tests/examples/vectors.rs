@@ -7,7 +7,7 @@ use std::path::Path;
 fn main() -> std::io::Result<()> {
     let cases = vectors::cases();
     let (read, written) = (vectors::stdin(&cases), vectors::stdout(&cases));
-    let seen = Seen::of(&written);
+    let seen = Seen::of(&cases, &written);
     seen.expect_all();
     let folder = Path::new(env!("CARGO_MANIFEST_DIR")).join("../crates/vectors");
     fs::write(folder.join("stdin"), &read)?;

@@ -2,7 +2,7 @@
 //! the places where an order of checks or a definition is easily got wrong.
 
 use crate::journal::{round, Call, Held, ANSWER_NUMBERS, MAX_ROUNDS, RECORD_NUMBERS, STORAGE_WORDS, WRONG_SIZES};
-use crate::sheet::{byte_of_read, write, NO_ASSUMPTION};
+use crate::sheet::{byte_of_read, with_version, write, NO_ASSUMPTION};
 
 pub struct SheetCase {
     pub name: &'static str,
@@ -60,6 +60,12 @@ pub fn session_sheet() -> Vec<u8> {
     bytes("53 4C 52 01 00 02 02 01 06 40 02 41 04 61 04 06 41 02 40 04 50 04")
 }
 
+/// In version 2: input 0 is "the label shows the new price", input 1 "the till has it", and output 2,
+/// the assumption, is that these are alike.
+pub fn shop_sheet() -> Vec<u8> {
+    bytes("53 4C 52 02 00 02 03 02 01 40 01 41 03 40 41 05")
+}
+
 /// A sheet without an assumption, its expressions in hex.
 pub fn plain(inputs: u8, expressions: &[&str]) -> Vec<u8> {
     assuming(inputs, NO_ASSUMPTION, expressions)
@@ -70,6 +76,11 @@ pub fn assuming(inputs: u8, assumption: u8, expressions: &[&str]) -> Vec<u8> {
     write(inputs, assumption, &parts)
 }
 
+/// The same sheet in version 2.
+pub fn version_2(sheet: Vec<u8>) -> Vec<u8> {
+    with_version(&sheet, 2)
+}
+
 /// A header with these counts and assumption, and the same one-byte expression for each output.
 pub fn counts(inputs: u8, outputs: u8, assumption: u8) -> Vec<u8> {
     let mut sheet = write(inputs, assumption, &vec![vec![0x40]; outputs as usize]);
@@ -77,10 +88,10 @@ pub fn counts(inputs: u8, outputs: u8, assumption: u8) -> Vec<u8> {
     sheet
 }
 
-/// So many operands, then so many conjunctions, as the only expression of a sheet with one input.
-pub fn operands_first(operands: usize, operators: usize) -> Vec<u8> {
+/// So many operands, then an operator so many times, as the only expression of a sheet with one input.
+fn operands_first(operands: usize, operator: u8, times: usize) -> Vec<u8> {
     let mut expression = vec![0x40; operands];
-    expression.extend(vec![0x03; operators]);
+    expression.extend(vec![operator; times]);
     write(1, NO_ASSUMPTION, &[expression])
 }
 
@@ -89,6 +100,19 @@ pub fn longest() -> Vec<u8> {
     let mut expression = vec![0x02; 64];
     expression[0] = 0x40;
     write(1, 6, &vec![expression; 7])
+}
+
+/// Whether a read differs from input 0, in 64 bytes: 32 values wait, 31 comparisons leave true if an
+/// even number of them is true, and a not turns that round.
+fn differs_deeply(read: u8) -> Vec<u8> {
+    [vec![0x40; 31], vec![read], vec![0x05; 31], vec![0x02]].concat()
+}
+
+/// The longest sheet there is, of comparisons. Outputs 0, 2, 4 and 6, the assumption, are true where
+/// the input differs from the round before, and outputs 1, 3 and 5 are the input one round earlier.
+pub fn longest_comparing() -> Vec<u8> {
+    let reads = [0x50, 0x41, 0x42, 0x43, 0x44, 0x45, 0x46];
+    version_2(write(1, 6, &reads.map(differs_deeply)))
 }
 
 /// The first `length` bytes of a sheet.
@@ -111,7 +135,16 @@ fn then(mut sheet: Vec<u8>, more: &str) -> Vec<u8> {
 }
 
 pub fn sheets() -> Vec<SheetCase> {
-    let groups = [header_sheets(), length_sheets(), byte_sheets(), circular_sheets(), marked_sheets()];
+    let groups = [
+        header_sheets(),
+        version_sheets(),
+        length_sheets(),
+        byte_sheets(),
+        comparing_sheets(),
+        circular_sheets(),
+        comparing_circles(),
+        marked_sheets(),
+    ];
     let cases = groups.into_iter().flatten();
     cases.map(|(name, sheet, number)| SheetCase { name, sheet, number }).collect()
 }
@@ -128,12 +161,6 @@ fn header_sheets() -> Vec<Named> {
         ("wrong mark, last byte", with(good(), 2, b'X'), 2),
         ("wrong mark, first byte", with(good(), 0, b's'), 2),
         ("wrong mark, middle byte", with(good(), 1, b'R'), 2),
-        ("wrong mark before wrong version", with(with(good(), 2, b'X'), 3, 2), 2),
-        ("version 0", with(good(), 3, 0), 3),
-        ("version 2", with(good(), 3, 2), 3),
-        ("version 257", with(good(), 4, 1), 3),
-        ("version 1 with its bytes swapped", with(with(good(), 3, 0), 4, 1), 3),
-        ("wrong version before wrong counts", with(with(good(), 3, 2), 5, 0), 3),
         ("no input", counts(0, 1, 255), 4),
         ("seven inputs", counts(7, 1, 255), 4),
         ("no output", counts(1, 0, 255), 4),
@@ -154,6 +181,54 @@ fn header_sheets() -> Vec<Named> {
         ("bad assumption before a missing length", cut(counts(1, 1, 1), 8), 5),
         ("last output as assumption", counts(1, 7, 6), 0),
         ("output 0 as assumption", counts(1, 7, 0), 0),
+    ]
+}
+
+fn version_sheets() -> Vec<Named> {
+    let good = |version| with_version(&plain(1, &["40"]), version);
+    let comparing = |version| with_version(&plain(1, &["40 40 05"]), version);
+    vec![
+        ("version 0", good(0), 3),
+        ("version 1", good(1), 0),
+        ("version 2", good(2), 0),
+        ("version 3", good(3), 3),
+        ("version 4", good(4), 3),
+        ("version 255", good(255), 3),
+        ("version 1 and a high byte 1", good(0x0101), 3),
+        ("version 1 and a high byte 2", good(0x0201), 3),
+        ("version 1 and a high byte 128", good(0x8001), 3),
+        ("version 1 and a high byte 255", good(0xFF01), 3),
+        ("version 2 and a high byte 1", good(0x0102), 3),
+        ("version 2 and a high byte 2", good(0x0202), 3),
+        ("version 2 and a high byte 128", good(0x8002), 3),
+        ("version 2 and a high byte 255", good(0xFF02), 3),
+        ("version 1 with its bytes swapped", good(0x0100), 3),
+        ("version 2 with its bytes swapped", good(0x0200), 3),
+        ("a comparison in version 0", comparing(0), 3),
+        ("a comparison in version 3", comparing(3), 3),
+        ("a comparison in version 2 and a high byte 1", comparing(0x0102), 3),
+        ("seven bytes with a wrong version", cut(good(3), 7), 1),
+        ("wrong mark before wrong version", with(good(3), 2, b'X'), 2),
+        ("wrong mark and version 2", with(good(2), 2, b'X'), 2),
+        ("wrong version before wrong counts", with(good(3), 5, 0), 3),
+        ("wrong high byte before wrong counts, version 1", with(good(0x0101), 6, 8), 3),
+        ("wrong high byte before wrong counts, version 2", with(good(0x0102), 5, 7), 3),
+        ("wrong version before a wrong assumption", with(good(0), 7, 1), 3),
+        ("wrong version before a missing length", cut(good(3), 8), 3),
+        ("version 2 and no input", version_2(counts(0, 1, 255)), 4),
+        ("version 2 and no output", version_2(counts(1, 0, 255)), 4),
+        ("version 2 and seven inputs", version_2(counts(7, 1, 255)), 4),
+        ("version 2 and eight outputs", version_2(counts(1, 8, 255)), 4),
+        ("version 2 and six inputs and three outputs", version_2(counts(6, 3, 255)), 4),
+        ("version 2 and two outputs and assumption 2", version_2(counts(1, 2, 2)), 5),
+        ("version 2 and one output and assumption 1", version_2(counts(1, 1, 1)), 5),
+        ("version 2 and seven outputs and assumption 7", version_2(counts(1, 7, 7)), 5),
+        ("version 2 and assumption 254", version_2(counts(1, 7, 254)), 5),
+        ("version 2 and an assumption given as a stream number", version_2(counts(2, 2, 3)), 5),
+        ("version 2 and the last output as assumption", version_2(counts(1, 7, 6)), 0),
+        ("version 2 and a missing length", cut(good(2), 8), 6),
+        ("version 2 and length 65", with(good(2), 8, 65), 6),
+        ("version 2 and one byte more", then(good(2), "00"), 9),
     ]
 }
 
@@ -220,12 +295,86 @@ fn byte_sheets() -> Vec<Named> {
         ("values stay in their own expression", plain(1, &["40 40", "03"]), 8),
         ("output 1 finds no value left by output 0", plain(1, &["40", "02"]), 8),
         ("two values at the end before bytes left over", then(plain(1, &["40 40"]), "00"), 8),
-        ("32 operands and 31 operators", operands_first(32, 31), 0),
-        ("33 operands and 31 operators", operands_first(33, 31), 8),
-        ("32 operands and 32 operators", operands_first(32, 32), 8),
-        ("64 operands", operands_first(64, 0), 8),
-        ("64 operators", operands_first(0, 64), 8),
+        ("32 operands and 31 operators", operands_first(32, 0x03, 31), 0),
+        ("33 operands and 31 operators", operands_first(33, 0x03, 31), 8),
+        ("32 operands and 32 operators", operands_first(32, 0x03, 32), 8),
+        ("64 operands", operands_first(64, 0x03, 0), 8),
+        ("64 operators", operands_first(0, 0x03, 64), 8),
     ]
+}
+
+/// A sheet in version 1 and in version 2, with the number of each.
+fn in_both(name: &'static str, sheet: Vec<u8>, first: u32, second: u32) -> [Named; 2] {
+    [(name, with_version(&sheet, 1), first), (name, version_2(sheet), second)]
+}
+
+/// Rules 6 to 9 with the byte 05.
+fn comparing_sheets() -> Vec<Named> {
+    let one = |name, expression, first, second| in_both(name, plain(1, &[expression]), first, second);
+    let two = |name, expressions: [&str; 2], first, second| in_both(name, plain(1, &expressions), first, second);
+    let deep = |name, operands, times, second| in_both(name, operands_first(operands, 0x05, times), 7, second);
+    vec![
+        one("05 alone", "05", 7, 8),
+        one("05 with one value", "40 05", 7, 8),
+        one("05 with two values", "40 40 05", 7, 0),
+        one("05 with three values", "40 40 40 05", 7, 8),
+        one("05 twice with two values", "40 40 05 05", 7, 8),
+        one("05 twice with three values", "40 40 40 05 05", 7, 0),
+        one("05 of what 05 left", "40 40 05 40 05", 7, 0),
+        one("05 of constants", "00 01 05", 7, 0),
+        one("05 and not", "40 40 05 02", 7, 0),
+        one("05 between two values", "40 05 40", 7, 8),
+        one("05 beside and and or", "40 50 05 60 03 40 04", 7, 0),
+        one("no 05", "40 02 50 03 60 04", 0, 0),
+        one("two values at the end", "40 40", 8, 8),
+        one("not lacks a value before 05", "02 05", 8, 8),
+        one("and lacks both values before 05", "03 05", 8, 8),
+        one("or lacks a value before 05", "40 04 05", 8, 8),
+        one("05 lacks both values before and", "05 03", 7, 8),
+        one("05 lacks a value before an unknown byte", "40 05 06", 7, 8),
+        one("05 has its values before an unknown byte", "40 40 05 06", 7, 7),
+        one("an unknown byte before 05 without values", "06 05", 7, 7),
+        one("05 lacks both values before a stream too high", "05 42", 7, 8),
+        one("a stream too high before 05", "42 05", 7, 7),
+        one("a stream too high as an operand of 05", "40 42 05", 7, 7),
+        one("06", "06", 7, 7),
+        one("06 with two values", "40 40 06", 7, 7),
+        one("07 with two values", "40 40 07", 7, 7),
+        one("0D with two values", "40 40 0D", 7, 7),
+        one("15 with two values", "40 40 15", 7, 7),
+        one("3F with two values", "40 40 3F", 7, 7),
+        one("48 with two values", "40 40 48", 7, 7),
+        one("4F with two values", "40 40 4F", 7, 7),
+        one("70 with two values", "40 40 70", 7, 7),
+        one("85 with two values", "40 40 85", 7, 7),
+        one("FF with two values", "40 40 FF", 7, 7),
+        two("05 in output 0", ["40 40 05", "40"], 7, 0),
+        two("05 in output 1", ["40", "40 41 05"], 7, 0),
+        two("05 in output 1 finds no value left by output 0", ["40", "40 05"], 7, 8),
+        two("05 lacks a value in output 0 and output 1 is unknown", ["05", "06"], 7, 8),
+        two("output 0 is unknown and 05 lacks a value in output 1", ["06", "05"], 7, 7),
+        two("two values at the end of output 0 and 05 in output 1", ["40 40", "40 40 05"], 8, 8),
+        two("05 in output 0 and output 1 has length 0", ["40 40 05", ""], 7, 6),
+        two("output 0 has length 0 and 05 in output 1", ["", "40 40 05"], 6, 6),
+        in_both("length past the end before 05", with(plain(1, &["40 40 05"]), 8, 4), 6, 6),
+        in_both("length that ends before 05", with(plain(1, &["40 40 05"]), 8, 2), 8, 8),
+        in_both("05 left over", then(plain(1, &["40"]), "05"), 9, 9),
+        in_both("05 and a byte left over", then(plain(1, &["40 40 05"]), "05"), 7, 9),
+        in_both("05 as a length", plain(1, &["40 40 40 03 03"]), 0, 0),
+        in_both("05 as the number of inputs", counts(5, 3, 255), 0, 0),
+        in_both("05 as the assumption", counts(1, 7, 5), 0, 0),
+        deep("32 operands and 05 31 times", 32, 31, 0),
+        deep("33 operands and 05 31 times", 33, 31, 8),
+        deep("32 operands and 05 32 times", 32, 32, 8),
+        deep("63 operands and 05", 63, 1, 8),
+        deep("05 64 times", 0, 64, 8),
+        in_both("64 bytes with 05 31 times", write(1, 255, &[differs_deeply(0x50)]), 7, 0),
+        in_both("longest sheet without 05", longest(), 0, 0),
+        in_both("longest sheet with 05", longest_comparing(), 7, 0),
+        in_both("longest sheet with 05, cut", cut(longest_comparing(), 462), 7, 6),
+        in_both("longest sheet with 05, and a byte", then(longest_comparing(), "05"), 7, 9),
+    ]
+    .concat()
 }
 
 fn circular_sheets() -> Vec<Named> {
@@ -266,6 +415,43 @@ fn circular_sheets() -> Vec<Named> {
     ]
 }
 
+/// Both operands of 05 are read, whatever the comparison makes of them.
+fn comparing_circles() -> Vec<Named> {
+    let one = |name, expression: &str, second| in_both(name, plain(1, &[expression]), 7, second);
+    let more = |name, expressions: &[&str], second| in_both(name, plain(1, expressions), 7, second);
+    let deep = |name, own: usize, second| {
+        let mut operands = ["40"; 32];
+        operands[own] = "41";
+        one(name, &format!("{}{}", operands.join(" "), " 05".repeat(31)), second)
+    };
+    vec![
+        one("own value compared with itself", "41 41 05", 10),
+        one("own value on the left", "41 40 05", 10),
+        one("own value on the right", "40 41 05", 10),
+        one("own value compared with true", "41 01 05", 10),
+        one("own value compared, made irrelevant", "41 41 05 01 04", 10),
+        one("own value inside the left operand", "41 02 40 03 40 05", 10),
+        one("own value inside the right operand", "40 40 41 05 05", 10),
+        one("own earlier value compared with itself", "51 59 05", 0),
+        one("own later value compared with itself", "61 69 05", 0),
+        one("both neighbours compared", "51 61 05", 10),
+        one("both neighbours compared, true outside", "59 69 05", 10),
+        one("inputs of all three rounds compared", "50 40 60 05 05", 0),
+        deep("own value as the first of 32 operands", 0, 10),
+        deep("own value as the last of 32 operands", 31, 10),
+        more("two outputs compare themselves with each other", &["42 40 05", "40 41 05"], 10),
+        more("two outputs compare each other with itself", &["42 42 05", "41 41 05"], 10),
+        more("two outputs compare each other, one earlier", &["42 42 05", "51 51 05"], 0),
+        more("four outputs, cycles +2 and -3 compared", &["62 53 05", "61", "54", "51"], 10),
+        more("four outputs, cycles +2 and +1 compared", &["62 53 05", "61", "64", "61"], 0),
+        more("circular without 05, and 05 in another output", &["41", "40 40 05"], 10),
+        in_both("circular in an assumption that compares", assuming(1, 1, &["40", "42 42 05"]), 7, 10),
+        in_both("circular without 05", plain(1, &["41"]), 10, 10),
+        in_both("bytes left over before circular", then(plain(1, &["41 41 05"]), "00"), 7, 9),
+    ]
+    .concat()
+}
+
 fn marked_sheets() -> Vec<Named> {
     vec![
         ("session sheet", session_sheet(), 0),
@@ -285,15 +471,17 @@ fn marked_sheets() -> Vec<Named> {
 }
 
 pub fn traces() -> Vec<TraceCase> {
+    plain_traces().into_iter().chain(comparing_traces()).collect()
+}
+
+fn case(name: &'static str, sheet: Vec<u8>, letters: &[u8], outputs: &[u8]) -> TraceCase {
+    TraceCase { name, sheet, letters: letters.to_vec(), outputs: outputs.to_vec() }
+}
+
+fn plain_traces() -> Vec<TraceCase> {
     let h = || assuming(1, 1, &["40", "40 02 60 04"]);
     let i = || assuming(1, 1, &["40", "40 02 68 04"]);
     let differs = |neighbour: &str| plain(1, &[&format!("{neighbour} 40 02 03 {neighbour} 02 40 03 04")]);
-    let case = |name, sheet, letters: &[u8], outputs: &[u8]| TraceCase {
-        name,
-        sheet,
-        letters: letters.to_vec(),
-        outputs: outputs.to_vec(),
-    };
     vec![
         case("session sheet", session_sheet(), &[1, 2, 0], &[3, 3, 3]),
         case("session sheet, one letter", session_sheet(), &[1], &[2]),
@@ -323,11 +511,68 @@ pub fn traces() -> Vec<TraceCase> {
     ]
 }
 
+/// In version 2. With two inputs, input 0 is "the label shows the new price" and input 1 "the till has
+/// it".
+fn comparing_traces() -> Vec<TraceCase> {
+    let one = |expression| version_2(plain(1, &[expression]));
+    let two = |expression| version_2(plain(2, &[expression]));
+    let three = |expression| version_2(plain(3, &[expression]));
+    let (pairs, triples) = ([0, 1, 2, 3], [0, 1, 2, 3, 4, 5, 6, 7]);
+    let outputs = version_2(plain(2, &["40", "41 02", "42 43 05"]));
+    let deep = |read| version_2(write(2, NO_ASSUMPTION, &[differs_deeply(read)]));
+    vec![
+        case("label and till are alike", two("40 41 05"), &pairs, &[1, 0, 0, 1]),
+        case("label and till differ", two("40 41 05 02"), &pairs, &[0, 1, 1, 0]),
+        case("till and label are alike", two("41 40 05"), &pairs, &[1, 0, 0, 1]),
+        case("the label is alike with itself", two("40 40 05"), &pairs, &[1, 1, 1, 1]),
+        case("the label is alike with its negation", two("40 40 02 05"), &pairs, &[0, 0, 0, 0]),
+        case("the label is alike with true", two("40 01 05"), &pairs, &[0, 1, 0, 1]),
+        case("the label is alike with false", two("40 00 05"), &pairs, &[1, 0, 1, 0]),
+        case("constants compared", two("00 00 05 01 01 05 03 00 01 05 02 03"), &pairs, &[1, 1, 1, 1]),
+        case("an odd number of three", three("40 41 05 42 05"), &triples, &[0, 1, 1, 0, 1, 0, 0, 1]),
+        case("the same, the last two first", three("40 41 42 05 05"), &triples, &[0, 1, 1, 0, 1, 0, 0, 1]),
+        case("alike with both", three("40 41 42 03 05"), &triples, &[1, 0, 1, 0, 1, 0, 0, 1]),
+        case("alike with either", three("40 41 42 04 05"), &triples, &[1, 0, 0, 1, 0, 1, 0, 1]),
+        case("alike, and the third", three("40 41 05 42 03"), &triples, &[0, 0, 0, 0, 1, 0, 0, 1]),
+        case("alike, or the third", three("40 41 05 42 04"), &triples, &[1, 0, 0, 1, 1, 1, 1, 1]),
+        case("as one round earlier, false first", one("40 50 05"), &[1, 0, 0, 1, 1], &[0, 0, 1, 0, 1]),
+        case("as one round earlier, true first", one("40 58 05"), &[1, 0, 0, 1, 1], &[1, 0, 1, 0, 1]),
+        case("as one round later, false last", one("40 60 05"), &[1, 0, 0, 1, 1], &[0, 1, 0, 1, 0]),
+        case("as one round later, true last", one("40 68 05"), &[1, 0, 0, 1, 1], &[0, 1, 0, 1, 1]),
+        case("the rounds on both sides are alike", one("50 60 05"), &[1, 0, 0, 1, 1], &[1, 0, 0, 0, 0]),
+        case("as its own earlier value", one("51 40 05"), &[1, 1, 0, 1], &[0, 0, 1, 1]),
+        case("as its own later value", one("40 61 05"), &[1, 1, 0, 1], &[1, 1, 1, 0]),
+        case("outputs are alike", outputs, &pairs, &[2, 7, 4, 1]),
+        case("32 values wait", deep(0x41), &pairs, &[0, 1, 1, 0]),
+        case("32 values wait, all the same", deep(0x40), &pairs, &[0, 0, 0, 0]),
+        case("longest sheet with 05", longest_comparing(), &[1, 0, 1, 1, 0], &[85, 127, 85, 42, 127]),
+    ]
+}
+
 pub fn evaluation_refusals() -> Vec<EvaluationRefusal> {
-    let one = || plain(1, &["40"]);
-    let wide = || plain(6, &["40"]);
+    let own = [plain(1, &["40"]), version_2(plain(1, &["40 50 05"]))].into_iter().flat_map(letter_refusals);
+    let refused = sheets().into_iter().filter(|case| case.number != 0);
+    let by_sheet = refused.flat_map(|case| {
+        let (name, sheet, number) = (case.name, case.sheet, case.number);
+        [
+            (name, sheet.clone(), vec![], 0, number),
+            (name, sheet.clone(), vec![0, 1], 1, number),
+            (name, sheet.clone(), vec![255], 1, number),
+            (name, sheet, vec![0, 0, 0], 8, number),
+        ]
+    });
+    let cases = own.chain(by_sheet);
+    cases.map(|(name, sheet, letters, room, number)| EvaluationRefusal { name, sheet, letters, room, number }).collect()
+}
+
+type RefusedLetters = (&'static str, Vec<u8>, Vec<u8>, usize, u32);
+
+/// Rules 16 and 11 with an accepted sheet of one input, and with the same sheet of six inputs.
+fn letter_refusals(sheet: Vec<u8>) -> Vec<RefusedLetters> {
+    let one = || sheet.clone();
+    let wide = || with(sheet.clone(), 5, 6);
     let last = |letters: usize, letter: u8| [vec![1; letters - 1], vec![letter]].concat();
-    let own = vec![
+    vec![
         ("no letters", one(), vec![], 0, 16),
         ("no letters and a buffer", one(), vec![], 10, 16),
         ("4,097 letters", one(), vec![0; 4097], 4097, 16),
@@ -347,23 +592,11 @@ pub fn evaluation_refusals() -> Vec<EvaluationRefusal> {
         ("bad first letter", one(), vec![2, 0, 1], 5, 11),
         ("bad last letter", one(), last(20, 2), 30, 11),
         ("bad last letter of 4,096", one(), last(4096, 2), 4096, 11),
-    ];
-    let refused = sheets().into_iter().filter(|case| case.number != 0);
-    let by_sheet = refused.flat_map(|case| {
-        let (name, sheet, number) = (case.name, case.sheet, case.number);
-        [
-            (name, sheet.clone(), vec![], 0, number),
-            (name, sheet.clone(), vec![0, 1], 1, number),
-            (name, sheet.clone(), vec![255], 1, number),
-            (name, sheet, vec![0, 0, 0], 8, number),
-        ]
-    });
-    let cases = own.into_iter().chain(by_sheet);
-    cases.map(|(name, sheet, letters, room, number)| EvaluationRefusal { name, sheet, letters, room, number }).collect()
+    ]
 }
 
 pub fn journals() -> Vec<JournalCase> {
-    let groups = [marked_journals(), assuming_journals(), plain_journals()];
+    let groups = [marked_journals(), assuming_journals(), plain_journals(), comparing_journals()];
     let cases = groups.into_iter().flatten();
     cases.map(|(name, sheet, calls)| JournalCase { name, sheet, calls }).collect()
 }
@@ -433,6 +666,40 @@ fn plain_journals() -> Vec<Lines> {
     ]
 }
 
+/// In version 2. Input 0 is "the label shows the new price" and input 1 "the till has it".
+fn comparing_journals() -> Vec<Lines> {
+    let one = |expression| version_2(plain(1, &[expression]));
+    let assumed = |expression| version_2(assuming(1, 1, &["40", expression]));
+    let unlike = version_2(assuming(2, 2, &["40", "41", "40 41 05 02"]));
+    let before = version_2(assuming(2, 1, &["50", "40 41 05"]));
+    let open = |second| version_2(plain(1, &["40", second, "41 42 05"]));
+    let alike = vec![("11", "1"), ("10", "0"), ("1?", "?"), ("?0", "?"), ("??", "?"), ("00", "1"), (".", "1")];
+    let turns = vec![("?", "1010101"), ("?", "1111111"), ("1", "1010101"), ("1", "!!!!!!!"), (".", "!!!!!!!")];
+    vec![
+        ("label and till are alike", version_2(plain(2, &["40 41 05"])), alike),
+        ("either unheard leaves it open at closing", version_2(plain(2, &["40 41 05"])), vec![("?1", "?"), (".", "?")]),
+        ("a signal is alike with itself", one("40 40 05"), vec![("?", "1"), ("0", "1"), ("?", "1"), (".", "1")]),
+        ("a signal is never alike with its negation", one("40 40 02 05"), vec![("?", "0"), ("1", "0"), (".", "0")]),
+        ("open outputs that are alike", open("40"), vec![("?", "??1"), ("1", "111"), (".", "111")]),
+        ("open outputs that differ", open("40 02"), vec![("?", "??0"), ("0", "010"), (".", "010")]),
+        ("the till settles the label", shop_sheet(), vec![("?1", "111"), ("?0", "001"), (".", "001")]),
+        ("the label settles the till", shop_sheet(), vec![("0?", "001"), ("1?", "111"), (".", "111")]),
+        ("neither was heard", shop_sheet(), vec![("??", "??1"), ("11", "111"), ("??", "??1"), (".", "??1")]),
+        ("label and till break it", shop_sheet(), vec![("1?", "111"), ("10", "!!!"), ("11", "!!!"), (".", "!!!")]),
+        ("assumed unlike", unlike, vec![("1?", "101"), ("?1", "011"), ("??", "??1"), ("00", "!!!")]),
+        ("the round before is certain too", before, vec![("?1", "01"), ("?0", "11"), ("??", "01"), ("??", "?1")]),
+        ("assumed as before, true first", assumed("40 58 05"), vec![("?", "11"), ("?", "11"), ("0", "!!")]),
+        ("assumed as after, true last", assumed("40 68 05"), vec![("?", "11"), ("1", "11"), (".", "11")]),
+        ("assumed as after, false last", assumed("40 60 05"), vec![("?", "01"), ("1", "!!"), (".", "!!")]),
+        ("as one round earlier", one("40 50 05"), vec![("0", "1"), ("?", "?"), ("1", "?"), ("1", "1"), ("0", "0")]),
+        ("as one round later, false last", one("40 60 05"), vec![("0", "?"), ("1", "?"), (".", "0")]),
+        ("as one round later, closed at once", one("40 60 05"), vec![("0", "?"), (".", "1")]),
+        ("as one round later, true last", one("40 68 05"), vec![("1", "?"), ("?", "?"), (".", "?")]),
+        ("as its own earlier value", one("51 40 05"), vec![("0", "1"), ("?", "?"), ("0", "?"), (".", "?")]),
+        ("longest sheet with 05", longest_comparing(), turns),
+    ]
+}
+
 pub fn live_counts() -> Vec<LiveCount> {
     let cases = vec![
         ("example k", plain(1, &["40"]), 12),
@@ -445,6 +712,13 @@ pub fn live_counts() -> Vec<LiveCount> {
         ("256 valuations, 64 of which satisfy", counts(6, 2, 255), 256 + 256 * 64),
         ("all pairs of 4 valuations", plain(1, &["60"]), 4 * 5),
         ("all pairs of 256 valuations", plain(6, &["60", "61"]), 65_792),
+        ("label and till are alike", version_2(plain(2, &["40 41 05"])), 8 + 8 * 4),
+        ("label and till are assumed alike", version_2(assuming(2, 0, &["40 41 05"])), 4 + 4 * 2),
+        ("a signal is alike with itself", version_2(plain(1, &["40 40 05"])), 4 + 4 * 2),
+        ("a signal is assumed alike with itself", version_2(assuming(1, 0, &["40 40 05"])), 2 + 2 * 2),
+        ("a signal is assumed alike with its negation", version_2(assuming(1, 0, &["40 40 02 05"])), 2),
+        ("assumed as one round earlier", version_2(assuming(1, 0, &["40 50 05"])), 2 + 2),
+        ("all pairs of 8 valuations", version_2(plain(2, &["60 61 05"])), 8 * 9),
     ];
     cases.into_iter().map(|(name, sheet, live)| LiveCount { name, sheet, live }).collect()
 }
@@ -499,7 +773,14 @@ pub fn forged(rounds: u32, closed: u32, counts: &[[u32; 4]]) -> Held {
 }
 
 pub fn journal_refusals() -> Vec<JournalRefusal> {
-    let groups = [record_refusals(), order_refusals(), mask_refusals(), length_refusals(), sheet_refusals()];
+    let groups = [
+        record_refusals(),
+        order_refusals(plain(1, &["40"])),
+        order_refusals(version_2(plain(1, &["40 50 05"]))),
+        mask_refusals(),
+        length_refusals(),
+        sheet_refusals(),
+    ];
     let cases = groups.into_iter().flatten();
     cases.map(|(name, sheet, held, call, number)| JournalRefusal { name, sheet, held, call, number }).collect()
 }
@@ -559,9 +840,10 @@ fn record_refusals() -> Vec<Refused> {
     .concat()
 }
 
-/// What comes first: 15, 18, 12, then 11 and 13, or 14.
-fn order_refusals() -> Vec<Refused> {
-    let sheet = || plain(1, &["40"]);
+/// What comes first with an accepted sheet of one input and one output: 15, 18, 12, then 11 and 13, or
+/// 14.
+fn order_refusals(sheet: Vec<u8>) -> Vec<Refused> {
+    let sheet = || sheet.clone();
     let short = |mut held: Held| {
         held.storage.pop();
         held

@@ -16,6 +16,7 @@ pub fn value(expression: &Expression, earlier: Option<u8>, now: u8, later: Optio
         // Both sides are always worked out, as the tree has no order of evaluation.
         Expression::And(left, right) => part(left) & part(right),
         Expression::Or(left, right) => part(left) | part(right),
+        Expression::Equal(left, right) => part(left) == part(right),
         Expression::Read(read) => {
             let round = match read.offset {
                 -1 => earlier,

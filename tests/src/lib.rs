@@ -3,8 +3,9 @@
 //!
 //! `sheet`, `circular` and `language` follow the definitions as directly as they can, and so do
 //! `pairs`, `monitor` and `journal` for verdicts, and `session` for the journal program. `random`
-//! and `cases` supply the inputs, `library` makes the calls, `program` runs the journal program, and
-//! `vectors` has whole sessions for a proved program that runs many.
+//! and `cases` supply the inputs, `versions` those that say the same in both versions, `library` makes
+//! the calls, `program` runs the journal program, and `vectors` has whole sessions for a proved program
+//! that runs many.
 
 pub mod cases;
 pub mod circular;
@@ -18,6 +19,7 @@ pub mod random;
 pub mod session;
 pub mod sheet;
 pub mod vectors;
+pub mod versions;
 
 /// Bytes in hex, for the messages of failed tests.
 pub fn hex(bytes: &[u8]) -> String {

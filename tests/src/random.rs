@@ -2,7 +2,7 @@
 
 use crate::journal::Book;
 use crate::monitor::Heard;
-use crate::sheet::{byte_of_read, write, HEADER, LONGEST_EXPRESSION, NO_ASSUMPTION};
+use crate::sheet::{byte_of_read, write, write_version, HEADER, LONGEST_EXPRESSION, NO_ASSUMPTION};
 
 /// Marsaglia's xorshift generator on 64 bits, its output multiplied by an odd constant.
 pub struct Random {
@@ -119,6 +119,39 @@ fn length(random: &mut Random) -> usize {
     random.range(1, most)
 }
 
+/// A version, and what joins two values in its sheets.
+#[derive(Clone, Copy)]
+struct Version {
+    number: u16,
+    operators: &'static [u8],
+}
+
+const VERSION_1: Version = Version { number: 1, operators: &[0x03, 0x04] };
+const VERSION_2: Version = Version { number: 2, operators: &[0x03, 0x04, 0x05] };
+
+impl Version {
+    fn draw(random: &mut Random) -> Version {
+        random.pick(&[VERSION_1, VERSION_1, VERSION_2])
+    }
+
+    fn operator(self, random: &mut Random) -> u8 {
+        random.pick(self.operators)
+    }
+
+    /// Exclusive or of two reads.
+    fn differs(self, left: u8, right: u8) -> Vec<u8> {
+        match self.number {
+            1 => vec![left, right, 0x02, 0x03, left, 0x02, right, 0x03, 0x04],
+            _ => vec![left, right, 0x05, 0x02],
+        }
+    }
+
+    /// A sheet of these expressions, with an assumption or without.
+    fn sheet(self, random: &mut Random, inputs: usize, expressions: &[Vec<u8>]) -> Vec<u8> {
+        write_version(self.number, inputs as u8, assumption(random, expressions.len()), expressions)
+    }
+}
+
 /// What the operands of one expression are drawn from. Either list may be empty, not both.
 struct Operands {
     inputs: Vec<u8>,
@@ -147,7 +180,7 @@ fn reads_of_inputs(inputs: usize) -> Vec<u8> {
 }
 
 /// A postfix expression of exactly this length.
-fn expression(random: &mut Random, length: usize, operands: &Operands) -> Vec<u8> {
+fn expression(random: &mut Random, version: Version, length: usize, operands: &Operands) -> Vec<u8> {
     let mut bytes = Vec::new();
     let mut values = 0;
     while bytes.len() < length {
@@ -156,14 +189,14 @@ fn expression(random: &mut Random, length: usize, operands: &Operands) -> Vec<u8
         let (may_push, may_negate) = (values < left, values >= 1 && values <= left);
         let byte = match random.below(8) {
             0 if may_negate => 0x02,
-            1..=4 if values >= 2 => random.pick(&[0x03, 0x04]),
+            1..=4 if values >= 2 => version.operator(random),
             _ if may_push => operands.draw(random),
-            _ if values >= 2 => random.pick(&[0x03, 0x04]),
+            _ if values >= 2 => version.operator(random),
             _ => 0x02,
         };
         match byte {
             0x02 => {}
-            0x03 | 0x04 => values -= 1,
+            0x03..=0x05 => values -= 1,
             _ => values += 1,
         }
         bytes.push(byte);
@@ -172,31 +205,33 @@ fn expression(random: &mut Random, length: usize, operands: &Operands) -> Vec<u8
 }
 
 /// All operands first, as many as can be joined: the largest number of values waiting.
-fn deep_expression(random: &mut Random, length: usize, operands: &Operands) -> Vec<u8> {
+fn deep_expression(random: &mut Random, version: Version, length: usize, operands: &Operands) -> Vec<u8> {
     let count = length.div_ceil(2);
     let mut bytes: Vec<u8> = (0..count).map(|_| operands.draw(random)).collect();
-    bytes.extend((1..count).map(|_| random.pick(&[0x03, 0x04])));
+    bytes.extend((1..count).map(|_| version.operator(random)));
     bytes.resize(length, 0x02);
     bytes
 }
 
 /// A sheet that keeps rules 1 to 9 and reads any stream anywhere; most are circular.
 pub fn loose(random: &mut Random) -> Vec<u8> {
+    let version = Version::draw(random);
     let (inputs, outputs) = sizes(random);
     let operands =
         Operands { inputs: reads_of_inputs(inputs), outputs: (inputs..inputs + outputs).flat_map(reads_of).collect() };
     let expressions: Vec<Vec<u8>> = (0..outputs)
         .map(|_| {
             let length = length(random);
-            expression(random, length, &operands)
+            expression(random, version, length, &operands)
         })
         .collect();
-    write(inputs as u8, assumption(random, outputs), &expressions)
+    version.sheet(random, inputs, &expressions)
 }
 
 /// A sheet with few reads of outputs and hardly any of the same round: about half are circular,
 /// some only in long traces.
 pub fn sparse(random: &mut Random) -> Vec<u8> {
+    let version = Version::draw(random);
     let (inputs, outputs) = sizes(random);
     let expressions: Vec<Vec<u8>> = (0..outputs)
         .map(|_| {
@@ -204,12 +239,12 @@ pub fn sparse(random: &mut Random) -> Vec<u8> {
             for _ in 0..random.pick(&[0, 1, 1, 1, 2]) {
                 let offset = random.pick(&[-1, -1, -1, 0, 1, 1, 1]);
                 bytes.push(byte_of_read(inputs + random.below(outputs), offset, random.one_in(2)));
-                bytes.push(random.pick(&[0x03, 0x04]));
+                bytes.push(version.operator(random));
             }
             bytes
         })
         .collect();
-    write(inputs as u8, assumption(random, outputs), &expressions)
+    version.sheet(random, inputs, &expressions)
 }
 
 /// The reads of outputs each output may have, so that no value reaches itself.
@@ -238,6 +273,7 @@ pub fn accepted(random: &mut Random) -> Vec<u8> {
     if random.one_in(8) {
         return zigzag(random);
     }
+    let version = Version::draw(random);
     let (inputs, outputs) = sizes(random);
     let deep = random.one_in(6);
     let outputs_only = random.one_in(4);
@@ -248,13 +284,13 @@ pub fn accepted(random: &mut Random) -> Vec<u8> {
             let operands = Operands { inputs: input_reads, outputs: reads };
             let length = length(random);
             if deep {
-                deep_expression(random, length, &operands)
+                deep_expression(random, version, length, &operands)
             } else {
-                expression(random, length, &operands)
+                expression(random, version, length, &operands)
             }
         })
         .collect();
-    write(inputs as u8, assumption(random, outputs), &expressions)
+    version.sheet(random, inputs, &expressions)
 }
 
 /// An accepted sheet with so many streams at most.
@@ -267,21 +303,17 @@ pub fn small(random: &mut Random, most: u8) -> Vec<u8> {
     }
 }
 
-/// An accepted sheet with these counts and no assumption, whose expressions all have 64 bytes.
+/// An accepted sheet of version 1 with these counts and no assumption, whose expressions all have 64
+/// bytes.
 pub fn dense(random: &mut Random, inputs: usize, outputs: usize) -> Vec<u8> {
     let expressions: Vec<Vec<u8>> = falling_reads(random, inputs, outputs)
         .into_iter()
         .map(|reads| {
             let operands = Operands { inputs: reads_of_inputs(inputs), outputs: reads };
-            expression(random, LONGEST_EXPRESSION, &operands)
+            expression(random, VERSION_1, LONGEST_EXPRESSION, &operands)
         })
         .collect();
     write(inputs as u8, NO_ASSUMPTION, &expressions)
-}
-
-/// Exclusive or of two reads.
-fn differs(left: u8, right: u8) -> Vec<u8> {
-    vec![left, right, 0x02, 0x03, left, 0x02, right, 0x03, 0x04]
 }
 
 /// A sheet with one input in which output `order[i]` reads output `order[i + 1]` at `offsets[i]`,
@@ -292,7 +324,7 @@ pub fn ring(order: &[usize], offsets: &[i64]) -> Vec<u8> {
     let mut expressions = vec![Vec::new(); order.len()];
     for (place, &output) in order.iter().enumerate() {
         let next = order[(place + 1) % order.len()];
-        expressions[output] = differs(byte_of_read(1 + next, offsets[place], false), 0x40);
+        expressions[output] = VERSION_1.differs(byte_of_read(1 + next, offsets[place], false), 0x40);
     }
     write(1, NO_ASSUMPTION, &expressions)
 }
@@ -302,7 +334,7 @@ pub fn ring(order: &[usize], offsets: &[i64]) -> Vec<u8> {
 pub fn turns() -> Vec<u8> {
     let expression = |output: usize| {
         let offset = [-1, 1][output % 2];
-        differs(byte_of_read(1 + output, offset, false), byte_of_read(output, 0, false))
+        VERSION_1.differs(byte_of_read(1 + output, offset, false), byte_of_read(output, 0, false))
     };
     let expressions: Vec<Vec<u8>> = (0..7).map(expression).collect();
     write(1, NO_ASSUMPTION, &expressions)
@@ -320,6 +352,7 @@ fn ring_offsets(random: &mut Random, count: usize) -> Vec<i64> {
 
 /// An accepted sheet whose values depend on one another along chains that turn at each step.
 pub fn zigzag(random: &mut Random) -> Vec<u8> {
+    let version = Version::draw(random);
     let outputs = random.range(3, 7);
     let inputs = random.range(1, 8 - outputs);
     let order = random.shuffled(outputs);
@@ -335,14 +368,15 @@ pub fn zigzag(random: &mut Random) -> Vec<u8> {
         let read = byte_of_read(inputs + next, offset, random.one_in(2));
         let own = byte_of_read(inputs + output, random.pick(&[-1, 1]), random.one_in(2));
         let other = if place >= ring && random.one_in(2) { own } else { random.pick(&reads_of_inputs(inputs)) };
-        expressions[output] = differs(read, other);
+        expressions[output] = version.differs(read, other);
     }
-    write(inputs as u8, assumption(random, outputs), &expressions)
+    version.sheet(random, inputs, &expressions)
 }
 
 /// Two rings with one output in common. Rings that go opposite ways make the sheet circular, but
 /// often no ring alone does, and the circle needs a long trace.
 pub fn two_rings(random: &mut Random) -> Vec<u8> {
+    let version = Version::draw(random);
     let outputs = random.range(3, 7);
     let inputs = random.range(1, 8 - outputs);
     let order = random.shuffled(outputs);
@@ -354,10 +388,10 @@ pub fn two_rings(random: &mut Random) -> Vec<u8> {
             let next = members[(place + 1) % members.len()];
             let offset = random.pick(&[way, way, way, way, way, 0]);
             let read = byte_of_read(inputs + next, offset, random.one_in(2));
-            expressions[output].extend([read, random.pick(&[0x03, 0x04])]);
+            expressions[output].extend([read, version.operator(random)]);
         }
     }
-    write(inputs as u8, assumption(random, outputs), &expressions)
+    version.sheet(random, inputs, &expressions)
 }
 
 /// Any sheet that keeps rules 1 to 9.
@@ -394,7 +428,7 @@ fn damage(random: &mut Random, sheet: &mut Vec<u8>) {
     if sheet.len() <= HEADER {
         return;
     }
-    match random.below(14) {
+    match random.below(15) {
         0 => sheet.truncate(random.below(HEADER)),
         1 => {
             let length = random.below(sheet.len());
@@ -420,7 +454,9 @@ fn damage(random: &mut Random, sheet: &mut Vec<u8>) {
         }
         10 => *expression_byte(random, sheet) = random.pick(&[0x05, 0x06, 0x3F, 0x48, 0x4F, 0x70, 0x80, 0xC0, 0xFF]),
         11 => *expression_byte(random, sheet) = random.pick(&[0x47, 0x57, 0x5F, 0x67, 0x6F]),
-        12 => *expression_byte(random, sheet) = random.pick(&[0x02, 0x03, 0x04]),
+        12 => *expression_byte(random, sheet) = random.pick(&[0x02, 0x03, 0x04, 0x05]),
+        // Version 1 becomes 2, and 2 becomes 1.
+        13 => sheet[3] ^= 3,
         _ => *expression_byte(random, sheet) = random.pick(&[0x00, 0x01, 0x40, 0x50, 0x60]),
     }
 }
@@ -474,6 +510,23 @@ mod tests {
         assert!(longest > 250, "{longest} bytes in the longest sheet");
     }
 
+    /// About a third of the sheets are of version 2, most of these with comparisons and some without.
+    #[test]
+    fn both_versions_occur() {
+        let mut random = Random::new(506);
+        for make in [loose, sparse, accepted, two_rings, well_formed] {
+            let (mut comparing, mut others) = (0, 0);
+            for _ in 0..2000 {
+                let bytes = make(&mut random);
+                if sheet::version(&bytes) == 2 {
+                    let compares = sheet::read(&bytes).unwrap().compares();
+                    *(if compares { &mut comparing } else { &mut others }) += 1;
+                }
+            }
+            assert!(comparing > 400 && others > 40 && comparing + others < 800, "{comparing} and {others} of 2000");
+        }
+    }
+
     #[test]
     fn all_sizes_occur() {
         let mut random = Random::new(503);
@@ -490,11 +543,13 @@ mod tests {
     fn expressions_have_the_length_asked_for() {
         let mut random = Random::new(504);
         let operands = Operands { inputs: vec![0x40], outputs: vec![] };
-        for length in 1..=LONGEST_EXPRESSION {
-            let shapes = [expression(&mut random, length, &operands), deep_expression(&mut random, length, &operands)];
-            for bytes in shapes {
-                assert_eq!(bytes.len(), length);
-                assert!(sheet::read(&write(1, NO_ASSUMPTION, &[bytes])).is_ok());
+        for version in [VERSION_1, VERSION_2] {
+            for length in 1..=LONGEST_EXPRESSION {
+                for make in [expression, deep_expression] {
+                    let bytes = make(&mut random, version, length, &operands);
+                    assert_eq!(bytes.len(), length);
+                    assert!(sheet::read(&version.sheet(&mut random, 1, &[bytes])).is_ok());
+                }
             }
         }
     }
@@ -502,10 +557,15 @@ mod tests {
     #[test]
     fn every_number_occurs_among_damaged_sheets() {
         let mut random = Random::new(505);
-        let mut seen = [0; 11];
+        // By the low byte of the version. Where it is 1 or 2, rule 3 is broken by the high byte.
+        let mut seen = [[0; 11]; 4];
         for _ in 0..10_000 {
-            seen[circular::accept(&damaged(&mut random)).err().unwrap_or(0) as usize] += 1;
+            let bytes = damaged(&mut random);
+            let number = circular::accept(&bytes).err().unwrap_or(0);
+            let low = bytes.get(3).copied().unwrap_or(0);
+            seen[low.min(3) as usize][number as usize] += 1;
         }
-        assert!(seen.iter().all(|&times| times >= 50), "{seen:?}");
+        assert!(seen[1..3].iter().flatten().all(|&times| times >= 50), "{seen:?}");
+        assert!([seen[0][3], seen[3][3]].iter().all(|&times| times >= 50), "{seen:?}");
     }
 }

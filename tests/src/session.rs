@@ -85,7 +85,7 @@ fn closing(book: &Book, answer: &Answer) -> String {
 #[cfg(test)]
 mod tests {
     use super::*;
-    use crate::cases::{self, assuming, plain, session_sheet};
+    use crate::cases::{self, assuming, plain, session_sheet, shop_sheet};
     use crate::journal::MAX_ROUNDS;
     use crate::monitor::Heard;
 
@@ -99,6 +99,13 @@ mod tests {
         assert_eq!(run(&session_sheet(), b"10\n?1\n1?\n00\n01\n.\n"), expected);
         assert_eq!(run(&session_sheet(), b"10\n?1\n1?\n00\n01\n."), expected);
         assert_eq!(run(&session_sheet(), b"\n10\n?1\n\n\n1?\n00\n01\n.\n\n\n"), expected);
+    }
+
+    #[test]
+    fn comparisons() {
+        let tallies = "# 0 1 1 1 1 250\n# 1 1 1 1 1 250\n# 2 3 0 0 1 750\n";
+        let expected = format!("111\n001\n??1\n!!!\n=!!!\n{tallies}");
+        assert_eq!(run(&shop_sheet(), b"?1\n0?\n??\n10\n.\n"), expected);
     }
 
     #[test]

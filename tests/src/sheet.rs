@@ -16,6 +16,8 @@ pub enum Expression {
     Not(Box<Expression>),
     And(Box<Expression>, Box<Expression>),
     Or(Box<Expression>, Box<Expression>),
+    /// The two values are alike.
+    Equal(Box<Expression>, Box<Expression>),
     Read(Read),
 }
 
@@ -43,6 +45,11 @@ impl Sheet {
         self.expressions.len()
     }
 
+    /// Whether some expression compares two values.
+    pub fn compares(&self) -> bool {
+        self.expressions.iter().any(|expression| expression.to_bytes().contains(&0x05))
+    }
+
     /// The reads of output k that go to outputs, each as the output read and the offset.
     pub fn output_reads(&self, k: usize) -> Vec<(usize, i64)> {
         let mut found = Vec::new();
@@ -59,11 +66,25 @@ impl Sheet {
 }
 
 impl Expression {
+    /// The bytes that are read as this expression.
+    pub fn to_bytes(&self) -> Vec<u8> {
+        let joined =
+            |left: &Expression, right: &Expression, byte| [left.to_bytes(), right.to_bytes(), vec![byte]].concat();
+        match self {
+            Expression::Constant(constant) => vec![*constant as u8],
+            Expression::Not(part) => [part.to_bytes(), vec![0x02]].concat(),
+            Expression::And(left, right) => joined(left, right, 0x03),
+            Expression::Or(left, right) => joined(left, right, 0x04),
+            Expression::Equal(left, right) => joined(left, right, 0x05),
+            Expression::Read(read) => vec![byte_of_read(read.stream, read.offset, read.default)],
+        }
+    }
+
     pub fn for_each_read(&self, visit: &mut impl FnMut(&Read)) {
         match self {
             Expression::Constant(_) => {}
             Expression::Not(part) => part.for_each_read(visit),
-            Expression::And(left, right) | Expression::Or(left, right) => {
+            Expression::And(left, right) | Expression::Or(left, right) | Expression::Equal(left, right) => {
                 left.for_each_read(visit);
                 right.for_each_read(visit);
             }
@@ -80,7 +101,8 @@ pub fn read(bytes: &[u8]) -> Result<Sheet, u32> {
     if &bytes[..3] != b"SLR" {
         return Err(2);
     }
-    if u16::from_le_bytes([bytes[3], bytes[4]]) != 1 {
+    let version = version(bytes);
+    if version != 1 && version != 2 {
         return Err(3);
     }
     let (inputs, outputs) = (bytes[5] as usize, bytes[6] as usize);
@@ -101,7 +123,7 @@ pub fn read(bytes: &[u8]) -> Result<Sheet, u32> {
             return Err(6);
         }
         let (stretch, others) = after.split_at(length);
-        expressions.push(read_expression(stretch, inputs + outputs)?);
+        expressions.push(read_expression(stretch, version, inputs + outputs)?);
         rest = others;
     }
     if !rest.is_empty() {
@@ -110,21 +132,28 @@ pub fn read(bytes: &[u8]) -> Result<Sheet, u32> {
     Ok(Sheet { inputs, assumption, expressions })
 }
 
-/// Rules 7 and 8 on one expression. The first byte that breaks either decides.
-fn read_expression(bytes: &[u8], streams: usize) -> Result<Expression, u32> {
+/// The version in a header.
+pub fn version(bytes: &[u8]) -> u16 {
+    u16::from_le_bytes([bytes[3], bytes[4]])
+}
+
+/// Rules 7 and 8 on one expression. The first byte that breaks either decides. In version 1 the byte 05 is unknown, whatever
+/// stands before it.
+fn read_expression(bytes: &[u8], version: u16, streams: usize) -> Result<Expression, u32> {
     let mut stack: Vec<Expression> = Vec::new();
     for &byte in bytes {
         let part = match byte {
             0x00 => Expression::Constant(false),
             0x01 => Expression::Constant(true),
             0x02 => Expression::Not(Box::new(stack.pop().ok_or(8u32)?)),
-            0x03 | 0x04 => {
+            0x05 if version == 1 => return Err(7),
+            0x03..=0x05 => {
                 let right = Box::new(stack.pop().ok_or(8u32)?);
                 let left = Box::new(stack.pop().ok_or(8u32)?);
-                if byte == 0x03 {
-                    Expression::And(left, right)
-                } else {
-                    Expression::Or(left, right)
+                match byte {
+                    0x03 => Expression::And(left, right),
+                    0x04 => Expression::Or(left, right),
+                    _ => Expression::Equal(left, right),
                 }
             }
             _ => {
@@ -170,9 +199,15 @@ pub fn byte_of_read(stream: usize, offset: i64, default: bool) -> u8 {
     family + stream as u8
 }
 
-/// A sheet's bytes, made from its parts. Nothing is checked, so refused sheets can be made too.
+/// The bytes of a sheet of version 1, made from its parts. Nothing is checked, so refused sheets can be made too.
 pub fn write(inputs: u8, assumption: u8, expressions: &[Vec<u8>]) -> Vec<u8> {
-    let mut bytes = vec![b'S', b'L', b'R', 1, 0, inputs, expressions.len() as u8, assumption];
+    write_version(1, inputs, assumption, expressions)
+}
+
+/// The same of any version.
+pub fn write_version(version: u16, inputs: u8, assumption: u8, expressions: &[Vec<u8>]) -> Vec<u8> {
+    let [low, high] = version.to_le_bytes();
+    let mut bytes = vec![b'S', b'L', b'R', low, high, inputs, expressions.len() as u8, assumption];
     for expression in expressions {
         bytes.push(expression.len() as u8);
         bytes.extend(expression);
@@ -180,15 +215,25 @@ pub fn write(inputs: u8, assumption: u8, expressions: &[Vec<u8>]) -> Vec<u8> {
     bytes
 }
 
+/// A sheet with the version in its header replaced.
+pub fn with_version(sheet: &[u8], version: u16) -> Vec<u8> {
+    [&sheet[..3], &version.to_le_bytes(), &sheet[5..]].concat()
+}
+
 #[cfg(test)]
 mod tests {
     use super::*;
     use crate::cases;
+    use crate::hex;
+    use crate::random::{self, Random};
+
+    fn now(stream: usize) -> Box<Expression> {
+        Box::new(Expression::Read(Read { stream, offset: 0, default: false }))
+    }
 
     #[test]
     fn session_sheet_as_trees() {
         let sheet = read(&cases::session_sheet()).unwrap();
-        let now = |stream| Box::new(Expression::Read(Read { stream, offset: 0, default: false }));
         let beside = |stream, offset| Box::new(Expression::Read(Read { stream, offset, default: false }));
         let not = |part| Box::new(Expression::Not(part));
         let or = |left, right| Box::new(Expression::Or(left, right));
@@ -210,6 +255,24 @@ mod tests {
     }
 
     #[test]
+    fn comparisons_as_trees() {
+        let sheet = read(&cases::version_2(cases::plain(2, &["40 41 05", "40 41 42 05 05"]))).unwrap();
+        let equal = |left, right| Box::new(Expression::Equal(left, right));
+        assert_eq!(sheet.expressions, [*equal(now(0), now(1)), *equal(now(0), equal(now(1), now(2)))]);
+    }
+
+    #[test]
+    fn trees_as_bytes() {
+        let mut random = Random::new(511);
+        for _ in 0..2000 {
+            let bytes = random::well_formed(&mut random);
+            let expressions: Vec<Vec<u8>> =
+                read(&bytes).unwrap().expressions.iter().map(Expression::to_bytes).collect();
+            assert_eq!(write_version(version(&bytes), bytes[5], bytes[7], &expressions), bytes, "{}", hex(&bytes));
+        }
+    }
+
+    #[test]
     fn forty_bytes_are_reads() {
         let reads: Vec<u8> = (0..=255).filter(|&byte| read_of_byte(byte).is_some()).collect();
         let expected: Vec<u8> = (0x40..=0x47).chain(0x50..=0x6F).collect();
@@ -223,8 +286,9 @@ mod tests {
     #[test]
     fn longest_sheet() {
         assert_eq!(LONGEST_SHEET, 463);
-        let bytes = cases::longest();
-        assert_eq!(bytes.len(), LONGEST_SHEET);
-        assert!(read(&bytes).is_ok());
+        for bytes in [cases::longest(), cases::longest_comparing()] {
+            assert_eq!(bytes.len(), LONGEST_SHEET);
+            assert!(read(&bytes).is_ok());
+        }
     }
 }

@@ -24,6 +24,14 @@ impl Case {
         Case { sheet, session: session.into() }
     }
 
+    /// The low byte of the version if it is 1 or 2, and else 0.
+    fn low_version(&self) -> usize {
+        match self.sheet.get(3) {
+            Some(&low @ (1 | 2)) => low as usize,
+            _ => 0,
+        }
+    }
+
     /// The lengths and what they count, as they stand in the program's input.
     fn to_bytes(&self) -> Vec<u8> {
         assert!(self.sheet.len() <= SHEET_READ && self.session.len() <= LONGEST_SESSION);
@@ -51,9 +59,11 @@ pub fn stdout(cases: &[Case]) -> String {
 /// How often each refusal and each verdict was written.
 #[derive(Debug, Default)]
 pub struct Seen {
-    pub cases: usize,
+    /// By the low byte of the version, 0 standing for all but 1 and 2.
+    pub cases: [usize; 3],
+    /// The same, and by number.
+    pub refused_sheets: [[usize; 19]; 3],
     /// By number.
-    pub refused_sheets: [usize; 19],
     pub refused_lines: [usize; 19],
     /// In the order `0 1 ? !`.
     pub verdicts: [usize; 4],
@@ -61,29 +71,39 @@ pub struct Seen {
 }
 
 impl Seen {
-    pub fn of(written: &str) -> Seen {
+    pub fn of(cases: &[Case], written: &str) -> Seen {
         let mut seen = Seen::default();
-        for line in written.lines() {
-            let words: Vec<&str> = line.split(' ').collect();
-            match words[..] {
-                ["--"] => seen.cases += 1,
-                ["refused", number, "sheet"] => seen.refused_sheets[number.parse::<usize>().expect("a number")] += 1,
-                ["refused", number, "line", _] => seen.refused_lines[number.parse::<usize>().expect("a number")] += 1,
-                ["#", ..] => {}
-                _ => match line.strip_prefix('=') {
-                    Some(verdicts) => count(&mut seen.closing, verdicts),
-                    None => count(&mut seen.verdicts, line),
-                },
-            }
+        for (case, text) in cases.iter().zip(written.split("--\n")) {
+            let version = case.low_version();
+            seen.cases[version] += 1;
+            text.lines().for_each(|line| seen.add(version, line));
         }
         seen
     }
 
-    /// Each verdict occurs often, and each refusal that a short session can meet several times.
+    /// A line written for a case of this version.
+    fn add(&mut self, version: usize, line: &str) {
+        let place = |number: &str| number.parse::<usize>().expect("a number");
+        let words: Vec<&str> = line.split(' ').collect();
+        match words[..] {
+            ["refused", number, "sheet"] => self.refused_sheets[version][place(number)] += 1,
+            ["refused", number, "line", _] => self.refused_lines[place(number)] += 1,
+            ["#", ..] => {}
+            _ => match line.strip_prefix('=') {
+                Some(verdicts) => count(&mut self.closing, verdicts),
+                None => count(&mut self.verdicts, line),
+            },
+        }
+    }
+
+    /// Each verdict occurs often, and each refusal that a short session can meet several times, those of
+    /// a sheet in both versions.
     pub fn expect_all(&self) {
+        assert!(self.cases[1..].iter().all(|&times| times >= 600), "{self:?}");
         assert!(self.verdicts.iter().all(|&times| times >= 5000), "{self:?}");
         assert!(self.closing.iter().all(|&times| times >= 200), "{self:?}");
-        assert!(self.refused_sheets[1..=10].iter().all(|&times| times >= 6), "{self:?}");
+        let mut refused_sheets = self.refused_sheets[1..].iter().flat_map(|numbers| &numbers[1..=10]);
+        assert!(refused_sheets.all(|&times| times >= 6), "{self:?}");
         assert!([12, 14, 17].iter().all(|&number| self.refused_lines[number] >= 12), "{self:?}");
     }
 }

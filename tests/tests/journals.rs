@@ -4,7 +4,8 @@ use outside::journal::{self, call_of_line, round, Answer, Book, Call, Held, MAX_
 use outside::monitor::{self, Heard, Monitor, Verdict};
 use outside::pairs::{Pairs, SET_WORDS};
 use outside::random::{self, Random};
-use outside::{cases, hex, library};
+use outside::sheet::with_version;
+use outside::{cases, hex, library, versions};
 use std::fmt::Debug;
 
 /// Numbers kept on each side of what is lent, which must stay as they were.
@@ -353,6 +354,44 @@ fn random_journals_of_all_sizes() {
         }
     }
     seen.expect_verdicts(40);
+}
+
+/// Journals of sheets that say the same in both versions: all that is returned, lent and handed in is
+/// the same. A sheet that compares two values is unknown to version 1, and nothing is altered.
+#[test]
+fn twins() {
+    let mut random = Random::new(41);
+    let mut seen = Seen::nothing();
+    for turn in 0..700 {
+        let most = if turn % 10 == 0 { 8 } else { 6 };
+        let [first, second] = versions::twins(&mut random, |random| random::small(random, most));
+        let changed = Subject::new(with_version(&second, 1));
+        let subject = Subject::new(second);
+        let held = anything(&mut random);
+        let mut other = held.clone();
+        let mut kept = Kept::new(&subject, held);
+        assert_eq!(call(&first, &mut other, Call::Prepare), 0);
+        let unknown = random.pick(&[0, 30, 60, 100]);
+        for _ in 0..random.range(1, 8) {
+            let made = match random.below(12) {
+                0 => Call::Close,
+                1 => Call::Round(random.masks()),
+                _ => Call::Round(random.heard_along(&kept.book, unknown)),
+            };
+            let number = kept.agree(made);
+            seen.count(made, number, &kept.held.answer, kept.outputs());
+            assert_eq!(call(&first, &mut other, made), number);
+            assert!(kept.held == other, "{made:?}, sheets {} and {}", hex(&first), hex(&subject.sheet));
+            if subject.accepted().sheet.compares() {
+                for made in [Call::Prepare, made, Call::Close] {
+                    assert_eq!(changed.agree(&mut other, made), 7);
+                }
+                assert!(kept.held == other, "{made:?}, sheet {}", hex(&changed.sheet));
+            }
+        }
+    }
+    seen.expect_numbers(&[0, 11, 12], 100);
+    seen.expect_verdicts(20);
 }
 
 /// The library's verdicts over all lists of letters that are long enough, with nothing in between.

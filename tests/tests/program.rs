@@ -1,11 +1,14 @@
 //! The program `journal` itself, where it has been built: its files, and a journal with as many
 //! rounds as one may hold.
 
-use outside::cases::{longest, plain, session_sheet};
+use outside::cases::{longest, longest_comparing, plain, session_sheet, shop_sheet};
 use outside::journal::MAX_ROUNDS;
 use outside::program::Folder;
+use outside::sheet::with_version;
 use outside::{session, vectors};
+use std::fs;
 use std::io::{self, Write};
+use std::path::Path;
 use std::process::Stdio;
 use std::thread;
 use std::time::Duration;
@@ -32,6 +35,41 @@ fn files() {
     }
     assert_eq!(folder.written(Stdio::null()), "refused 9 sheet\n");
     assert_eq!(folder.run(Some(&session_sheet()), b""), "");
+}
+
+/// Sheets of version 2, and the same with another version.
+#[test]
+fn comparisons() {
+    let Some(folder) = Folder::new("comparisons") else { return };
+    let lines = b"?1\n0?\n??\n10\n.\n";
+    let tallies = "# 0 1 1 1 1 250\n# 1 1 1 1 1 250\n# 2 3 0 0 1 750\n";
+    let written = format!("111\n001\n??1\n!!!\n=!!!\n{tallies}");
+    assert_eq!(folder.run(Some(&shop_sheet()), lines), written);
+    assert_eq!(folder.run(Some(&longest_comparing()), b"?\n?\n1\n"), "1010101\n1111111\n1010101\n");
+    for (version, number) in [(1, 7), (0, 3), (3, 3), (0x0102, 3), (0x0200, 3)] {
+        for sheet in [shop_sheet(), longest_comparing()] {
+            let refused = format!("refused {number} sheet\n");
+            assert_eq!(folder.run(Some(&with_version(&sheet, version)), lines), refused, "version {version}");
+        }
+    }
+}
+
+/// The sheets and journals of examples/.
+#[test]
+fn examples() {
+    let Some(folder) = Folder::new("examples") else { return };
+    let examples = Path::new(env!("CARGO_MANIFEST_DIR")).join("../examples");
+    let run = |name: &str| {
+        let [sheet, journal] =
+            ["sheet.slr", "journal.txt"].map(|file| fs::read(examples.join(name).join(file)).unwrap());
+        let written = folder.run(Some(&sheet), &journal);
+        assert_eq!(written, session::run(&sheet, &journal), "{name}");
+        written
+    };
+    for name in ["session", "in_force", "by_evening"] {
+        run(name);
+    }
+    assert_eq!(run("alike"), "01\n11\n?1\n01\n11\n=11\n# 0 2 2 1 0 400\n# 1 5 0 0 0 1000\n");
 }
 
 /// Rules 13 and 17 after the last round, closing, and line numbers with blank lines among them. Each

@@ -1,8 +1,8 @@
 //! The library's evaluation of whole traces against the outside evaluator.
 
 use outside::random::{self, Random};
-use outside::sheet::Sheet;
-use outside::{cases, circular, hex, language, library};
+use outside::sheet::{with_version, Sheet};
+use outside::{cases, circular, hex, language, library, versions};
 
 /// Bytes kept on each side of the lent buffer, which must stay as they were.
 const MARGIN: usize = 32;
@@ -111,6 +111,37 @@ fn long_traces() {
         let (_, after) = evaluate(&bytes, &letters, &contents);
         assert!(language::satisfies(&sheet, &letters, &after[..rounds]));
     }
+}
+
+/// Sheets that say the same in both versions have the same values.
+#[test]
+fn twins() {
+    let mut random = Random::new(20);
+    for turn in 0..2000 {
+        let [first, second] = versions::twins(&mut random, random::accepted);
+        let rounds = if turn % 100 == 0 { language::MAX_LETTERS } else { random.range(1, 60) };
+        let letters = random.letters(second[5] as usize, rounds);
+        let room = rounds + random.below(5);
+        let contents = random.bytes(room);
+        assert_eq!(agree(&second, &letters, &contents), 0);
+        let [one, other] = [&first, &second].map(|sheet| evaluate(sheet, &letters, &contents));
+        assert!(one == other, "sheets {} and {}", hex(&first), hex(&second));
+    }
+}
+
+/// A sheet that compares two values is unknown to version 1, and nothing is written.
+#[test]
+fn comparisons_in_version_1() {
+    let mut random = Random::new(22);
+    let mut comparing = 0;
+    for _ in 0..2000 {
+        let (bytes, sheet) = accepted(&mut random);
+        let letters = random.letters(sheet.inputs, 8);
+        let number = agree(&with_version(&bytes, 1), &letters, &random.bytes(10));
+        assert_eq!(number, if sheet.compares() { 7 } else { 0 });
+        comparing += sheet.compares() as usize;
+    }
+    assert!(comparing >= 400, "{comparing}");
 }
 
 #[test]

@@ -21,7 +21,7 @@ fn same(name: &str, made: &[u8]) {
 fn files_are_up_to_date() {
     let cases = vectors::cases();
     let written = vectors::stdout(&cases);
-    Seen::of(&written).expect_all();
+    Seen::of(&cases, &written).expect_all();
     same("stdin", &vectors::stdin(&cases));
     same("stdout", written.as_bytes());
 }

@@ -1,7 +1,7 @@
 //! Times the proved library against the same algorithm without a proof, a straightforward monitor and
 //! the outside tests, prints the tables and writes docs/BENCHMARKS.md. With the argument `quick`, it
-//! prints the tables of checks, preparation, rounds and the program, from fewer repeats, and writes
-//! nothing.
+//! prints the tables of checks, preparation, rounds, comparisons and the program, from fewer repeats,
+//! and writes nothing.
 
 use bench::measure::{self, CheckTimes, PreparationTimes, RoundTimes, Subject};
 use bench::timing::Effort;
@@ -35,6 +35,7 @@ fn quick() {
     let (preparations, rounds) = journals(Effort::QUICK);
     println!("Preparation\n\n{}", report::preparations(&preparations));
     println!("A round\n\n{}", report::rounds(&rounds));
+    println!("Comparisons\n\n{}", report::comparisons(&measure::comparisons(Effort::QUICK)));
     println!("The program\n\n{}", report::program(&program::time(Effort::QUICK)));
 }
 
@@ -54,6 +55,9 @@ fn document() -> String {
         preparations = report::preparations(&preparations),
         rounds = report::rounds(&rounds),
         traces = report::traces(&traces),
+        compared = workloads::comparisons().len(),
+        written_out = workloads::comparisons_written_out().len(),
+        comparisons = report::comparisons(&measure::comparisons(Effort::FULL)),
         program = report::program(&program),
         by_streams = report::costs("streams", &growth::by_streams()),
         by_length = report::costs("bytes of an expression", &growth::by_length()),
@@ -69,6 +73,7 @@ fn checks(effort: Effort) -> Vec<CheckTimes> {
         check("formula", workloads::formula()),
         check("longest", cases::longest()),
         check("dense, 4 inputs", workloads::dense(4, 4)),
+        check("comparisons", workloads::comparisons()),
     ]
 }
 

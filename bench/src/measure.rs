@@ -5,7 +5,7 @@ use crate::fast::entries::{self, Journal};
 use crate::fast::{trace, Sheet};
 use crate::straightforward;
 use crate::timing::{Effort, Parts};
-use crate::workloads::{self, Unheard, Workload};
+use crate::workloads::{self, Unheard, Workload, TRACE_LENGTHS};
 use jigwaret::raw;
 use outside::journal::{Book, Held};
 use outside::monitor::{Heard, Monitor};
@@ -76,6 +76,18 @@ pub struct TraceTimes {
     pub times: Times,
 }
 
+/// Seconds of the library alone, first with comparisons written out, then with these as such.
+pub struct ComparisonTimes {
+    pub check: [f64; 2],
+    pub preparation: [f64; 2],
+    pub unheard: Unheard,
+    /// Of one round.
+    pub round: [f64; 2],
+    pub rounds: usize,
+    /// Of a trace of so many rounds.
+    pub trace: [f64; 2],
+}
+
 /// Rules 1 to 10.
 pub fn check(effort: Effort, name: &'static str, sheet: &[u8]) -> CheckTimes {
     let expected = circular::accept(sheet).err().unwrap_or(0);
@@ -141,10 +153,7 @@ impl Subject<'_> {
         let stretches = self.stretches(effort, &heard);
         let [proved, fast, kept, straightforward, tabled] = effort
             .shortest_by_parts([
-                &mut |parts| {
-                    let mut held = self.prepared.clone();
-                    stretches.play(parts, |round| assert_eq!(proved_round(sheet, &mut held, round), 0));
-                },
+                &mut |parts| self.play_proved(&stretches, parts),
                 &mut |parts| {
                     let mut held = self.prepared.clone();
                     stretches.play(parts, |round| assert_eq!(fast_round(sheet, &mut held, round), 0));
@@ -176,11 +185,13 @@ impl Subject<'_> {
         let mut held = Held::fresh();
         let [preparation] = effort.shortest([&mut || assert_eq!(proved_preparation(sheet, &mut held), 0)]);
         let stretches = self.stretches(effort, &heard);
-        let [journal] = effort.shortest_by_parts([&mut |parts| {
-            let mut held = self.prepared.clone();
-            stretches.play(parts, |round| assert_eq!(proved_round(sheet, &mut held, round), 0));
-        }]);
+        let [journal] = effort.shortest_by_parts([&mut |parts| self.play_proved(&stretches, parts)]);
         ProvedTimes { preparation, round: journal / heard.len() as f64, pairs }
+    }
+
+    fn play_proved(&self, stretches: &Stretches, parts: &mut Parts) {
+        let mut held = self.prepared.clone();
+        stretches.play(parts, |round| assert_eq!(proved_round(&self.workload.sheet, &mut held, round), 0));
     }
 
     /// So many rounds at once last long enough to be timed, even with the fastest monitor.
@@ -277,4 +288,40 @@ pub fn evaluate(effort: Effort, workload: &Workload, rounds: usize) -> TraceTime
         &mut || assert!(black_box(language::evaluate(sheet, &letters, rounds)).is_ok()),
     ]);
     TraceTimes { name, rounds, times: Times { proved, fast, plain } }
+}
+
+/// A rule of comparisons, and the same rule with these written out.
+pub fn comparisons(effort: Effort) -> ComparisonTimes {
+    let sheets = [workloads::comparisons_written_out(), workloads::comparisons()];
+    let workloads = sheets.map(|sheet| Workload { name: "comparisons", sheet, rounds: 60 });
+    let subjects = workloads.each_ref().map(Subject::new);
+    let [written_out, compared] = &subjects;
+    assert!(written_out.prepared == compared.prepared, "comparisons: preparation");
+    let unheard = Unheard::Share(30);
+    let heard = workloads::rounds(compared.workload, &compared.tabled, unheard);
+    assert_eq!(written_out.same_answers(&heard), compared.same_answers(&heard), "comparisons: rounds");
+    let [_, rounds] = TRACE_LENGTHS;
+    let letters = &workloads::letters(compared.workload, rounds);
+    let outputs = language::evaluate(&compared.workload.sheet, letters, rounds).expect("an accepted sheet");
+
+    let sheets = workloads.each_ref().map(|workload| &workload.sheet);
+    let [mut first, mut second] = sheets.map(|sheet| move || assert_eq!(raw::check(black_box(sheet)), 0));
+    let check = effort.shortest([&mut first, &mut second]);
+    let [mut first, mut second] = sheets.map(|sheet| {
+        let mut held = Held::fresh();
+        move || assert_eq!(proved_preparation(sheet, &mut held), 0)
+    });
+    let preparation = effort.shortest([&mut first, &mut second]);
+    let stretches = compared.stretches(effort, &heard);
+    let [mut first, mut second] =
+        subjects.each_ref().map(|subject| |parts: &mut _| subject.play_proved(&stretches, parts));
+    let journal = effort.shortest_by_parts([&mut first, &mut second]);
+    let [mut first, mut second] = sheets.map(|sheet| {
+        let mut out = vec![0; rounds];
+        assert_eq!((raw::evaluate(sheet, letters, &mut out), &out), (0, &outputs), "comparisons: whole trace");
+        move || assert_eq!(raw::evaluate(sheet, letters, &mut out), 0)
+    });
+    let trace = effort.shortest([&mut first, &mut second]);
+    let round = journal.map(|time| time / heard.len() as f64);
+    ComparisonTimes { check, preparation, unheard, round, rounds, trace }
 }

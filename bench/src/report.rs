@@ -1,7 +1,7 @@
 //! The measurements as a document.
 
 use crate::growth::Cost;
-use crate::measure::{CheckTimes, MonitorTimes, PreparationTimes, RoundTimes, TraceTimes};
+use crate::measure::{CheckTimes, ComparisonTimes, MonitorTimes, PreparationTimes, RoundTimes, TraceTimes};
 use crate::program::{Timed, ROUNDS};
 use crate::workloads::TRACE_LENGTHS;
 use std::fmt::Write;
@@ -122,6 +122,20 @@ pub fn traces(all: &[[TraceTimes; 2]]) -> String {
                 seconds(times.proved),
             ]
         }),
+    )
+}
+
+pub fn comparisons(times: &ComparisonTimes) -> String {
+    let row =
+        |what: String, [written_out, compared]: [f64; 2]| vec![what, ratio(written_out / compared), seconds(compared)];
+    table(
+        &["what is timed", "written out : compared", "compared, time here"],
+        [
+            row("check of the sheet".to_string(), times.check),
+            row("preparation".to_string(), times.preparation),
+            row(format!("a round, {} not heard", times.unheard.name()), times.round),
+            row(format!("a whole trace of {} rounds", times.rounds), times.trace),
+        ],
     )
 }
 

@@ -158,6 +158,7 @@ fn value(expression: &Expression, a: Option<u8>, b: u8, c: Option<u8>) -> bool {
         Expression::Not(part) => !value(part, a, b, c),
         Expression::And(left, right) => value(left, a, b, c) && value(right, a, b, c),
         Expression::Or(left, right) => value(left, a, b, c) || value(right, a, b, c),
+        Expression::Equal(left, right) => value(left, a, b, c) == value(right, a, b, c),
         Expression::Read(read) => {
             let round = match read.offset {
                 -1 => a,

@@ -5,7 +5,8 @@ use outside::circular;
 use outside::journal::Book;
 use outside::monitor::{Heard, Monitor};
 use outside::random::{self, Random};
-use outside::sheet::{byte_of_read, write, NO_ASSUMPTION};
+use outside::sheet::{byte_of_read, write, write_version, NO_ASSUMPTION};
+use outside::versions;
 
 /// A sheet with the length of the journals that are timed on it.
 pub struct Workload {
@@ -42,6 +43,7 @@ pub fn journals() -> Vec<Workload> {
         workload("register", register(), 60),
         workload("dense, 4 inputs", dense(4, 4), 20),
         workload("dense, 6 inputs", dense(6, 2), 20),
+        workload("comparisons", comparisons(), 60),
     ]
 }
 
@@ -59,6 +61,7 @@ pub fn traces() -> Vec<Workload> {
         workload("ring of 7", random::ring(&[3, 0, 5, 1, 6, 2, 4], &[1, 1, 1, -1, -1, -1, -1])),
         workload("dense, 4 inputs", dense(4, 4)),
         workload("dense, 6 inputs", dense(6, 2)),
+        workload("comparisons", comparisons()),
     ]
 }
 
@@ -89,6 +92,29 @@ pub fn count_ahead() -> Vec<u8> {
 /// A read differs from an expression.
 fn differs(read: u8, other: &[u8]) -> Vec<u8> {
     [&[read], other, &bytes("02 03"), &[read, 0x02], other, &bytes("03 04")].concat()
+}
+
+/// Inputs tell which of two prices the till, the label on the shelf, the label on the rail and the
+/// scanner have.
+///
+/// Output 0: the three others have the till's price of this round or of the one before. Output 1:
+/// nothing has changed since the round before, output 0 included. Output 2: what has the till's price
+/// has it one round later as well. Output 3: the three others agree until outputs 0 and 2 do.
+const COMPARISONS: [&str; 4] = [
+    "41 40 05 41 50 05 04 42 40 05 42 50 05 04 03 43 40 05 43 50 05 04 03",
+    "40 50 05 41 51 05 03 42 52 05 03 43 53 05 03 44 5C 05 03",
+    "41 40 05 02 61 60 05 04 42 40 05 02 62 60 05 04 03 43 40 05 02 63 60 05 04 03",
+    "41 42 05 42 43 05 03 67 03 44 46 05 04",
+];
+
+/// A version 2 sheet of comparisons.
+pub fn comparisons() -> Vec<u8> {
+    write_version(2, 4, NO_ASSUMPTION, &COMPARISONS.map(bytes))
+}
+
+/// The same rule in version 1.
+pub fn comparisons_written_out() -> Vec<u8> {
+    versions::written_out(&comparisons()).expect("at most 64 bytes for each output")
 }
 
 /// Expressions of 64 bytes; of 40 such sheets the one with the most live pairs.
@@ -202,11 +228,53 @@ mod tests {
         }
     }
 
+    /// The outputs of the comparisons by their definitions.
+    fn compared_at(letters: &[u8], i: usize) -> [bool; 4] {
+        let price = |t: usize, input: usize| letters.get(t).is_some_and(|letter| letter >> input & 1 == 1);
+        let before = |t: usize, input: usize| t > 0 && price(t - 1, input);
+        let right = |t: usize, input: usize| price(t, input) == price(t, 0);
+        let in_time = |t: usize| (1..4).all(|input| right(t, input) || price(t, input) == before(t, 0));
+        let kept = |t: usize| (1..4).all(|input| !right(t, input) || right(t + 1, input));
+        let agree = |t: usize| price(t, 1) == price(t, 2) && price(t, 2) == price(t, 3);
+        let unchanged = (0..4).all(|input| price(i, input) == before(i, input));
+        let until = (i..letters.len()).find(|&t| in_time(t) == kept(t));
+        [
+            in_time(i),
+            unchanged && in_time(i) == (i == 0 || in_time(i - 1)),
+            kept(i),
+            until.is_some_and(|end| (i..end).all(agree)),
+        ]
+    }
+
+    #[test]
+    fn comparisons_by_their_definitions() {
+        let mut random = Random::new(913);
+        let mut seen = [[0; 2]; 4];
+        for _ in 0..3000 {
+            let rounds = random.range(1, 16);
+            let letters = random.letters(4, rounds);
+            let outputs = language::evaluate(&comparisons(), &letters, rounds).unwrap();
+            for (i, byte) in outputs.iter().enumerate() {
+                let found = [0, 1, 2, 3].map(|k| byte >> k & 1 == 1);
+                assert_eq!(found, compared_at(&letters, i), "{letters:?} at {i}");
+                (0..4).for_each(|k| seen[k][found[k] as usize] += 1);
+            }
+        }
+        assert!(seen.iter().flatten().all(|&times| times > 300), "{seen:?}");
+    }
+
     #[test]
     fn deep_and_dense() {
         assert!(Monitor::new(&register()).unwrap().reach >= 128);
         for (inputs, outputs) in [(4, 4), (6, 2)] {
             assert_eq!(dense(inputs, outputs).len(), 8 + 65 * outputs);
         }
+    }
+
+    /// Ratios of different runs can be compared as long as these are the same sheets.
+    #[test]
+    fn dense_sheets_stay() {
+        let sum = |sheet: Vec<u8>| sheet.iter().fold(0u32, |sum, &byte| sum.wrapping_mul(31).wrapping_add(byte as u32));
+        assert_eq!([dense(4, 4), dense(6, 2)].map(sum), [2_672_568_262, 3_603_832_850]);
     }
 }

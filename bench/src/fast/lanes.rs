@@ -41,6 +41,8 @@ pub fn value(expression: &[u8], reads: u64) -> u64 {
             0x02 => stack ^ 1,
             0x03 => stack >> 1 & (stack | !1),
             0x04 => stack >> 1 | stack & 1,
+            // A range, since for a fourth single byte the compiler makes a table of jumps, which is slower.
+            0x05.. => stack >> 1 ^ !stack & 1,
             _ => stack << 1 | byte as u64,
         };
     }
@@ -74,20 +76,29 @@ fn values<const W: usize, const VARYING: u8>(expression: &[u8], reads: u64) -> [
     let mut used = 0;
     let mut top = [0; W];
     for &byte in expression {
+        let mut pop = || {
+            used -= 1;
+            stack[used & 31]
+        };
         let new = match byte {
             0x02 => {
                 top = top.map(|word| !word);
                 continue;
             }
             0x03 | 0x04 => {
-                used -= 1;
-                let other = stack[used & 31];
+                let other = pop();
                 top = if byte == 0x03 { from_fn(|j| top[j] & other[j]) } else { from_fn(|j| top[j] | other[j]) };
                 continue;
             }
             0x00 | 0x01 => [spread(byte as u64); W],
             _ if byte >> 4 == VARYING => stream::<W>((byte & 7) as usize),
-            _ => [spread(reads >> (byte & 0x3F)); W],
+            0x40.. => [spread(reads >> (byte & 0x3F)); W],
+            // 05, tested for last: of the other bytes, only reads that do not vary pay for that.
+            _ => {
+                let other = pop();
+                top = from_fn(|j| !(top[j] ^ other[j]));
+                continue;
+            }
         };
         stack[used & 31] = top;
         used += 1;

@@ -36,9 +36,10 @@ impl<'a> Sheet<'a> {
         if &header[..3] != b"SLR" {
             return Err(2);
         }
-        if header[3..5] != [1, 0] {
-            return Err(3);
-        }
+        let version = match header[3..5] {
+            [version @ (1 | 2), 0] => version,
+            _ => return Err(3),
+        };
         let (inputs, outputs) = (header[5] as usize, header[6] as usize);
         if !(1..=6).contains(&inputs) || !(1..=7).contains(&outputs) || inputs + outputs > 8 {
             return Err(4);
@@ -59,7 +60,7 @@ impl<'a> Sheet<'a> {
                 return Err(6);
             }
             let (expression, others) = after.split_at(length);
-            sheet.read_expression(k, expression)?;
+            sheet.read_expression(k, version, expression)?;
             rest = others;
         }
         if !rest.is_empty() {
@@ -68,15 +69,16 @@ impl<'a> Sheet<'a> {
         Ok(sheet)
     }
 
-    fn read_expression(&mut self, k: usize, bytes: &'a [u8]) -> Result<(), u32> {
+    fn read_expression(&mut self, k: usize, version: u8, bytes: &'a [u8]) -> Result<(), u32> {
         let mut values = 0;
         for &byte in bytes {
             match byte {
                 0x00 | 0x01 => values += 1,
                 0x02 if values < 1 => return Err(8),
                 0x02 => {}
-                0x03 | 0x04 if values < 2 => return Err(8),
-                0x03 | 0x04 => values -= 1,
+                0x05 if version == 1 => return Err(7),
+                0x03..=0x05 if values < 2 => return Err(8),
+                0x03..=0x05 => values -= 1,
                 0x40..=0x47 | 0x50..=0x6F => {
                     self.note_read(k, byte)?;
                     values += 1;

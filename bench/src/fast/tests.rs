@@ -2,10 +2,20 @@
 
 use super::entries::{self, Journal, STORAGE_WORDS};
 use super::{trace, Sheet};
+use crate::workloads;
+use outside::cases::{self, bytes};
 use outside::journal::{self, Call, Held, MAX_ROUNDS};
 use outside::monitor::Monitor;
 use outside::random::{self, Random};
-use outside::{cases, circular, hex, language};
+use outside::sheet::{byte_of_read, write_version, NO_ASSUMPTION};
+use outside::{circular, hex, language};
+
+/// The same number on both sides.
+fn judge(sheet: &[u8]) -> u32 {
+    let number = circular::accept(sheet).err().unwrap_or(0);
+    assert_eq!(Sheet::accept(sheet).err().unwrap_or(0), number, "{}", hex(sheet));
+    number
+}
 
 fn call(sheet: &[u8], held: &mut Held, call: Call) -> u32 {
     let Held { storage, record, answer } = held;
@@ -27,9 +37,8 @@ fn agree(sheet: &[u8], monitor: &Result<Monitor, u32>, held: &mut Held, made: Ca
 
 #[test]
 fn sheets() {
-    let number = |sheet: &[u8]| Sheet::accept(sheet).err().unwrap_or(0);
     for case in cases::sheets() {
-        assert_eq!(number(&case.sheet), case.number, "{}", case.name);
+        assert_eq!(judge(&case.sheet), case.number, "{}", case.name);
     }
     let mut random = Random::new(901);
     for turn in 0..20_000 {
@@ -38,7 +47,47 @@ fn sheets() {
             1 => random::two_rings(&mut random),
             _ => random::well_formed(&mut random),
         };
-        assert_eq!(number(&sheet), circular::accept(&sheet).err().unwrap_or(0), "{}", hex(&sheet));
+        judge(&sheet);
+    }
+}
+
+/// A sheet with one input and one output.
+fn one_output(version: u16, expression: &[u8]) -> Vec<u8> {
+    write_version(version, 1, NO_ASSUMPTION, &[expression.to_vec()])
+}
+
+#[test]
+fn versions() {
+    for version in 0..=u16::MAX {
+        // Without inputs, rule 4 is the next to be broken.
+        let sheet = write_version(version, 0, NO_ASSUMPTION, &[bytes("40")]);
+        assert_eq!(judge(&sheet), if version == 1 || version == 2 { 4 } else { 3 });
+    }
+    for version in [1, 2] {
+        for byte in 0..=u8::MAX {
+            for values in 0..4 {
+                judge(&one_output(version, &[vec![0x40; values], vec![byte]].concat()));
+            }
+        }
+    }
+    let cases = [
+        ("40", [0, 0]),
+        ("40 50 05", [7, 0]),
+        ("05", [7, 8]),
+        ("40 05", [7, 8]),
+        ("40 05 40", [7, 8]),
+        ("05 03", [7, 8]),
+        ("03 05", [8, 8]),
+        ("40 40 40 05", [7, 8]),
+        ("40 40 05 05", [7, 8]),
+        ("40 06", [7, 7]),
+        ("40 42 05", [7, 7]),
+        ("41 41 05", [7, 10]),
+        ("40 41 05", [7, 10]),
+        ("41 40 05", [7, 10]),
+    ];
+    for (expression, numbers) in cases {
+        assert_eq!([1, 2].map(|version| judge(&one_output(version, &bytes(expression)))), numbers, "{expression}");
     }
 }
 
@@ -63,36 +112,40 @@ fn deep_sheets() {
     }
 }
 
-/// Journals on prepared storage, both ways of calling.
+/// A journal on prepared storage, both ways of calling.
+fn play(random: &mut Random, sheet: &[u8]) {
+    let monitor = Monitor::new(sheet);
+    let inputs = sheet[5] as usize;
+    let mut held = Held::fresh();
+    random.fill(&mut held.storage);
+    assert_eq!(agree(sheet, &monitor, &mut held, Call::Prepare), 0);
+    let mut kept = Journal::prepare(Sheet::accept(sheet).unwrap());
+    assert_eq!(kept.live_pairs, held.answer[0]);
+    assert_eq!(kept.reach, monitor.as_ref().unwrap().reach);
+    let unknown = random.pick(&[0, 30, 100]);
+    for _ in 0..random.range(1, 12) {
+        let heard = if random.one_in(12) { random.masks() } else { random.heard(inputs, unknown) };
+        let number = agree(sheet, &monitor, &mut held, Call::Round(heard));
+        match kept.round(heard.known, heard.value) {
+            Ok(verdicts) => {
+                assert!((0..sheet[6] as usize).all(|k| verdicts[k] as u32 == held.answer[k]));
+                assert_eq!(number, 0);
+            }
+            Err(refusal) => assert_eq!(number, refusal),
+        }
+        assert_eq!(kept.record[..], held.record[..]);
+    }
+    let number = agree(sheet, &monitor, &mut held, Call::Close);
+    assert_eq!(kept.close().err().unwrap_or(0), number);
+    assert_eq!(kept.record[..], held.record[..]);
+}
+
 #[test]
 fn random_journals() {
     let mut random = Random::new(902);
     for turn in 0..600 {
         let sheet = random::small(&mut random, if turn % 10 == 0 { 8 } else { 6 });
-        let monitor = Monitor::new(&sheet);
-        let inputs = sheet[5] as usize;
-        let mut held = Held::fresh();
-        random.fill(&mut held.storage);
-        assert_eq!(agree(&sheet, &monitor, &mut held, Call::Prepare), 0);
-        let mut kept = Journal::prepare(Sheet::accept(&sheet).unwrap());
-        assert_eq!(kept.live_pairs, held.answer[0]);
-        assert_eq!(kept.reach, monitor.as_ref().unwrap().reach);
-        let unknown = random.pick(&[0, 30, 100]);
-        for _ in 0..random.range(1, 12) {
-            let heard = if random.one_in(12) { random.masks() } else { random.heard(inputs, unknown) };
-            let number = agree(&sheet, &monitor, &mut held, Call::Round(heard));
-            match kept.round(heard.known, heard.value) {
-                Ok(verdicts) => {
-                    assert!((0..sheet[6] as usize).all(|k| verdicts[k] as u32 == held.answer[k]));
-                    assert_eq!(number, 0);
-                }
-                Err(refusal) => assert_eq!(number, refusal),
-            }
-            assert_eq!(kept.record[..], held.record[..]);
-        }
-        let number = agree(&sheet, &monitor, &mut held, Call::Close);
-        assert_eq!(kept.close().err().unwrap_or(0), number);
-        assert_eq!(kept.record[..], held.record[..]);
+        play(&mut random, &sheet);
     }
 }
 
@@ -118,22 +171,70 @@ fn random_calls() {
     }
 }
 
+/// The outputs of random letters, the same on both sides, and two bytes behind them that stay as they
+/// were.
+fn evaluate(random: &mut Random, sheet: &[u8], rounds: usize) -> Vec<u8> {
+    let letters = random.letters(sheet[5] as usize, rounds);
+    let mut out = random.bytes(rounds + 2);
+    let rest = out[rounds..].to_vec();
+    assert_eq!(trace::evaluate(sheet, &letters, &mut out), 0);
+    let expected = [language::evaluate(sheet, &letters, rounds).unwrap(), rest].concat();
+    assert_eq!(out, expected, "{}", hex(sheet));
+    out
+}
+
 #[test]
 fn traces() {
     let mut random = Random::new(904);
     for turn in 0..3000 {
         let sheet = if turn % 4 == 0 { random::zigzag(&mut random) } else { random::accepted(&mut random) };
         let rounds = if turn % 60 == 0 { 4096 } else { random.range(1, 40) };
-        let letters = random.letters(sheet[5] as usize, rounds);
-        let mut out = random.bytes(rounds + 2);
-        let rest = out[rounds..].to_vec();
-        assert_eq!(trace::evaluate(&sheet, &letters, &mut out), 0);
-        let expected = [language::evaluate(&sheet, &letters, rounds).unwrap(), rest].concat();
-        assert_eq!(out, expected, "{}", hex(&sheet));
+        evaluate(&mut random, &sheet, rounds);
     }
     for case in cases::evaluation_refusals() {
         let mut out = vec![0x5A; case.room];
         assert_eq!(trace::evaluate(&case.sheet, &case.letters, &mut out), case.number, "{}", case.name);
         assert!(out.iter().all(|&byte| byte == 0x5A));
     }
+}
+
+/// Comparisons of comparisons, on rows of one, two and four words.
+#[test]
+fn comparisons() {
+    let mut random = Random::new(905);
+    for streams in 2..=8usize {
+        let (inputs, outputs) = (streams.div_ceil(2), streams / 2);
+        let expression = |output: usize| {
+            let read = |place: usize, offset| byte_of_read((output + place) % inputs, offset, output % 2 == 1);
+            let own = byte_of_read(inputs + output, -1, true);
+            vec![read(0, -1), read(1, 0), 0x05, read(2, 1), own, 0x05, 0x05]
+        };
+        let expressions: Vec<Vec<u8>> = (0..outputs).map(expression).collect();
+        let sheet = write_version(2, inputs as u8, NO_ASSUMPTION, &expressions);
+        (0..4).for_each(|_| play(&mut random, &sheet));
+        evaluate(&mut random, &sheet, 100);
+    }
+}
+
+/// The sheet of comparisons has the live pairs, verdicts and traces of what it is timed against.
+#[test]
+fn comparisons_written_out() {
+    let sheets = [workloads::comparisons(), workloads::comparisons_written_out()];
+    assert_eq!(sheets.each_ref().map(|sheet| sheet[3]), [2, 1]);
+    let monitors = sheets.each_ref().map(|sheet| Monitor::new(sheet));
+    let mut random = Random::new(906);
+    for unknown in [0, 30, 100] {
+        let mut calls = vec![Call::Prepare];
+        calls.extend((0..20).map(|_| Call::Round(random.heard(4, unknown))));
+        calls.push(Call::Close);
+        let mut held = [Held::fresh(), Held::fresh()];
+        for made in calls {
+            for (i, held) in held.iter_mut().enumerate() {
+                assert_eq!(agree(&sheets[i], &monitors[i], held, made), 0);
+            }
+            assert!(held[0] == held[1], "{made:?}");
+        }
+    }
+    let [compared, written_out] = sheets.map(|sheet| evaluate(&mut Random::new(907), &sheet, 4096));
+    assert_eq!(compared, written_out);
 }

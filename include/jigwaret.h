@@ -79,7 +79,7 @@ static inline const char *jigwaret_text(uint32_t outcome)
     case JIGWARET_MARK:
         return "the sheet does not begin with SLR";
     case JIGWARET_VERSION:
-        return "the version is not 1";
+        return "the version is neither 1 nor 2";
     case JIGWARET_COUNTS:
         return "inputs, outputs or their sum are out of range";
     case JIGWARET_ASSUMPTION:

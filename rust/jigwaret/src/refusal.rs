@@ -41,7 +41,7 @@ macro_rules! refusals {
 refusals! {
     Short = 1, "the sheet has fewer than 8 bytes";
     Mark = 2, "the sheet does not begin with SLR";
-    Version = 3, "the version is not 1";
+    Version = 3, "the version is neither 1 nor 2";
     Counts = 4, "inputs, outputs or their sum are out of range";
     Assumption = 5, "the assumption is neither an output nor 255";
     Length = 6, "a length is missing, 0, over 64, or goes past the end";

@@ -14,7 +14,7 @@ pub fn evaluate(sheet: &[u8], letters: &[u8], out: &mut [u8]) -> Result<(), Refu
     Refusal::outcome(raw::evaluate(sheet, letters, out))
 }
 
-/// The bytes of a sheet that was accepted.
+/// The bytes of a sheet that was accepted, of version 1 or 2.
 #[derive(Clone, Debug, PartialEq, Eq)]
 pub struct Sheet {
     bytes: Vec<u8>,

@@ -137,8 +137,8 @@ pub fn version(bytes: &[u8]) -> u16 {
     u16::from_le_bytes([bytes[3], bytes[4]])
 }
 
-/// Rules 7 and 8 on one expression. The first byte that breaks either decides. In version 1 the byte 05 is unknown, whatever
-/// stands before it.
+/// Rules 7 and 8 on one expression. The first byte that breaks either decides. In version 1 the byte
+/// 05 is unknown, whatever stands before it.
 fn read_expression(bytes: &[u8], version: u16, streams: usize) -> Result<Expression, u32> {
     let mut stack: Vec<Expression> = Vec::new();
     for &byte in bytes {
@@ -199,7 +199,8 @@ pub fn byte_of_read(stream: usize, offset: i64, default: bool) -> u8 {
     family + stream as u8
 }
 
-/// The bytes of a sheet of version 1, made from its parts. Nothing is checked, so refused sheets can be made too.
+/// The bytes of a sheet of version 1, made from its parts. Nothing is checked, so refused sheets can be
+/// made too.
 pub fn write(inputs: u8, assumption: u8, expressions: &[Vec<u8>]) -> Vec<u8> {
     write_version(1, inputs, assumption, expressions)
 }

@@ -25,9 +25,10 @@ rule10 : (es : List (List ℕ)) (b : Bool) → circular? (outputs (sheetOf es)) 
 rule10 es true e = circular?-true (outputs (sheetOf es)) (edges (sheetOf es)) e
 rule10 es false e = λ c. false≢true (let t : circular? (outputs (sheetOf es)) (edges (sheetOf es)) ≡ true = circular?-of (outputs (sheetOf es)) (edges (sheetOf es)) c in cc)
 
--- In their order: outputs that read each other one round earlier and one round later (01, case e); an output that reads itself both
--- ways (01, case f); reads that logic makes irrelevant, of both operands of an equality too; closed walks of weights 2 and -3, with no simple one of weight 0; reads that lean
--- one way in one output and the other way in another, with no closed walk through both, twice; the last one with the walk closed.
+-- In their order: outputs that read each other one round earlier and one round later (01, case e); an output that reads itself both ways
+-- (01, case f); reads that logic makes irrelevant, of both operands of an equality too; closed walks of weights 2 and -3, with no simple
+-- one of weight 0; reads that lean one way in one output and the other way in another, with no closed walk through both, twice; the last
+-- one with the walk closed.
 pub examples :
     Rule10 ((0x52 ∷ []) ∷ ((0x61 ∷ []) ∷ [])) true
     × Rule10 ((0x51 ∷ (0x61 ∷ (0x03 ∷ []))) ∷ []) true

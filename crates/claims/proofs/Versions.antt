@@ -1,7 +1,7 @@
 -- The two versions of a sheet: version 1 has no equality, and what it reads version 2 reads the same.
 use mathlib.Core.Path.{_≡_, refl, subst}
 use mathlib.Core.Bool.{true≢false}
-use mathlib.Core.List.{List, _∷_}
+use mathlib.Core.List.{_∷_}
 use Prim.Native.Nat.{ℕ, _+_}
 use lib.ListN.{drop}
 use Rattle.sheet.specs.Expression.{newest}

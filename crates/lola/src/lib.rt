@@ -35,6 +35,7 @@ fn step_bit(env: u64, stack: u64, byte: u8) -> u64
             stack / 4 * 2 + 1
         };
     }
+    // 05: of the bytes that an expression may have below 40, no other is above 4.
     if 4 < byte {
         return stack / 4 * 2 + (stack % 2 + stack / 2 % 2 + 1) % 2;
     }

@@ -40,14 +40,14 @@ data Does (s : Grammar) (op : Op) (st : List Expr) : Type 0 where
   lacks : known s op ≡ true → length st < needs op → applyOp s op st ≡ Expression.breaks Values → Does s op st
   goes : known s op ≡ true → needs op ≤ length st → (st′ : List Expr) → applyOp s op st ≡ stack st′ → length st′ ≡ length st + 1 - needs op → Does s op st
 
-equals : (s : Grammar) (st : List Expr) (t : Bool) → hasEqual s ≡ t → Does s Equal st
+does-equal : (s : Grammar) (st : List Expr) (t : Bool) → hasEqual s ≡ t → Does s Equal st
 unfolding known needs applyOp
-equals s [] true e = lacks e (omega arith) (rw e)
-equals s (b ∷ []) true e = lacks e (omega arith) (rw e)
-equals s (b ∷ (a ∷ st)) true e = goes e (omega arith) (Expression.equality a b ∷ st) (rw e) (omega arith)
-equals s [] false e = unknown e (rw e)
-equals s (b ∷ []) false e = unknown e (rw e)
-equals s (b ∷ (a ∷ st)) false e = unknown e (rw e)
+does-equal s [] true e = lacks e (omega arith) (rw e)
+does-equal s (b ∷ []) true e = lacks e (omega arith) (rw e)
+does-equal s (b ∷ (a ∷ st)) true e = goes e (omega arith) (Expression.equality a b ∷ st) (rw e) (omega arith)
+does-equal s [] false e = unknown e (rw e)
+does-equal s (b ∷ []) false e = unknown e (rw e)
+does-equal s (b ∷ (a ∷ st)) false e = unknown e (rw e)
 
 does : (s : Grammar) (op : Op) (st : List Expr) → OnlyByte op → Does s op st
 unfolding known needs applyOp
@@ -60,7 +60,7 @@ does s And (b ∷ (a ∷ st)) ok = goes refl (omega arith) _ refl (omega arith)
 does s Or [] ok = lacks refl (omega arith) refl
 does s Or (b ∷ []) ok = lacks refl (omega arith) refl
 does s Or (b ∷ (a ∷ st)) ok = goes refl (omega arith) _ refl (omega arith)
-does s Equal st ok = equals s st (hasEqual s) refl
+does s Equal st ok = does-equal s st (hasEqual s) refl
 does s (Read q o v) st ok = go (ltb (q .0) (s .streams)) refl
   where
     go : (t : Bool) → ltb (q .0) (s .streams) ≡ t → Does s (Read q o v) st

@@ -6,7 +6,6 @@ use Prim.Native.Nat.{ℕ, zero, suc, _≤_, _<_}
 use native.Mathlib.Omega.{arith}
 use native.Mathlib.Numerals.{add-one}
 use native.Mathlib.Decide.{ℕ-discrete}
-use lib.Dec.{leb}
 use lib.ListN.{length, getD, List·getD-append, length-append}
 use lib.Seq.{getD-at}
 use borrow.Author.Tests.{leb-true}

@@ -5,6 +5,10 @@
  * The functions keep no state of their own: what a journal needs lies in the storage and the
  * record that the caller lends, and must not overlap with anything else that is handed over.
  *
+ * A round is a set of letters. A letter is the inputs of a round as a number, bit i being input i; bit j
+ * of a set says that letter j may have been the one. jigwaret_letters makes sets from masks, and `|`
+ * joins them: where two inputs are known to be alike, the set has the letters 0 and 3, and is 9.
+ *
  * A journal begins with jigwaret_prepare. Each later call of it must be handed the same sheet as
  * that preparation, and the storage and the record as the call before left them. No call
  * finds out whether they are: with another sheet, or with storage that was never prepared, it works
@@ -65,6 +69,7 @@ enum jigwaret_outcome {
     JIGWARET_EXTENT = 16,
     JIGWARET_LINE = 17,  /* only the journal program gives it */
     JIGWARET_RECORD = 18,
+    JIGWARET_ROUND_SET = 21,
     JIGWARET_WRONG_SIZES = 255
 };
 
@@ -110,6 +115,8 @@ static inline const char *jigwaret_text(uint32_t outcome)
         return "a line of the program's input is malformed";
     case JIGWARET_RECORD:
         return "the record is not one of a journal";
+    case JIGWARET_ROUND_SET:
+        return "a round's set of letters is empty or has a letter beyond the inputs";
     case JIGWARET_WRONG_SIZES:
         return "the record or the answer has the wrong number of elements";
     default:
@@ -133,13 +140,16 @@ uint32_t jigwaret_prepare(const uint8_t *sheet, size_t sheet_len,
                           uint32_t *record, size_t record_len,
                           uint32_t *answer, size_t answer_len);
 
-/* Takes a round of the journal that was prepared with this sheet in this storage and record: bit i of
- * `known` says that input i was heard, bit i of `value` what was heard. answer[k] is the verdict on
- * output k. */
+/* Writes the set of the letters that agree with the masks, for a sheet with so many inputs, 1 to 6: bit
+ * i of `known` says that input i was heard, bit i of `value` what was heard. */
+uint32_t jigwaret_letters(uint8_t inputs, uint8_t known, uint8_t value, uint64_t *letters);
+
+/* Takes a round of the journal that was prepared with this sheet in this storage and record. `letters`
+ * has one letter at least, and none beyond the sheet's inputs. answer[k] is the verdict on output k. */
 uint32_t jigwaret_round(const uint8_t *sheet, size_t sheet_len,
                         uint64_t *storage, size_t storage_len,
                         uint32_t *record, size_t record_len,
-                        uint8_t known, uint8_t value,
+                        uint64_t letters,
                         uint32_t *answer, size_t answer_len);
 
 /* Closes the journal that was prepared with this sheet in this storage and record. With n outputs,

@@ -28,16 +28,25 @@ static void print_verdicts(void)
     putchar('\n');
 }
 
-static uint32_t hear(const char *line)
+/* The set of the letters that a line stands for. */
+static uint32_t read_line(const char *line, uint64_t *letters)
 {
     uint8_t known = 0, value = 0;
     for (int i = 0; i < INPUTS; i++) {
         known |= (uint8_t)((line[i] != '?') << i);
         value |= (uint8_t)((line[i] == '1') << i);
     }
-    uint32_t refusal = jigwaret_round(sheet, sizeof sheet, storage, JIGWARET_STORAGE_WORDS, record,
-                                      JIGWARET_RECORD_NUMBERS, known, value, answer,
-                                      JIGWARET_ANSWER_NUMBERS);
+    return jigwaret_letters(INPUTS, known, value, letters);
+}
+
+static uint32_t hear(const char *line)
+{
+    uint64_t letters;
+    uint32_t refusal = read_line(line, &letters);
+    if (refusal != JIGWARET_ACCEPTED)
+        return refusal;
+    refusal = jigwaret_round(sheet, sizeof sheet, storage, JIGWARET_STORAGE_WORDS, record,
+                             JIGWARET_RECORD_NUMBERS, letters, answer, JIGWARET_ANSWER_NUMBERS);
     if (refusal == JIGWARET_ACCEPTED)
         print_verdicts();
     return refusal;

@@ -1,16 +1,16 @@
--- The checks of preparation, rounds and closing, in their order (01, "What is turned down"): the sheet's own first.
+-- The checks of preparation, rounds and closing, in their order (01, "What is turned down"; 02, W4): the sheet's own first.
 -- Manual: "Refusals".
 use mathlib.Core.Path.{_≡_}
 use mathlib.Core.Bool.{true, false}
 use mathlib.Core.List.{List, [], _∷_, _++_}
 use Prim.Native.Nat.{ℕ, _<_, _≤_}
 use Rattle.outcomes.specs.Decided.{Check, check}
-use Rattle.outcomes.specs.declared.Refusal.the-variants.{Letter, Closed, Full, NoRound, Storage, Record}
+use Rattle.outcomes.specs.declared.Refusal.the-variants.{Closed, Full, NoRound, Storage, Record, RoundSet}
 use Rattle.sheet.specs.ReadingChecks.{inputsOf, outputsOf}
 use Rattle.circular.specs.SheetChecks.{sheetChecks}
 use Rattle.record.specs.Record.{maxRounds, recordOk}
 use Rattle.record.specs.declared.JournalRecord.{JournalRecord}
-use Rattle.letters.specs.Masks.{badMasks}
+use Rattle.letters.specs.Sets.{badSet}
 use Rattle.pairs.specs.Storage.{storageWords}
 
 -- fewer numbers are lent than the three sets take
@@ -25,15 +25,15 @@ journalRules n lent r =
     ∷ (check Closed (r .closed ≡ true)
     ∷ []))
 
--- behind those 11 and 13 for a round, m being the number of inputs
-abbrev pub heardRules : ℕ → JournalRecord → ℕ → ℕ → List Check
-heardRules m r known val =
-    check Letter (badMasks m known val ≡ true)
+-- behind those 21 and 13 for a round, m being the number of inputs
+abbrev pub heardRules : ℕ → JournalRecord → ℕ → List Check
+heardRules m r letters =
+    check RoundSet (badSet m letters ≡ true)
     ∷ (check Full (maxRounds ≤ r .rounds)
     ∷ [])
 
-abbrev pub roundRules : ℕ → ℕ → ℕ → JournalRecord → ℕ → ℕ → List Check
-roundRules m n lent r known val = journalRules n lent r ++ heardRules m r known val
+abbrev pub roundRules : ℕ → ℕ → ℕ → JournalRecord → ℕ → List Check
+roundRules m n lent r letters = journalRules n lent r ++ heardRules m r letters
 
 -- and 14 for a closing
 abbrev pub endRules : JournalRecord → List Check
@@ -46,8 +46,8 @@ closingRules n lent r = journalRules n lent r ++ endRules r
 abbrev pub prepareChecks : List ℕ → ℕ → List Check
 prepareChecks bs lent = sheetChecks bs ++ (tooShort lent ∷ [])
 
-abbrev pub roundChecks : List ℕ → ℕ → JournalRecord → ℕ → ℕ → List Check
-roundChecks bs lent r known val = sheetChecks bs ++ roundRules (inputsOf bs) (outputsOf bs) lent r known val
+abbrev pub roundChecks : List ℕ → ℕ → JournalRecord → ℕ → List Check
+roundChecks bs lent r letters = sheetChecks bs ++ roundRules (inputsOf bs) (outputsOf bs) lent r letters
 
 abbrev pub closingChecks : List ℕ → ℕ → JournalRecord → List Check
 closingChecks bs lent r = sheetChecks bs ++ closingRules (outputsOf bs) lent r

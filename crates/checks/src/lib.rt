@@ -23,13 +23,13 @@ fn check_journal(n: u8, lent: usize, r: JournalRecord) -> Outcome
     Outcome::Accepted
 }
 
-// Rules 11 and 13, for m inputs.
-fn check_heard(m: u8, r: JournalRecord, known: u8, value: u8) -> Outcome
+// Rules 21 and 13, for m inputs.
+fn check_heard(m: u8, r: JournalRecord, letters: u64) -> Outcome
     requires { ⌜ m ≤ 6 ⌝ }
-    ensures { λ x. ⌜ Decided (heardRules m r known value) x ⌝ }
+    ensures { λ x. ⌜ Decided (heardRules m r letters) x ⌝ }
 {
-    if letters::bad_masks(m, known, value) {
-        return Outcome::Refused(Refusal::Letter);
+    if letters::bad_set(m, letters) {
+        return Outcome::Refused(Refusal::RoundSet);
     }
     if JournalRecord::MAX_ROUNDS <= r.rounds {
         return Outcome::Refused(Refusal::Full);
@@ -47,15 +47,15 @@ fn check_end(r: JournalRecord) -> Outcome
     Outcome::Accepted
 }
 
-// A round: 15, 18, 12, 11, 13.
-pub fn check_round(m: u8, n: u8, lent: usize, r: JournalRecord, known: u8, value: u8) -> Outcome
+// A round: 15, 18, 12, 21, 13.
+pub fn check_round(m: u8, n: u8, lent: usize, r: JournalRecord, letters: u64) -> Outcome
     requires { ⌜ (m ≤ 6) × (n ≤ 7) ⌝ }
-    ensures { λ x. ⌜ Decided (roundRules m n lent r known value) x ⌝ }
+    ensures { λ x. ⌜ Decided (roundRules m n lent r letters) x ⌝ }
 {
     let outcome = check_journal(n, lent, r);
     match outcome {
         Outcome::Refused(e) => Outcome::Refused(e),
-        Outcome::Accepted => check_heard(m, r, known, value),
+        Outcome::Accepted => check_heard(m, r, letters),
     }
 }
 

@@ -14,7 +14,7 @@ use Rattle.sheet.specs.RuleSheet.{RuleSheet, outputs, streams}
 use Rattle.lola.specs.Equations.{output}
 use Rattle.record.specs.Record.{share}
 use Rattle.completions.specs.Live.{Pairs, Live}
-use Rattle.completions.specs.Completion.{LetterSet, masked, Completion, Closing}
+use Rattle.completions.specs.Completion.{LetterSet, members, Completion, Closing}
 use Rattle.completions.specs.Judged.{inRound, RoundVerdict, ClosingVerdict}
 use Rattle.completions.specs.Steps.{Represents, pairsVerdict, endsVerdict}
 use Rattle.completions.proofs.Runs.{Round, Reached}
@@ -118,8 +118,8 @@ module _ (x : RuleSheet) (b : Book) where
   step-unique (refuse p) (accept q each) = absurd (nothing (sym q ∙ p))
   step-unique (refuse p) (close q each shares) = absurd (nothing (sym q ∙ p))
   step-unique (accept p each) (refuse q) = absurd (nothing (sym p ∙ q))
-  step-unique (accept {known = m} {val = v} {vs = us} p each) (accept {vs = ws} q each′) =
-      let rs : List LetterSet = b .rounds ++ masked m v ∷ [] in
+  step-unique (accept {letters = letters} {vs = us} p each) (accept {vs = ws} q each′) =
+      let rs : List LetterSet = b .rounds ++ members letters ∷ [] in
       let e : us ≡ ws = each-unique (outputs x) (RoundVerdict x rs) (round-unique rs) us ws each each′ in
       (ap verdicts e, λ i. record { rounds = rs; told = e i ∷ b .told; shut = b .shut })
   step-unique (close p each shares) (refuse q) = absurd (nothing (sym p ∙ q))

@@ -18,7 +18,7 @@ use Rattle.circular.proofs.Decide.{circular?, circular?-true, circular?-of}
 use Rattle.trace.specs.EvaluationChecks.{letterChecks, runChecks}
 use Rattle.record.specs.Record.{recordOk}
 use Rattle.record.specs.declared.JournalRecord.{JournalRecord}
-use Rattle.letters.specs.Masks.{badMasks}
+use Rattle.letters.specs.Sets.{badSet, maskChecks, Makes}
 use Rattle.checks.specs.JournalChecks.{tooShort, journalRules, heardRules, endRules, roundRules, closingRules}
 use Rattle.monitor.specs.Entries.{Prepares, Rounds, Closes}
 use Rattle.claims.specs.Demands.{OneOutcome, FirstDemand}
@@ -93,9 +93,9 @@ run-tested m ls room = (either (ℕ-discrete (length ls) 0) (either (decLt 4096 
 journal-tested : (n lent : ℕ) (r : JournalRecord) → Decidable (journalRules n lent r)
 journal-tested n lent r = (decLt lent _, (is (recordOk n r) false, (is (r .closed) true, tt)))
 
-round-tested : (m n lent : ℕ) (r : JournalRecord) (known val : ℕ) → Decidable (roundRules m n lent r known val)
-round-tested m n lent r known val =
-    decidable-both (journalRules n lent r) (heardRules m r known val) (journal-tested n lent r) (is (badMasks m known val) true, (at-least _ (r .rounds), tt))
+round-tested : (m n lent : ℕ) (r : JournalRecord) (letters : ℕ) → Decidable (roundRules m n lent r letters)
+round-tested m n lent r letters =
+    decidable-both (journalRules n lent r) (heardRules m r letters) (journal-tested n lent r) (is (badSet m letters) true, (at-least _ (r .rounds), tt))
 
 closing-tested : (n lent : ℕ) (r : JournalRecord) → Decidable (closingRules n lent r)
 closing-tested n lent r = decidable-both (journalRules n lent r) (endRules r) (journal-tested n lent r) (ℕ-discrete (r .rounds) 0, tt)
@@ -109,8 +109,10 @@ first-demand = record {
   evaluation-refused = λ bs ls old new e z. z .result;
   preparation = λ bs s. settled _ (decidable-both (sheetChecks bs) (tooShort (length s) ∷ []) (sheet-tested bs) (decLt (length s) _, tt));
   preparation-refused = λ bs s t a e z o. (subst (Prepares bs s t a) o (z .result)) .0;
-  round = λ bs s r known val. settled _ (decidable-both (sheetChecks bs) _ (sheet-tested bs) (round-tested (inputsOf bs) (outputsOf bs) (length s) r known val));
-  round-refused = λ bs s t r known val a e z o. let y = subst (Rounds bs s t r known val a) o (z .result) in (y .0, y .1);
+  letters = λ m known val. settled (maskChecks m known val) (is _ true, (is _ true, tt));
+  letters-refused = λ m known val a e z o. subst (Makes m known val (a .letters)) o (z .result);
+  round = λ bs s r letters. settled _ (decidable-both (sheetChecks bs) _ (sheet-tested bs) (round-tested (inputsOf bs) (outputsOf bs) (length s) r letters));
+  round-refused = λ bs s t r letters a e z o. let y = subst (Rounds bs s t r letters a) o (z .result) in (y .0, y .1);
   closing = λ bs s r. settled _ (decidable-both (sheetChecks bs) _ (sheet-tested bs) (closing-tested (outputsOf bs) (length s) r));
   closing-refused = λ bs s r a e z o. (subst (Closes bs s r a) o (z .result)) .0;
 }

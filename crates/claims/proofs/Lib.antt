@@ -10,3 +10,4 @@ pub mod Forgotten
 pub mod Longest
 pub mod Versions
 pub mod Share
+pub mod Masked

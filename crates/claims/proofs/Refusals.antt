@@ -10,7 +10,7 @@ use lib.Dec.{eqb, leb}
 use borrow.Author.Tests.{leb-true, leb-false, eqb-true, eq-eqb}
 use Rattle.outcomes.specs.Decided.{check, Decided}
 use Rattle.outcomes.specs.declared.Refusal.{Refusal}
-use Rattle.outcomes.specs.declared.Refusal.the-variants.{Letter, Closed, Full, NoRound}
+use Rattle.outcomes.specs.declared.Refusal.the-variants.{Closed, Full, NoRound, RoundSet}
 use Rattle.outcomes.specs.declared.Outcome.{Outcome}
 use Rattle.outcomes.specs.declared.Outcome.the-variants.{Accepted, Refused}
 use Rattle.outcomes.proofs.Decisions.{decided-accepted}
@@ -20,7 +20,7 @@ use Rattle.sheet.proofs.Formed.{counts-of}
 use Rattle.circular.specs.SheetChecks.{sheetChecks}
 use Rattle.record.specs.Record.{maxRounds, recordOk}
 use Rattle.record.specs.declared.JournalRecord.{JournalRecord}
-use Rattle.letters.specs.Masks.{badMasks}
+use Rattle.letters.specs.Sets.{badSet}
 use Rattle.pairs.specs.Storage.{storageWords}
 use Rattle.checks.specs.JournalChecks.{heardRules, endRules, roundRules, closingRules, roundChecks, closingChecks}
 use Rattle.claims.specs.Book.{round, closing, refusal}
@@ -41,29 +41,29 @@ module _ (bs : List ℕ) (x : RuleSheet) (ok : SheetOk bs x) (lent : ℕ) (r : J
   wrong : recordOk (outputsOf bs) r ≡ false → ⊥
   wrong b = true≢false (sym right ∙ ap (λ (n : ℕ). recordOk n r) (counts-of bs x (ok .reads) .1) ∙ b)
 
-  module _ (known val : ℕ) where
-    masks-same : badMasks (x .inputs) known val ≡ badMasks (inputsOf bs) known val
-    masks-same = ap (λ (m : ℕ). badMasks m known val) (counts-of bs x (ok .reads) .0)
+  module _ (letters : ℕ) where
+    sets-same : badSet (x .inputs) letters ≡ badSet (inputsOf bs) letters
+    sets-same = ap (λ (m : ℕ). badSet m letters) (counts-of bs x (ok .reads) .0)
 
     many : (b : Bool) → leb maxRounds (r .rounds) ≡ b → Decided (check Full (maxRounds ≤ r .rounds) ∷ []) (outcomeBy (cond b (some Full) none))
     many true e = inl (leb-true maxRounds (r .rounds) e, refl)
     many false e = inr ((λ b. let z = leb-false maxRounds (r .rounds) e in omega arith), refl)
 
-    bad : (b : Bool) → badMasks (x .inputs) known val ≡ b
-        → Decided (heardRules (inputsOf bs) r known val) (outcomeBy (cond b (some Letter) (cond (leb maxRounds (r .rounds)) (some Full) none)))
-    bad true e = inl (sym masks-same ∙ e, refl)
-    bad false e = inr ((λ b. false≢true (sym e ∙ masks-same ∙ b)), many (leb maxRounds (r .rounds)) refl)
+    bad : (b : Bool) → badSet (x .inputs) letters ≡ b
+        → Decided (heardRules (inputsOf bs) r letters) (outcomeBy (cond b (some RoundSet) (cond (leb maxRounds (r .rounds)) (some Full) none)))
+    bad true e = inl (sym sets-same ∙ e, refl)
+    bad false e = inr ((λ b. false≢true (sym e ∙ sets-same ∙ b)), many (leb maxRounds (r .rounds)) refl)
 
     shut : (b : Bool) → r .closed ≡ b
-        → Decided (check Closed (r .closed ≡ true) ∷ heardRules (inputsOf bs) r known val)
-        (outcomeBy (cond b (some Closed) (cond (badMasks (x .inputs) known val) (some Letter) (cond (leb maxRounds (r .rounds)) (some Full) none))))
+        → Decided (check Closed (r .closed ≡ true) ∷ heardRules (inputsOf bs) r letters)
+        (outcomeBy (cond b (some Closed) (cond (badSet (x .inputs) letters) (some RoundSet) (cond (leb maxRounds (r .rounds)) (some Full) none))))
     shut true e = inl (e, refl)
-    shut false e = inr ((λ b. false≢true (sym e ∙ b)), bad (badMasks (x .inputs) known val) refl)
+    shut false e = inr ((λ b. false≢true (sym e ∙ b)), bad (badSet (x .inputs) letters) refl)
 
-    pub round-decided : Decided (roundChecks bs lent r known val) (outcomeBy (refusal x (r .rounds) (r .closed) (round known val)))
+    pub round-decided : Decided (roundChecks bs lent r letters) (outcomeBy (refusal x (r .rounds) (r .closed) (round letters)))
     unfolding refusal
     round-decided =
-        decided-accepted (sheetChecks bs) (roundRules (inputsOf bs) (outputsOf bs) lent r known val) _ (ok .holds)
+        decided-accepted (sheetChecks bs) (roundRules (inputsOf bs) (outputsOf bs) lent r letters) _ (ok .holds)
         (inr (short, inr (wrong, shut (r .closed) refl)))
 
   none-yet : (b : Bool) → eqb (r .rounds) 0 ≡ b → Decided (endRules r) (outcomeBy (cond b (some NoRound) none))
@@ -89,11 +89,11 @@ by-refused none r e = absurd (true≢false cc)
 by-refused (some q) r e = cc
 
 -- a round that the book accepts finds room
-pub rounds-left : (x : RuleSheet) (t : ℕ) (shut : Bool) (known val : ℕ) → refusal x t shut (round known val) ≡ none → t < maxRounds
+pub rounds-left : (x : RuleSheet) (t : ℕ) (shut : Bool) (letters : ℕ) → refusal x t shut (round letters) ≡ none → t < maxRounds
 unfolding refusal
-rounds-left x t shut known val e = go shut (badMasks (x .inputs) known val) (leb maxRounds t) refl e
+rounds-left x t shut letters e = go shut (badSet (x .inputs) letters) (leb maxRounds t) refl e
   where
-    go : (a b c : Bool) → leb maxRounds t ≡ c → cond a (some Closed) (cond b (some Letter) (cond c (some Full) none)) ≡ none → t < maxRounds
+    go : (a b c : Bool) → leb maxRounds t ≡ c → cond a (some Closed) (cond b (some RoundSet) (cond c (some Full) none)) ≡ none → t < maxRounds
     go true b c f e = absurd (true≢false cc)
     go false true c f e = absurd (true≢false cc)
     go false false true f e = absurd (true≢false cc)

@@ -12,7 +12,7 @@ use Rattle.words.specs.Bits.{bit}
 use Rattle.words.proofs.BitLaws.{bit-none}
 use Rattle.sheet.specs.RuleSheet.{RuleSheet}
 use Rattle.completions.specs.Live.{Pairs}
-use Rattle.completions.specs.Completion.{LetterSet, masked}
+use Rattle.completions.specs.Completion.{LetterSet, members}
 use Rattle.completions.specs.Steps.{Within, partBelow}
 use Rattle.pairs.specs.Storage.{wordOf, slot, stored, setWords, reachedAt, scratchAt, storageWords, live, reached, scratch, used}
 use Rattle.pairs.proofs.Sets.{word-lt, unused}
@@ -78,14 +78,14 @@ kept-tidy x h k e y = record { within = rw e (y .within); cleared = rw e (y .cle
 
 module _ (bs : List ℕ) (x : RuleSheet) (ok : SheetOk bs x) where
   call-tidy : (h k : Held) (c : Call) (a : Answer) → SessionStep bs h c a k → Tidy x h → Tidy x k
-  call-tidy h k c a (a-round {known = known} {val = val} {t = t} z d) y = go (z .outcome) (d .result)
+  call-tidy h k c a (a-round {letters = letters} {t = t} z d) y = go (z .outcome) (d .result)
     where
       after : Held
       after = held t (z .record)
 
-      go : (o : Outcome) → Rounds bs (h .storage) t (h .record) known val z o → Tidy x after
+      go : (o : Outcome) → Rounds bs (h .storage) t (h .record) letters z o → Tidy x after
       go Accepted e =
-          round-tidy x h after (masked known val) z (subst (λ (q : RuleSheet). RoundDone q (h .storage) t (h .record) (masked known val) z) (same-sheet bs x ok (e .0) (e .1)) (e .2)) y
+          round-tidy x h after (members letters) z (subst (λ (q : RuleSheet). RoundDone q (h .storage) t (h .record) (members letters) z) (same-sheet bs x ok (e .0) (e .1)) (e .2)) y
       go (Refused q) e = kept-tidy x h after (e .0) y
   call-tidy h k c a (a-closing z d) y = kept-tidy x h k refl y
 

@@ -29,7 +29,7 @@ use Rattle.record.specs.Record.{maxRounds, Fresh, countAt, sumAt, addUp, record
 use Rattle.record.specs.declared.JournalRecord.{JournalRecord}
 use Rattle.record.proofs.Tallies.{record-is, record-more}
 use Rattle.completions.specs.Live.{Pairs, Live}
-use Rattle.completions.specs.Completion.{LetterSet, masked}
+use Rattle.completions.specs.Completion.{LetterSet, members}
 use Rattle.completions.specs.Judged.{RoundVerdict, ClosingVerdict}
 use Rattle.completions.specs.Steps.{Within, Represents, pairsVerdict, endsVerdict}
 use Rattle.completions.proofs.Runs.{Round}
@@ -139,12 +139,12 @@ module _ (bs : List ℕ) (x : RuleSheet) (ok : SheetOk bs x) where
     L = live (h .storage)
 
     -- an accepted round
-    round-done : (known val : ℕ) (t : List ℕ) (a : RoundAnswer) → refusal x (length (b .rounds)) (b .shut) (round known val) ≡ none
-        → RoundDone x (h .storage) t r (masked known val) a
-        → Follows b (round known val) (verdicts (verdictList (a .verdicts) (outputsOf bs))) (held t (a .record))
+    round-done : (letters : ℕ) (t : List ℕ) (a : RoundAnswer) → refusal x (length (b .rounds)) (b .shut) (round letters) ≡ none
+        → RoundDone x (h .storage) t r (members letters) a
+        → Follows b (round letters) (verdicts (verdictList (a .verdicts) (outputsOf bs))) (held t (a .record))
     unfolding counted
-    round-done known val t a q d =
-        let m : LetterSet = masked known val in
+    round-done letters t a q d =
+        let m : LetterSet = members letters in
         let S : Pairs = nextSet x L (r .rounds) (reached (h .storage)) (onLetter x m) in
         let reach : Reaches x L (tr .lives) (onLetters x (b .rounds ++ m ∷ [])) S =
         rw (map-snoc (onLetter x) (b .rounds) m)
@@ -155,7 +155,7 @@ module _ (bs : List ℕ) (x : RuleSheet) (ok : SheetOk bs x) where
         let kept : (a : ℕ) (c : Option ℕ) → a < w → Within w c → live t a c ≡ L a c =
         λ a c ha hc. stored-eq (h .storage) t liveAt liveAt a c (omega (arith, w-small)) (wider w 256 w-small c hc) (λ k l. d .same-live (0 + k) (omega arith)) in
         let lives′ : Represents w (live t) (Live x) = represents-as w L (live t) (Live x) kept (tr .lives) in
-        let few : r .rounds < maxRounds = omega (arith, rounds-left x (length (b .rounds)) (b .shut) known val q, tr .matches .rounds) in
+        let few : r .rounds < maxRounds = omega (arith, rounds-left x (length (b .rounds)) (b .shut) letters q, tr .matches .rounds) in
         record {
           book = record { rounds = b .rounds ++ m ∷ []; told = verdictList (a .verdicts) (outputsOf bs) ∷ b .told; shut = b .shut };
           step = accept q
@@ -217,21 +217,21 @@ module _ (bs : List ℕ) (x : RuleSheet) (ok : SheetOk bs x) where
     asked : (c : Call) → ask c ≡ refusal x (length (b .rounds)) (b .shut) c
     asked c = ap₂ (λ (t : ℕ) (s : Bool). refusal x t s c) (tr .matches .rounds) (tr .matches .shut)
 
-    round-call : (known val : ℕ) (t : List ℕ) (a : RoundAnswer) → RoundCall bs (h .storage) t r known val a
-        → Follows b (round known val) (roundSays (outputsOf bs) a (a .outcome)) (held t (a .record))
-    round-call known val t a z =
+    round-call : (letters : ℕ) (t : List ℕ) (a : RoundAnswer) → RoundCall bs (h .storage) t r letters a
+        → Follows b (round letters) (roundSays (outputsOf bs) a (a .outcome)) (held t (a .record))
+    round-call letters t a z =
         go (a .outcome) (z .result)
-        (decided-once (roundChecks bs (length (h .storage)) r known val) (a .outcome) (outcomeBy (ask (round known val))) (z .decided)
-        (round-decided bs x ok (length (h .storage)) r (tr .lent) (tr .right) known val))
+        (decided-once (roundChecks bs (length (h .storage)) r letters) (a .outcome) (outcomeBy (ask (round letters))) (z .decided)
+        (round-decided bs x ok (length (h .storage)) r (tr .lent) (tr .right) letters))
       where
-        go : (o : Outcome) → Rounds bs (h .storage) t r known val a o → o ≡ outcomeBy (ask (round known val))
-            → Follows b (round known val) (roundSays (outputsOf bs) a o) (held t (a .record))
+        go : (o : Outcome) → Rounds bs (h .storage) t r letters a o → o ≡ outcomeBy (ask (round letters))
+            → Follows b (round letters) (roundSays (outputsOf bs) a o) (held t (a .record))
         go Accepted z e =
-            round-done known val t a (sym (asked (round known val)) ∙ by-accepted (ask (round known val)) e)
-            (subst (λ (y : RuleSheet). RoundDone y (h .storage) t r (masked known val) a) (same-sheet (z .0) (z .1)) (z .2))
+            round-done letters t a (sym (asked (round letters)) ∙ by-accepted (ask (round letters)) e)
+            (subst (λ (y : RuleSheet). RoundDone y (h .storage) t r (members letters) a) (same-sheet (z .0) (z .1)) (z .2))
         go (Refused q) z e =
-            refused-call (round known val) q (held t (a .record)) (λ i. held (z .0 i) (z .1 i))
-            (sym (asked (round known val)) ∙ by-refused (ask (round known val)) q e)
+            refused-call (round letters) q (held t (a .record)) (λ i. held (z .0 i) (z .1 i))
+            (sym (asked (round letters)) ∙ by-refused (ask (round letters)) q e)
 
     closing-call : (a : ClosingAnswer) → CloseCall bs (h .storage) r a
         → Follows b closing (closingSays (outputsOf bs) a (a .outcome)) (held (h .storage) (a .record))
@@ -251,7 +251,7 @@ module _ (bs : List ℕ) (x : RuleSheet) (ok : SheetOk bs x) where
 
   -- one call, and every list of them
   pub one-call : (b : Book) (h k : Held) (c : Call) (a : Answer) → Tracks b h → SessionStep bs h c a k → Follows b c a k
-  one-call b h k c a tr (a-round {known = known} {val = val} {t = t} z d) = round-call b h tr known val t z d
+  one-call b h k c a tr (a-round {letters = letters} {t = t} z d) = round-call b h tr letters t z d
   one-call b h k c a tr (a-closing z d) = closing-call b h tr z d
 
   pub all-calls : (b : Book) (h k : Held) (cs : List Call) (as′ : List Answer) → Tracks b h → Session bs h cs as′ k → Runs b cs as′ k

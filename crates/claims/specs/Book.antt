@@ -1,4 +1,4 @@
--- The book (01, "Completions and verdicts", the book of the third demand): what each call of a journal is answered, said by completions
+-- The book (01, "Completions and verdicts", the book of the third demand; 02, W4): what each call of a journal is answered, said by completions
 -- alone. It is fed the sheet and the calls, and nothing else.
 -- Manual: "Completions and verdicts".
 use mathlib.Core.Bool.{Bool, true, false, cond}
@@ -9,19 +9,19 @@ use Prim.Native.Nat.{ℕ, _+_}
 use lib.Dec.{eqb, leb}
 use lib.ListN.{length, getElem?}
 use Rattle.outcomes.specs.declared.Refusal.{Refusal}
-use Rattle.outcomes.specs.declared.Refusal.the-variants.{Letter, Closed, Full, NoRound}
+use Rattle.outcomes.specs.declared.Refusal.the-variants.{Closed, Full, NoRound, RoundSet}
 use Rattle.outcomes.specs.declared.Verdict.{Verdict}
 use Rattle.outcomes.specs.declared.Verdict.the-variants.{True}
 use Rattle.words.specs.Below.{one}
 use Rattle.sheet.specs.RuleSheet.{RuleSheet, outputs}
 use Rattle.record.specs.Record.{maxRounds, share, sameVerdict}
-use Rattle.completions.specs.Completion.{LetterSet, masked}
+use Rattle.completions.specs.Completion.{LetterSet, members}
 use Rattle.completions.specs.Judged.{RoundVerdict, ClosingVerdict}
-use Rattle.letters.specs.Masks.{badMasks}
+use Rattle.letters.specs.Sets.{badSet}
 
--- a round with its known mask and its value mask, or a closing
+-- a round with its set of letters, as a number, or a closing
 pub data Call : Type 0 where
-  round : ℕ → ℕ → Call
+  round : ℕ → Call
   closing : Call
 
 -- a refusal, each output's verdict, or on closing also each output's share
@@ -51,7 +51,7 @@ counted (vs ∷ told) k v = one (isAt (getElem? vs k) v) + counted told k v
 
 -- what a call is refused with, or none, when the list has t rounds
 unfoldable pub refusal : RuleSheet → ℕ → Bool → Call → Option Refusal
-refusal x t shut (round known val) = cond shut (some Closed) (cond (badMasks (x .inputs) known val) (some Letter) (cond (leb maxRounds t) (some Full) none))
+refusal x t shut (round letters) = cond shut (some Closed) (cond (badSet (x .inputs) letters) (some RoundSet) (cond (leb maxRounds t) (some Full) none))
 refusal x t shut closing = cond shut (some Closed) (cond (eqb t 0) (some NoRound) none)
 
 -- a list with one entry for each of n outputs, of which R holds
@@ -62,9 +62,9 @@ pub record Each {A : Type 0} (n : ℕ) (R : ℕ → A → Type 0) (xs : List A) 
 -- the book before a call, the call, its answer, and the book after
 pub data BookStep (x : RuleSheet) (b : Book) : Call → Answer → Book → Type 0 where
   refuse : {c : Call} {r : Refusal} → refusal x (length (b .rounds)) (b .shut) c ≡ some r → BookStep x b c (refused r) b
-  accept : {known val : ℕ} {vs : List Verdict} → refusal x (length (b .rounds)) (b .shut) (round known val) ≡ none
-      → Each (outputs x) (RoundVerdict x (b .rounds ++ masked known val ∷ [])) vs
-      → BookStep x b (round known val) (verdicts vs) (record { rounds = b .rounds ++ masked known val ∷ []; told = vs ∷ b .told; shut = b .shut })
+  accept : {letters : ℕ} {vs : List Verdict} → refusal x (length (b .rounds)) (b .shut) (round letters) ≡ none
+      → Each (outputs x) (RoundVerdict x (b .rounds ++ members letters ∷ [])) vs
+      → BookStep x b (round letters) (verdicts vs) (record { rounds = b .rounds ++ members letters ∷ []; told = vs ∷ b .told; shut = b .shut })
   close : {vs : List Verdict} {xs : List ℕ} → refusal x (length (b .rounds)) (b .shut) closing ≡ none
       → Each (outputs x) (ClosingVerdict x (b .rounds)) vs
       → Each (outputs x) (λ k s. s ≡ share (counted (b .told) k True) (length (b .rounds))) xs

@@ -14,6 +14,8 @@ use Rattle.circular.specs.Unique.{TraceOf, OneTrace}
 use Rattle.trace.specs.EvaluationChecks.{evaluationChecks}
 use Rattle.trace.specs.Evaluated.{EvaluateCall}
 use Rattle.record.specs.declared.JournalRecord.{JournalRecord}
+use Rattle.letters.specs.Sets.{maskChecks, MasksCall}
+use Rattle.letters.specs.declared.LettersMade.{LettersMade}
 use Rattle.checks.specs.JournalChecks.{prepareChecks, roundChecks, closingChecks}
 use Rattle.effects.specs.declared.PrepareAnswer.{PrepareAnswer}
 use Rattle.effects.specs.declared.RoundAnswer.{RoundAnswer}
@@ -28,7 +30,7 @@ pub record OneOutcome (cs : List Check) : Type 0 where
   pub decided : Decided cs outcome
   pub only : (o : Outcome) → Decided cs o → o ≡ outcome
 
--- The first demand (01, "What is turned down"), for each entry on structs and all that it can be handed: one outcome is decided, no other, and with
+-- The first demand (01, "What is turned down"; 02, W4), for each entry on structs and all that it can be handed: one outcome is decided, no other, and with
 -- a refusal everything lent or handed in is what it was. What an accepted call gives is in the definitions of the calls.
 pub record FirstDemand : Type 0 where
   pub check : (bs : List ℕ) → OneOutcome (sheetChecks bs)
@@ -36,9 +38,11 @@ pub record FirstDemand : Type 0 where
   pub evaluation-refused : (bs ls old new : List ℕ) (e : Refusal) → EvaluateCall bs ls old new (Refused e) → new ≡ old
   pub preparation : (bs s : List ℕ) → OneOutcome (prepareChecks bs (length s))
   pub preparation-refused : (bs s t : List ℕ) (a : PrepareAnswer) (e : Refusal) → PrepareCall bs s t a → a .outcome ≡ Refused e → t ≡ s
-  pub round : (bs s : List ℕ) (r : JournalRecord) (known val : ℕ) → OneOutcome (roundChecks bs (length s) r known val)
-  pub round-refused : (bs s t : List ℕ) (r : JournalRecord) (known val : ℕ) (a : RoundAnswer) (e : Refusal)
-      → RoundCall bs s t r known val a → a .outcome ≡ Refused e → (t ≡ s) × (a .record ≡ r)
+  pub letters : (m known val : ℕ) → OneOutcome (maskChecks m known val)
+  pub letters-refused : (m known val : ℕ) (a : LettersMade) (e : Refusal) → MasksCall m known val a → a .outcome ≡ Refused e → a .letters ≡ 0
+  pub round : (bs s : List ℕ) (r : JournalRecord) (letters : ℕ) → OneOutcome (roundChecks bs (length s) r letters)
+  pub round-refused : (bs s t : List ℕ) (r : JournalRecord) (letters : ℕ) (a : RoundAnswer) (e : Refusal)
+      → RoundCall bs s t r letters a → a .outcome ≡ Refused e → (t ≡ s) × (a .record ≡ r)
   pub closing : (bs s : List ℕ) (r : JournalRecord) → OneOutcome (closingChecks bs (length s) r)
   pub closing-refused : (bs s : List ℕ) (r : JournalRecord) (a : ClosingAnswer) (e : Refusal)
       → CloseCall bs s r a → a .outcome ≡ Refused e → a .record ≡ r

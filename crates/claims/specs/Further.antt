@@ -1,8 +1,9 @@
--- Further sentences of 01, "The sheet", "Completions and verdicts" and "Tallies", and of 02, W1, as types.
+-- Further sentences of 01, "The sheet", "Completions and verdicts" and "Tallies", and of 02, W1 and W4, as types.
 -- Manual: "The sheet", "Completions and verdicts", "Preparation", "Tallies".
 use mathlib.Core.Path.{_≡_}
 use mathlib.Core.Bool.{false}
-use mathlib.Core.List.{List, [], _∷_, _++_}
+use mathlib.Core.List.{List, [], _∷_, _++_, map}
+use mathlib.Core.Logic.{_↔_}
 use mathlib.Core.Option.{Option}
 use Prim.Native.Nat.{ℕ, _+_, _≤_, _<_}
 use lib.ListN.{length, getD}
@@ -16,9 +17,11 @@ use Rattle.sheet.specs.RuleSheet.{RuleSheet, outputs, streams, accepted, readSh
 use Rattle.circular.specs.SheetChecks.{OfSheet}
 use Rattle.record.specs.Record.{maxRounds, sumAt}
 use Rattle.completions.specs.Live.{Pairs, Live, countPairs}
-use Rattle.completions.specs.Completion.{LetterSet, Completion}
+use Rattle.completions.specs.Completion.{LetterSet, members, masked, Completion}
 use Rattle.completions.specs.Judged.{RoundVerdict, ClosingVerdict}
 use Rattle.completions.specs.Steps.{Represents, Within, pairsWithin}
+use Rattle.letters.specs.Masks.{badMasks}
+use Rattle.letters.specs.Sets.{badSet, MaskSet}
 use Rattle.pairs.specs.Storage.{storageWords, live, reached, scratch}
 use Rattle.effects.specs.Results.{width, Prepared}
 use Rattle.effects.specs.declared.PrepareAnswer.{PrepareAnswer}
@@ -74,6 +77,20 @@ abbrev pub ShortCompletion : Type 0
 ShortCompletion =
     (x : RuleSheet) → streams x ≤ 8 → (L : Pairs) → Represents 256 L (Live x) → (r : LetterSet) (rs : List LetterSet) (ls : List ℕ) → Completion x (r ∷ rs) ls
     → (ms : List ℕ) × Completion x (r ∷ rs) ms × (length ms < length (r ∷ rs) + countPairs 256 L)
+
+-- rounds given by masks, and the sets made from these masks with m inputs
+pub data MadeFrom (m : ℕ) : List LetterSet → List ℕ → Type 0 where
+  empty : MadeFrom m [] []
+  more : {known val w : ℕ} {rs : List LetterSet} {ws : List ℕ} → MaskSet m known val w → MadeFrom m rs ws → MadeFrom m (masked known val ∷ rs) (w ∷ ws)
+
+-- masks stand for one set, which a round takes, and over such sets the verdicts are those over the masks (02, W4)
+pub record MaskedRounds : Type 0 where
+  pub only : (m known val w u : ℕ) → MaskSet m known val w → MaskSet m known val u → w ≡ u
+  pub taken : (m known val w : ℕ) → badMasks m known val ≡ false → MaskSet m known val w → badSet m w ≡ false
+  pub rounds : (x : RuleSheet) (rs : List LetterSet) (ws : List ℕ) → MadeFrom (x .inputs) rs ws
+      → (k : ℕ) (v : Verdict) → RoundVerdict x (map members ws) k v ↔ RoundVerdict x rs k v
+  pub closings : (x : RuleSheet) (rs : List LetterSet) (ws : List ℕ) → MadeFrom (x .inputs) rs ws
+      → (k : ℕ) (v : Verdict) → ClosingVerdict x (map members ws) k v ↔ ClosingVerdict x rs k v
 
 -- two storages hold the same pairs in each of the three sets
 pub record SameSets (t t′ : List ℕ) : Type 0 where

@@ -37,8 +37,8 @@ closingSays n a (Refused r) = refused r
 
 -- one call with the sheet bs: what is held before, the call, its answer, what is held after
 pub data SessionStep (bs : List ℕ) (h : Held) : Call → Answer → Held → Type 0 where
-  a-round : {known val : ℕ} {t : List ℕ} (a : RoundAnswer) → RoundCall bs (h .storage) t (h .record) known val a
-      → SessionStep bs h (round known val) (roundSays (outputsOf bs) a (a .outcome)) (held t (a .record))
+  a-round : {letters : ℕ} {t : List ℕ} (a : RoundAnswer) → RoundCall bs (h .storage) t (h .record) letters a
+      → SessionStep bs h (round letters) (roundSays (outputsOf bs) a (a .outcome)) (held t (a .record))
   a-closing : (a : ClosingAnswer) → CloseCall bs (h .storage) (h .record) a
       → SessionStep bs h closing (closingSays (outputsOf bs) a (a .outcome)) (held (h .storage) (a .record))
 

@@ -1,4 +1,4 @@
--- Completions (01, "Completions and verdicts"): lists of letters that match what was heard and keep the assumption to their end.
+-- Completions (01, "Completions and verdicts"; 02, W4): lists of letters that match what was heard and keep the assumption to their end.
 -- Manual: "Completions and verdicts".
 use mathlib.Core.Bool.{Bool}
 use mathlib.Core.Path.{_≡_}
@@ -8,6 +8,7 @@ use Prim.Native.Nat.{ℕ, _≤_}
 use lib.Bits.{bitAnd}
 use lib.Dec.{T, eqb}
 use lib.ListN.{length}
+use Rattle.words.specs.Bits.{bit}
 use Rattle.sheet.specs.RuleSheet.{RuleSheet}
 use Rattle.lola.specs.Equations.{Satisfies, Letters, letter}
 use Rattle.completions.specs.Live.{assumed}
@@ -15,6 +16,10 @@ use Rattle.completions.specs.Live.{assumed}
 -- what a round says of its letter: the letters that pass are the round's set
 abbrev pub LetterSet : Type 0
 LetterSet = ℕ → Bool
+
+-- a round given by a number: bit l says that letter l is in the set (02, W4)
+abbrev pub members : ℕ → LetterSet
+members w l = bit l w
 
 -- a round given by a known mask and a value mask: the letter has the value's bits where they are known
 unfoldable pub masked : ℕ → ℕ → LetterSet

@@ -1,12 +1,11 @@
 -- What a step, the verdicts and the tallies come to: a round and a closing as they are defined.
-use mathlib.Core.Path.{_≡_, sym, ap, ap₂, _∙_, subst, fun-ext}
+use mathlib.Core.Path.{_≡_, sym, ap, ap₂, _∙_, subst}
 use mathlib.Core.Bool.{Bool, true, false, cond}
 use mathlib.Core.List.{List}
 use mathlib.Core.Option.{Option}
 use Prim.Native.Nat.{ℕ, _+_, _%_, _^_, _<_, _≤_}
-use native.Mathlib.Nat.{mod-lt}
 use native.Mathlib.Omega.{arith}
-use lib.Pow.{pow-pos, pow-mono}
+use lib.Pow.{pow-mono}
 use Rattle.outcomes.specs.Numbers.{Verdicts}
 use Rattle.outcomes.specs.declared.Verdict.{Verdict}
 use Rattle.outcomes.specs.declared.Told.{Told}
@@ -15,11 +14,10 @@ use Rattle.sheet.specs.RuleSheet.{RuleSheet, outputs, streams}
 use Rattle.sheet.specs.Reading.{ruleSheet, Usable}
 use Rattle.sheet.specs.declared.Sheet.{Sheet}
 use Rattle.sheet.proofs.Sheets.{length-trees}
-use Rattle.lola.specs.Equations.{output, letter}
+use Rattle.lola.specs.Equations.{output}
 use Rattle.record.specs.Record.{Counted}
 use Rattle.record.specs.declared.JournalRecord.{JournalRecord}
 use Rattle.completions.specs.Live.{Pairs}
-use Rattle.completions.specs.Completion.{LetterSet}
 use Rattle.completions.specs.Steps.{Within, stepSet, pairsVerdict, endsVerdict, pairsWithin}
 use Rattle.completions.proofs.Range.{wider}
 use Rattle.pairs.specs.Storage.{used, live, reached, scratch}
@@ -104,24 +102,3 @@ module _ (x : Sheet) (u : Usable x) where
         closed = e₂;
         counts = e₃;
       }
-
--- ---- sets that have the same letters of the sheet
-
-heard-same : (x : RuleSheet) (h g : LetterSet) → ((l : ℕ) → l < 2 ^ x .inputs → h l ≡ g l) → heard x h ≡ heard x g
-heard-same x h g e = fun-ext (λ v. e (letter x v) (mod-lt v (pow-pos (x .inputs))))
-
-pub round-as : (x : RuleSheet) (s t : List ℕ) (r : JournalRecord) (h g : LetterSet) (a : RoundAnswer) → ((l : ℕ) → l < 2 ^ x .inputs → h l ≡ g l)
-    → RoundDone x s t r h a → RoundDone x s t r g a
-round-as x s t r h g a e d =
-    let R : (ℕ → Bool) → Pairs = nextSet x (live s) (r .rounds) (reached s) in
-    let q : R (heard x h) ≡ R (heard x g) = ap R (heard-same x h g e) in
-    record {
-      kept = d .kept;
-      same-live = d .same-live;
-      steps = λ b c hb hc. d .steps b c hb hc ∙ ap (λ (S : Pairs). cond (used (width x) b c) (pairsWithin (width x) S b c) (reached s b c)) q;
-      cleared = d .cleared;
-      verdicts = subst (λ (S : Pairs). Verdicts (outputs x) (λ k. pairsVerdict (width x) S (output x k)) (a .verdicts)) q (d .verdicts);
-      rounds = d .rounds;
-      closed = d .closed;
-      counts = d .counts;
-    }

@@ -7,6 +7,7 @@ ghost use lib.ListN.{length};
 ghost use Rattle.words.specs.Bits.{bit};
 ghost use Rattle.record.specs.Record.{maxRounds, recordOk};
 ghost use Rattle.sheet.specs.Reading.{ruleSheet, Usable};
+ghost use Rattle.completions.specs.Completion.{members};
 ghost use Rattle.pairs.specs.Storage.{storageWords, live, reached};
 ghost use Rattle.lanes.specs.Coded.{Coded, sheetOf};
 ghost use Rattle.rounds.specs.Rows.{among};
@@ -89,7 +90,7 @@ fn step<'a>(
 // The step, each output's verdict and its count. The round's letter is one of the set: bit l of the word is letter l.
 pub fn round(x: Sheet, storage: &mut [u64], r: JournalRecord, letters: u64) -> RoundAnswer
     requires { ⌜ Usable x × (storageWords ≤ length (now storage)) × (recordOk (x .outputs) r ≡ true) × (r .rounds < maxRounds) ⌝ }
-    ensures { λ a. ⌜ (a .outcome ≡ Outcome.Accepted) × RoundDone (ruleSheet x) (now (storage .entry)) (now (storage .exit)) r (λ l. bit l letters) a ⌝ }
+    ensures { λ a. ⌜ (a .outcome ≡ Outcome.Accepted) × RoundDone (ruleSheet x) (now (storage .entry)) (now (storage .exit)) r (members letters) a ⌝ }
 {
     let m = x.inputs as usize;
     let n = x.outputs as usize;

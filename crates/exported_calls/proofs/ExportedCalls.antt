@@ -30,7 +30,8 @@ use Rattle.claims.proofs.ThirdDemand.{third-demand}
 use Rattle.jigwaret.specs.Journal.{Slices, SlicesAfter, MarkRefused, ByMark, BySizes, PreparationNumbered, RoundNumbered, ClosingNumbered}
 use Rattle.jigwaret.proofs.JournalLaws.{few-outputs}
 use Rattle.exported_calls.specs.Calls.{HeldSlices, Reply, slicesOf, ExportedStep, ExportedRun, finish, next, unanswered, Shows, AllShow, empty, more, ExportedCalls}
-use Rattle.exported_calls.proofs.ReplyLaws.{refusal-positive, zero-accepted, record-back, mark-right, numbers-all, front-first, front-rest, both-first, both-second, both-rest}
+use Rattle.outcomes.proofs.NumberLaws.{refusal-range}
+use Rattle.exported_calls.proofs.ReplyLaws.{zero-accepted, record-back, mark-right, numbers-all, front-first, front-rest, both-first, both-second, both-rest}
 
 -- ---- sizes
 
@@ -89,9 +90,9 @@ module _ (bs : List ℕ) (h k : HeldSlices) (y : Reply) (w : Stands (h .numbers)
   n = outputsOf bs
 
   -- a round
-  module _ (known val : ℕ) (a : RoundAnswer) where
+  module _ (letters : ℕ) (a : RoundAnswer) where
     abbrev Rounded : Outcome → Type 0
-    Rounded o = Rounds bs (h .storage) (k .storage) (recordOf (h .numbers)) known val a o
+    Rounded o = Rounds bs (h .storage) (k .storage) (recordOf (h .numbers)) letters a o
 
     abbrev RoundWritten : Outcome → Type 0
     RoundWritten o = SlicesAfter (numbersOf (a .record)) (paste (y .before) 0 (verdictNumbers (a .verdicts) n) n) (slicesOf h y k) o
@@ -109,7 +110,7 @@ module _ (bs : List ℕ) (h k : HeldSlices) (y : Reply) (w : Stands (h .numbers)
           ap (take n) (p .1) ∙ front-first n (y .before) (verdictNumbers (a .verdicts) n) (omega arith) many ∙ numbers-all (a .verdicts) n seven,
           ap (drop n) (p .1) ∙ front-rest n (y .before) (verdictNumbers (a .verdicts) n) (omega arith) many,
         )
-    round-shows (Refused q) d r p = (r, omega (arith, refusal-positive q), p .1)
+    round-shows (Refused q) d r p = (r, omega (arith, refusal-range q .0), p .1)
 
   -- a closing
   module _ (a : ClosingAnswer) where
@@ -136,21 +137,21 @@ module _ (bs : List ℕ) (h k : HeldSlices) (y : Reply) (w : Stands (h .numbers)
           ap (λ (l : List ℕ). take n (drop n l)) (p .1) ∙ both-second n (y .before) (verdictNumbers (a .verdicts) n) room many (a .shares) enough,
           ap (drop (n + n)) (p .1) ∙ both-rest n (y .before) (verdictNumbers (a .verdicts) n) room many (a .shares) enough,
         )
-    closing-shows (Refused q) d r p = (r, omega (arith, refusal-positive q), p .1)
+    closing-shows (Refused q) d r p = (r, omega (arith, refusal-range q .0), p .1)
 
   one-call : (c : Call) → ExportedStep bs h c y k → Answered bs h c y k
-  one-call (round known val) d =
-      let D : Type 0 = RoundNumbered bs (h .storage) (k .storage) known val (slicesOf h y k) (y .number) in
+  one-call (round letters) d =
+      let D : Type 0 = RoundNumbered bs (h .storage) (k .storage) letters (slicesOf h y k) (y .number) in
       let W : Type 0 = MarkRefused bs (h .storage) (k .storage) (slicesOf h y k) (y .number) in
-      let v : RoundNumbered bs (h .storage) (k .storage) known val (slicesOf h y k) (y .number) =
+      let v : RoundNumbered bs (h .storage) (k .storage) letters (slicesOf h y k) (y .number) =
       right-mark D W (h .numbers) (stands-mark (h .numbers) w) (done (ByMark (marked (h .numbers)) D W) (h .storage) (k .storage) (slicesOf h y k) (y .number) (stands-length (h .numbers) w) large d) in
       let a : RoundAnswer = v .answer in
-      let q : Holds (k .numbers) (a .record) = round-holds known val a (a .outcome) (v .result .result) (v .written) in
+      let q : Holds (k .numbers) (a .record) = round-holds letters a (a .outcome) (v .result .result) (v .written) in
       record {
         answer = roundSays n a (a .outcome);
-        step = subst (SessionStep bs (asHeld h) (round known val) (roundSays n a (a .outcome))) (λ i. held (k .storage) (sym (q .same) i))
+        step = subst (SessionStep bs (asHeld h) (round letters) (roundSays n a (a .outcome))) (λ i. held (k .storage) (sym (q .same) i))
             (a-round a (v .result));
-        shown = round-shows known val a (a .outcome) (v .result .result) (v .number) (v .written);
+        shown = round-shows letters a (a .outcome) (v .result .result) (v .number) (v .written);
         stands = q .stands;
       }
   one-call closing (e, d) =
@@ -171,7 +172,7 @@ module _ (bs : List ℕ) (h k : HeldSlices) (y : Reply) (w : Stands (h .numbers)
 -- ---- a call that is not answered changes nothing
 
 unchanged : (bs : List ℕ) (h k : HeldSlices) (c : Call) (y : Reply) → length (y .before) < 16 → ExportedStep bs h c y k → k ≡ h
-unchanged bs h k (round known val) y l d =
+unchanged bs h k (round letters) y l d =
     let e = too-small _ (h .storage) (k .storage) (slicesOf h y k) (y .number) l d in
     λ i. record { storage = e .1 i; numbers = e .2 i }
 unchanged bs h k closing y l (f, d) =

@@ -15,6 +15,7 @@ use Rattle.sheet.specs.ReadingChecks.{outputsOf}
 use Rattle.circular.specs.SheetChecks.{sheetChecks}
 use Rattle.trace.specs.EvaluationChecks.{evaluationChecks}
 use Rattle.trace.specs.Evaluated.{Evaluated}
+use Rattle.letters.specs.Sets.{maskChecks}
 use Rattle.checks.specs.JournalChecks.{prepareChecks, roundChecks, closingChecks}
 use Rattle.slices.specs.Slices.{recordOf, marked, numbersOf, verdictNumbers, sized}
 use Rattle.effects.specs.declared.PrepareAnswer.{PrepareAnswer}
@@ -22,6 +23,7 @@ use Rattle.effects.specs.declared.RoundAnswer.{RoundAnswer}
 use Rattle.effects.specs.declared.ClosingAnswer.{ClosingAnswer}
 use Rattle.monitor.specs.Entries.{Prepares, Rounds}
 use Rattle.claims.specs.Book.{Call, round, closing}
+use Rattle.jigwaret.specs.Numbered.{LettersAfter}
 use Rattle.jigwaret.specs.Journal.{Slices, slices, SlicesAfter, markChecks, MarkRefused, ByMark, BySizes, PreparationNumbered, RoundNumbered, ClosingNumbered, RoundAs, ClosedAs}
 use Rattle.exported_calls.specs.Calls.{HeldSlices, Reply, slicesOf, ExportedStep, ExportedRefusals}
 
@@ -54,6 +56,10 @@ buffer-left : (bs ls old new : List ℕ) (o : Outcome) (r : ℕ) → r ≡ outco
 buffer-left bs ls old new Accepted r n h d = absurd (omega arith)
 buffer-left bs ls old new (Refused e) r n h d = d
 
+set-left : (m known val old new : ℕ) (o : Outcome) (r : ℕ) → r ≡ outcomeNo o → 0 < r → LettersAfter m known val old new o → new ≡ old
+set-left m known val old new Accepted r n h d = absurd (omega arith)
+set-left m known val old new (Refused e) r n h d = d
+
 module _ (bs s t : List ℕ) (z : Slices) (r : ℕ) (h : 0 < r) where
   abbrev n : ℕ
   n = outputsOf bs
@@ -68,13 +74,13 @@ module _ (bs s t : List ℕ) (z : Slices) (r : ℕ) (h : 0 < r) where
       go Accepted k p w = absurd (omega arith)
       go (Refused e) k p w = (p .0, w .0, w .1)
 
-  round-left : (known val : ℕ) → RoundNumbered bs s t known val z r → Untouched s t z
-  round-left known val d = go (a .outcome) (d .number) (d .result .result) (d .written)
+  round-left : (letters : ℕ) → RoundNumbered bs s t letters z r → Untouched s t z
+  round-left letters d = go (a .outcome) (d .number) (d .result .result) (d .written)
     where
       a : RoundAnswer
       a = d .answer
 
-      go : (o : Outcome) → r ≡ outcomeNo o → Rounds bs s t (recordOf (z .rec)) known val a o → SlicesAfter (numbersOf (a .record)) (paste (z .ans) 0 (verdictNumbers (a .verdicts) n) n) z o → Untouched s t z
+      go : (o : Outcome) → r ≡ outcomeNo o → Rounds bs s t (recordOf (z .rec)) letters a o → SlicesAfter (numbersOf (a .record)) (paste (z .ans) 0 (verdictNumbers (a .verdicts) n) n) z o → Untouched s t z
       go Accepted k p w = absurd (omega arith)
       go (Refused e) k p w = (p .0, w .0, w .1)
 
@@ -100,11 +106,11 @@ left-by-mark false D bs s t z r f d = d .kept
 -- ---- rounds and closings
 
 module _ (bs s rec ans rec₁ ans₁ rec₂ ans₂ : List ℕ) (r q : ℕ) where
-  one-round : (t u : List ℕ) (known val : ℕ) → RoundAs bs s t known val (slices rec rec₁ ans ans₁) r → RoundAs bs s u known val (slices rec rec₂ ans ans₂) q → r ≡ q
-  one-round t u known val =
+  one-round : (t u : List ℕ) (letters : ℕ) → RoundAs bs s t letters (slices rec rec₁ ans ans₁) r → RoundAs bs s u letters (slices rec rec₂ ans ans₂) q → r ≡ q
+  one-round t u letters =
       one-by-sizes (sized rec ans) _ _ s t u (slices rec rec₁ ans ans₁) (slices rec rec₂ ans ans₂) r q
       (one-by-mark (marked rec) _ _ _ _ r q
-      (λ d e. one-number (roundChecks bs (length s) (recordOf rec) known val) _ _ r q (d .result .decided) (e .result .decided) (d .number) (e .number))
+      (λ d e. one-number (roundChecks bs (length s) (recordOf rec) letters) _ _ r q (d .result .decided) (e .result .decided) (d .number) (e .number))
       (one-mark-refused bs s t u _ _ r q))
 
   one-closing : ClosedAs bs s (slices rec rec₁ ans ans₁) r → ClosedAs bs s (slices rec rec₂ ans ans₂) q → r ≡ q
@@ -115,18 +121,18 @@ module _ (bs s rec ans rec₁ ans₁ rec₂ ans₂ : List ℕ) (r q : ℕ) where
       (one-mark-refused bs s s s _ _ r q))
 
 one-call : (bs : List ℕ) (h k l : HeldSlices) (c : Call) (y z : Reply) → y .before ≡ z .before → ExportedStep bs h c y k → ExportedStep bs h c z l → y .number ≡ z .number
-one-call bs h k l (round known val) y z e d f =
-    one-round bs (h .storage) (h .numbers) (z .before) (k .numbers) (y .after) (l .numbers) (z .after) (y .number) (z .number) (k .storage) (l .storage) known val
-    (subst (λ (a : List ℕ). RoundAs bs (h .storage) (k .storage) known val (slices (h .numbers) (k .numbers) a (y .after)) (y .number)) e d) f
+one-call bs h k l (round letters) y z e d f =
+    one-round bs (h .storage) (h .numbers) (z .before) (k .numbers) (y .after) (l .numbers) (z .after) (y .number) (z .number) (k .storage) (l .storage) letters
+    (subst (λ (a : List ℕ). RoundAs bs (h .storage) (k .storage) letters (slices (h .numbers) (k .numbers) a (y .after)) (y .number)) e d) f
 one-call bs h k l closing y z e d f =
     one-closing bs (h .storage) (h .numbers) (z .before) (k .numbers) (y .after) (l .numbers) (z .after) (y .number) (z .number)
     (subst (λ (a : List ℕ). ClosedAs bs (h .storage) (slices (h .numbers) (k .numbers) a (y .after)) (y .number)) e (d .1)) (f .1)
 
 call-left : (bs : List ℕ) (h k : HeldSlices) (c : Call) (y : Reply) → ExportedStep bs h c y k → 0 < y .number → Untouched (h .storage) (k .storage) (slicesOf h y k)
-call-left bs h k (round known val) y d p =
+call-left bs h k (round letters) y d p =
     let z : Slices = slicesOf h y k in
     left-by-sizes (sized (h .numbers) (y .before)) _ (h .storage) (k .storage) z (y .number)
-    (left-by-mark (marked (h .numbers)) _ bs (h .storage) (k .storage) z (y .number) (round-left bs (h .storage) (k .storage) z (y .number) p known val)) d
+    (left-by-mark (marked (h .numbers)) _ bs (h .storage) (k .storage) z (y .number) (round-left bs (h .storage) (k .storage) z (y .number) p letters)) d
 call-left bs h k closing y d p =
     let z : Slices = slicesOf h y k in
     let e = left-by-sizes (sized (h .numbers) (y .before)) _ (h .storage) (h .storage) z (y .number)
@@ -141,6 +147,8 @@ exported-refusals = record {
   evaluation = λ bs ls old new other r q d e.
       one-number (evaluationChecks bs ls (length old)) (d .outcome) (e .outcome) r q (d .call .decided) (e .call .decided) (d .number) (e .number);
   evaluation-refused = λ bs ls old new r d h. buffer-left bs ls old new (d .outcome) r (d .number) h (d .call .result);
+  letters = λ m known val old new other r q d e. one-number (maskChecks m known val) (d .outcome) (e .outcome) r q (d .decided) (e .decided) (d .number) (e .number);
+  letters-refused = λ m known val old new r d h. set-left m known val old new (d .outcome) r (d .number) h (d .written);
   preparation = λ bs s t u rec ans rec₁ ans₁ rec₂ ans₂ r q.
       one-by-sizes (sized rec ans) _ _ s t u (slices rec rec₁ ans ans₁) (slices rec rec₂ ans ans₂) r q
       (λ d e. one-number (prepareChecks bs (length s)) _ _ r q (d .result .decided) (e .result .decided) (d .number) (e .number));

@@ -2,18 +2,17 @@
 use mathlib.Core.Path.{_≡_, refl, sym, ap, _∙_}
 use mathlib.Core.Bool.{Bool, true, false}
 use mathlib.Core.List.{List, _++_, map, append-assoc}
-use Prim.Native.Nat.{ℕ, _+_, _≤_, _<_}
+use Prim.Native.Nat.{ℕ, _+_, _≤_}
 use native.Mathlib.Omega.{arith}
 use native.Mathlib.Nat.{zero-add}
 use lib.Dec.{leb}
 use lib.ListN.{length, take, drop}
 use lib.Seq.{paste, length-paste, take-paste, drop-paste, take-at, drop-at, take-all, drop-drop, length-take-le}
-use Rattle.outcomes.specs.Numbers.{refusalNo, outcomeNo, verdictNo, verdictList}
-use Rattle.outcomes.specs.declared.Refusal.{Refusal}
-use Rattle.outcomes.specs.declared.Refusal.the-variants.{Short, Mark, Version, Counts, Assumption, Length, Byte, Values, Leftover, Circular, Letter, Closed, Full, NoRound, Storage, Extent, Line, Record}
+use Rattle.outcomes.specs.Numbers.{outcomeNo, verdictNo, verdictList}
 use Rattle.outcomes.specs.declared.Outcome.{Outcome}
 use Rattle.outcomes.specs.declared.Outcome.the-variants.{Accepted, Refused}
 use Rattle.outcomes.specs.declared.Told.{Told}
+use Rattle.outcomes.proofs.NumberLaws.{refusal-range}
 use Rattle.words.specs.Below.{one}
 use Rattle.record.specs.declared.JournalRecord.{JournalRecord}
 use Rattle.slices.specs.Slices.{recordOf, marked, numbersOf, verdictNumbers}
@@ -21,29 +20,9 @@ use Rattle.slices.proofs.SliceLaws.{numbers-size}
 
 -- ---- numbers of outcomes
 
-pub refusal-positive : (e : Refusal) → 0 < refusalNo e
-refusal-positive Short = omega arith
-refusal-positive Mark = omega arith
-refusal-positive Version = omega arith
-refusal-positive Counts = omega arith
-refusal-positive Assumption = omega arith
-refusal-positive Length = omega arith
-refusal-positive Byte = omega arith
-refusal-positive Values = omega arith
-refusal-positive Leftover = omega arith
-refusal-positive Circular = omega arith
-refusal-positive Letter = omega arith
-refusal-positive Closed = omega arith
-refusal-positive Full = omega arith
-refusal-positive NoRound = omega arith
-refusal-positive Storage = omega arith
-refusal-positive Extent = omega arith
-refusal-positive Line = omega arith
-refusal-positive Record = omega arith
-
 pub zero-accepted : (o : Outcome) → 0 ≡ outcomeNo o → o ≡ Accepted
 zero-accepted Accepted e = refl
-zero-accepted (Refused r) e = absurd (omega (arith, refusal-positive r))
+zero-accepted (Refused r) e = absurd (omega (arith, refusal-range r .0))
 
 -- ---- a record out of its own numbers
 

@@ -12,7 +12,7 @@ use Rattle.record.specs.declared.JournalRecord.{JournalRecord}
 use Rattle.slices.specs.Slices.{numbersOf}
 use Rattle.claims.specs.Book.{Call, round, closing, Answer, refused, verdicts, closed, Book, emptyBook, BookRun}
 use Rattle.claims.specs.Session.{Matches}
-use Rattle.jigwaret.specs.Numbered.{Checked, EvaluatedAs}
+use Rattle.jigwaret.specs.Numbered.{Checked, EvaluatedAs, LettersAs}
 use Rattle.jigwaret.specs.Journal.{Slices, slices, PreparedAs, RoundAs, ClosedAs}
 
 -- what a caller in C or Rust holds between two calls: the storage, and the record as its numbers
@@ -33,7 +33,7 @@ slicesOf h y k = slices (h .numbers) (k .numbers) (y .before) (y .after)
 -- One call with the sheet bs, as the contracts of `jigwaret_round` and `jigwaret_close` have it: what is held before, the call, what it gives back,
 -- what is held after. `jigwaret_close` is lent the storage for reading only.
 abbrev pub ExportedStep : List ℕ → HeldSlices → Call → Reply → HeldSlices → Type 0
-ExportedStep bs h (round known val) y k = RoundAs bs (h .storage) (k .storage) known val (slicesOf h y k) (y .number)
+ExportedStep bs h (round letters) y k = RoundAs bs (h .storage) (k .storage) letters (slicesOf h y k) (y .number)
 ExportedStep bs h closing y k = (k .storage ≡ h .storage) × ClosedAs bs (h .storage) (slicesOf h y k) (y .number)
 
 -- A list of calls (01, "Completions and verdicts"): each gets the storage and the record's numbers from the one before it, and an answer slice,
@@ -79,12 +79,14 @@ ExportedCalls =
     → (cs : List Call) (ys : List Reply) (k : HeldSlices) → ExportedRun bs (record { storage = t; numbers = z .rec′ }) cs ys k
     → OfSheet bs (λ x. (as′ : List Answer) × (b : Book) × BookRun x emptyBook cs as′ b × AllShow (outputs x) as′ ys × NumbersMatch x b (k .numbers))
 
--- The first demand for callers in C and Rust (01, "What is turned down"): which number a function returns is settled by what it is handed, and with
--- every number but 0 all slices lent to it are what they were. That it returns one is its contract.
+-- The first demand for callers in C and Rust (01, "What is turned down"; 02, W4): which number a function returns is settled by what it is handed, and
+-- with every number but 0 all that was lent to it is what it was. That it returns one is its contract.
 pub record ExportedRefusals : Type 0 where
   pub check : (bs : List ℕ) (r q : ℕ) → Checked bs r → Checked bs q → r ≡ q
   pub evaluation : (bs ls old new other : List ℕ) (r q : ℕ) → EvaluatedAs bs ls old new r → EvaluatedAs bs ls old other q → r ≡ q
   pub evaluation-refused : (bs ls old new : List ℕ) (r : ℕ) → EvaluatedAs bs ls old new r → 0 < r → new ≡ old
+  pub letters : (m known val old new other r q : ℕ) → LettersAs m known val old new r → LettersAs m known val old other q → r ≡ q
+  pub letters-refused : (m known val old new r : ℕ) → LettersAs m known val old new r → 0 < r → new ≡ old
   pub preparation : (bs s t u rec ans rec₁ ans₁ rec₂ ans₂ : List ℕ) (r q : ℕ)
       → PreparedAs bs s t (slices rec rec₁ ans ans₁) r → PreparedAs bs s u (slices rec rec₂ ans ans₂) q → r ≡ q
   pub preparation-refused : (bs s t : List ℕ) (z : Slices) (r : ℕ) → PreparedAs bs s t z r → 0 < r → (t ≡ s) × (z .rec′ ≡ z .rec) × (z .ans′ ≡ z .ans)

@@ -1,4 +1,4 @@
--- The exported functions of a journal: the slices' sizes, the mark for closed, byte 6 of an accepted sheet, and what an outcome leaves.
+-- The exported functions of a journal: a set from masks, the slices' sizes, the mark for closed, byte 6 of an accepted sheet, and what an outcome leaves.
 use mathlib.Core.Bool.{Bool, true, false, not}
 use mathlib.Core.Path.{_≡_, refl, sym, ap, _∙_, subst}
 use mathlib.Core.Logic.{inl, inr}
@@ -21,6 +21,8 @@ use Rattle.sheet.specs.ReadingChecks.{outputsOf, readingChecks}
 use Rattle.sheet.proofs.Formed.{counts-of, read-formed}
 use Rattle.circular.specs.SheetChecks.{OfSheet, sheetChecks}
 use Rattle.record.specs.declared.JournalRecord.{JournalRecord}
+use Rattle.letters.specs.Sets.{maskChecks, Makes, MasksCall}
+use Rattle.letters.specs.declared.LettersMade.{LettersMade}
 use Rattle.checks.specs.JournalChecks.{tooShort}
 use Rattle.slices.specs.Slices.{marked, numbersOf, verdictNumbers, sized}
 use Rattle.slices.specs.Loaded.{loaded}
@@ -28,7 +30,22 @@ use Rattle.slices.proofs.SliceLaws.{Sizes, right-sizes, loaded-right, loaded-wr
 use Rattle.effects.specs.declared.RoundAnswer.{RoundAnswer}
 use Rattle.effects.specs.declared.ClosingAnswer.{ClosingAnswer}
 use Rattle.monitor.specs.Entries.{Rounds, RoundCall, CloseCall}
+use Rattle.jigwaret.specs.Numbered.{LettersAs}
 use Rattle.jigwaret.specs.Journal.{Slices, slices, SlicesAfter, markChecks, MarkRefused, ByMark, RoundNumbered, ClosingNumbered, BySizes}
+
+-- ---- a set from masks
+
+module _ (m known val old : ℕ) (a : LettersMade) (d : MasksCall m known val a) where
+  pub set-kept : (e : Refusal) (r : ℕ) → a .outcome ≡ Refused e → r ≡ refusalNo e → LettersAs m known val old old r
+  set-kept e r o n = record { outcome = Refused e; decided = subst (Decided (maskChecks m known val)) o (d .decided); number = n; written = refl }
+
+  pub set-written : a .outcome ≡ Accepted → LettersAs m known val old (a .letters) 0
+  set-written o = record {
+    outcome = Accepted;
+    decided = subst (Decided (maskChecks m known val)) o (d .decided);
+    number = refl;
+    written = subst (Makes m known val (a .letters)) o (d .result);
+  }
 
 -- ---- sizes
 
@@ -76,14 +93,14 @@ module _ (bs s t : List ℕ) (z : Slices) (r : ℕ) where
       kept Accepted e f w = absurd (all-passed (tooShort (length s) ∷ (check Record (Unit {0}) ∷ [])) (passed-both (sheetChecks bs) _ e .1) .1 .0 tt)
       kept (Refused q) e f w = (f q refl, w .0, w .1)
 
-  pub round-by-mark : (known val : ℕ) (a : RoundAnswer) → RoundCall bs s t (loaded (z .rec)) known val a → r ≡ outcomeNo (a .outcome)
+  pub round-by-mark : (letters : ℕ) (a : RoundAnswer) → RoundCall bs s t (loaded (z .rec)) letters a → r ≡ outcomeNo (a .outcome)
       → SlicesAfter (numbersOf (a .record)) (paste (z .ans) 0 (verdictNumbers (a .verdicts) (outputsOf bs)) (outputsOf bs)) z (a .outcome)
-      → ByMark (marked (z .rec)) (RoundNumbered bs s t known val z r) (MarkRefused bs s t z r)
-  round-by-mark known val a d n w = go (marked (z .rec)) refl
+      → ByMark (marked (z .rec)) (RoundNumbered bs s t letters z r) (MarkRefused bs s t z r)
+  round-by-mark letters a d n w = go (marked (z .rec)) refl
     where
-      go : (b : Bool) → marked (z .rec) ≡ b → ByMark b (RoundNumbered bs s t known val z r) (MarkRefused bs s t z r)
-      go true e = record { answer = a; result = subst (λ (q : JournalRecord). RoundCall bs s t q known val a) (loaded-right (z .rec) e) d; number = n; written = w }
-      go false e = mark-refused _ _ (a .outcome) _ _ (d .decided) (loaded-wrong (outputsOf bs) (z .rec) e) n (λ q f. subst (Rounds bs s t (loaded (z .rec)) known val a) f (d .result) .0) w
+      go : (b : Bool) → marked (z .rec) ≡ b → ByMark b (RoundNumbered bs s t letters z r) (MarkRefused bs s t z r)
+      go true e = record { answer = a; result = subst (λ (q : JournalRecord). RoundCall bs s t q letters a) (loaded-right (z .rec) e) d; number = n; written = w }
+      go false e = mark-refused _ _ (a .outcome) _ _ (d .decided) (loaded-wrong (outputsOf bs) (z .rec) e) n (λ q f. subst (Rounds bs s t (loaded (z .rec)) letters a) f (d .result) .0) w
 
 pub closing-by-mark : (bs s : List ℕ) (z : Slices) (r : ℕ) (a : ClosingAnswer) → CloseCall bs s (loaded (z .rec)) a → r ≡ outcomeNo (a .outcome)
     → SlicesAfter (numbersOf (a .record)) (paste (paste (z .ans) 0 (verdictNumbers (a .verdicts) (outputsOf bs)) (outputsOf bs)) (outputsOf bs) (a .shares) (outputsOf bs)) z (a .outcome)

@@ -1,5 +1,5 @@
 -- What the exported functions of preparation, rounds and closing give and leave: what `prepare`, `round` and `close` do with the record that the
--- slice holds, its number, and for an accepted call the new record and the answer in their slices (01, "What is turned down").
+-- slice holds, its number, and for an accepted call the new record and the answer in their slices (01, "What is turned down"; 02, W4).
 -- Manual: "Calling it".
 use mathlib.Core.Path.{_≡_}
 use mathlib.Core.Bool.{Bool, true, false}
@@ -57,9 +57,9 @@ pub record PreparationNumbered (bs s t : List ℕ) (z : Slices) (r : ℕ) : Type
   pub written : SlicesAfter (numbersOf (answer .record)) (paste (z .ans) 0 (answer .live ∷ []) 1) z (answer .outcome)
 
 -- a round: the verdict numbers of the n outputs
-pub record RoundNumbered (bs s t : List ℕ) (known val : ℕ) (z : Slices) (r : ℕ) : Type 0 where
+pub record RoundNumbered (bs s t : List ℕ) (letters : ℕ) (z : Slices) (r : ℕ) : Type 0 where
   pub answer : RoundAnswer
-  pub result : RoundCall bs s t (recordOf (z .rec)) known val answer
+  pub result : RoundCall bs s t (recordOf (z .rec)) letters answer
   pub number : r ≡ outcomeNo (answer .outcome)
   pub written : SlicesAfter (numbersOf (answer .record)) (paste (z .ans) 0 (verdictNumbers (answer .verdicts) (outputsOf bs)) (outputsOf bs)) z (answer .outcome)
 
@@ -81,9 +81,9 @@ slices rec rec′ ans ans′ = record { rec = rec; rec′ = rec′; ans = ans; a
 abbrev pub PreparedAs : List ℕ → List ℕ → List ℕ → Slices → ℕ → Type 0
 PreparedAs bs s t z r = BySizes (sized (z .rec) (z .ans)) (PreparationNumbered bs s t z r) s t z r
 
-abbrev pub RoundAs : List ℕ → List ℕ → List ℕ → ℕ → ℕ → Slices → ℕ → Type 0
-RoundAs bs s t known val z r =
-    BySizes (sized (z .rec) (z .ans)) (ByMark (marked (z .rec)) (RoundNumbered bs s t known val z r) (MarkRefused bs s t z r)) s t z r
+abbrev pub RoundAs : List ℕ → List ℕ → List ℕ → ℕ → Slices → ℕ → Type 0
+RoundAs bs s t letters z r =
+    BySizes (sized (z .rec) (z .ans)) (ByMark (marked (z .rec)) (RoundNumbered bs s t letters z r) (MarkRefused bs s t z r)) s t z r
 
 abbrev pub ClosedAs : List ℕ → List ℕ → Slices → ℕ → Type 0
 ClosedAs bs s z r = BySizes (sized (z .rec) (z .ans)) (ByMark (marked (z .rec)) (ClosingNumbered bs s z r) (MarkRefused bs s s z r)) s s z r

@@ -1,2 +1,3 @@
 pub mod Matching
 pub mod Lanes
+pub mod SetLaws

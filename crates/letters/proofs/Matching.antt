@@ -94,8 +94,3 @@ valid m known val h e =
       small = omega arith;
       inside = eqb-true (bitAnd val known) val (not-false (eqb (bitAnd val known) val) (or-none (leb (2 ^ m) known) (not (eqb (bitAnd val known) val)) e .1));
     }
-
--- so where rule 11 lets the masks pass, the letters that match are the round's set
-pub letters-masked : (m known val letters : ℕ) → m ≤ 6 → badMasks m known val ≡ false
-    → ((l : ℕ) → l < 64 → bit l letters ≡ matches known val 6 l) → (l : ℕ) → l < 64 → bit l letters ≡ masked known val l
-letters-masked m known val letters h e f l g = f l g ∙ matches-masked known val l (valid m known val h e)

@@ -1,2 +1,3 @@
 pub mod Masks
 pub mod Matching
+pub mod Sets

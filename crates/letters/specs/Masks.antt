@@ -1,4 +1,4 @@
--- Rule 11 for the masks of a round (01, "What is turned down").
+-- Rule 11 for masks (01, "What is turned down"; 02, W4).
 -- Manual: "Refusals".
 use mathlib.Core.Bool.{Bool, not, _||_}
 use Prim.Native.Nat.{ℕ, _^_}

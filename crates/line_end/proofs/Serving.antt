@@ -66,9 +66,9 @@ module _ (sheet : List ℕ) (x : Sheet) (o : AcceptedSheet sheet x) where
   same-outputs : outputsOf sheet ≡ x .outputs
   same-outputs = sym (counts-of sheet (ruleSheet x) (o .reads) .1) ∙ sheet-outputs x
 
-  pub round-step : (s t : List ℕ) (r : JournalRecord) (known val : ℕ) (a : RoundAnswer) → RoundCall sheet s t r known val a
-      → SessionStep sheet (held s r) (round known val) (roundSays (x .outputs) a (a .outcome)) (held t (a .record))
-  round-step s t r known val a d = subst (λ (n : ℕ). SessionStep sheet (held s r) (round known val) (roundSays n a (a .outcome)) (held t (a .record))) same-outputs (a-round a d)
+  pub round-step : (s t : List ℕ) (r : JournalRecord) (letters : ℕ) (a : RoundAnswer) → RoundCall sheet s t r letters a
+      → SessionStep sheet (held s r) (round letters) (roundSays (x .outputs) a (a .outcome)) (held t (a .record))
+  round-step s t r letters a d = subst (λ (n : ℕ). SessionStep sheet (held s r) (round letters) (roundSays n a (a .outcome)) (held t (a .record))) same-outputs (a-round a d)
 
   pub closing-step : (s : List ℕ) (r : JournalRecord) (a : ClosingAnswer) → CloseCall sheet s r a
       → SessionStep sheet (held s r) closing (closingSays (x .outputs) a (a .outcome)) (held s (a .record))
@@ -84,11 +84,11 @@ module _ (sheet : List ℕ) (x : Sheet) (o : AcceptedSheet sheet x) where
 
 -- ---- what an accepted answer says
 
-pub round-kept : (sheet s t : List ℕ) (r : JournalRecord) (known val : ℕ) (a : RoundAnswer) → RoundCall sheet s t r known val a
+pub round-kept : (sheet s t : List ℕ) (r : JournalRecord) (letters : ℕ) (a : RoundAnswer) → RoundCall sheet s t r letters a
     → whenAccepted (a .outcome) (a .record .closed ≡ r .closed)
-round-kept sheet s t r known val a d = go (a .outcome) (d .result)
+round-kept sheet s t r letters a d = go (a .outcome) (d .result)
   where
-    go : (o : Outcome) → Rounds sheet s t r known val a o → whenAccepted o (a .record .closed ≡ r .closed)
+    go : (o : Outcome) → Rounds sheet s t r letters a o → whenAccepted o (a .record .closed ≡ r .closed)
     go Accepted w = w .2 .closed
     go (Refused e) w = tt
 

@@ -18,7 +18,7 @@ ghost use Rattle.line_end.specs.Printed.{nextLine};
 ghost use Rattle.line_end.specs.LineEnd.{Serves, Answered, LineEnded, mostBytes, due};
 use effects::ClosingAnswer;
 use effects::RoundAnswer;
-use line_scan::Masks;
+use line_scan::Alternatives;
 use line_scan::Pending;
 use outcomes::Outcome;
 use outcomes::Refusal;
@@ -53,18 +53,12 @@ fn refused_line(e: Refusal, line: u64, rec: JournalRecord, out: &mut [u8], at: u
     }
 }
 
-fn answer_round(
-    x: Sheet,
-    storage: &mut [u64],
-    r: JournalRecord,
-    known: u8,
-    value: u8,
-) -> RoundAnswer
+fn answer_round(x: Sheet, storage: &mut [u64], r: JournalRecord, letters: u64) -> RoundAnswer
     requires { ⌜ IsAccepted x ⌝ }
-    ensures by_the_book { λ a. ⌜ ((sheet : List ℕ) (b : Book) → AcceptedSheet sheet x → Serves sheet (ruleSheet x) b (held (now (storage .entry)) r) → Answered sheet (ruleSheet x) b (round known value) (roundSays (x .outputs) a (a .outcome)) (held (now (storage .exit)) (a .record))) ⌝ }
+    ensures by_the_book { λ a. ⌜ ((sheet : List ℕ) (b : Book) → AcceptedSheet sheet x → Serves sheet (ruleSheet x) b (held (now (storage .entry)) r) → Answered sheet (ruleSheet x) b (round letters) (roundSays (x .outputs) a (a .outcome)) (held (now (storage .exit)) (a .record))) ⌝ }
     ensures done { λ a. ⌜ whenAccepted (a .outcome) (a .record .closed ≡ r .closed) ⌝ }
 {
-    monitor::round_on(x, storage, r, known, value)
+    monitor::round_on(x, storage, r, letters)
 }
 
 fn answer_closing(x: Sheet, storage: &[u64], r: JournalRecord) -> ClosingAnswer
@@ -80,16 +74,16 @@ fn round_line(
     x: Sheet,
     line: u64,
     rec: JournalRecord,
-    heard: Masks,
+    letters: u64,
     storage: &mut [u64],
     out: &mut [u8],
     at: usize,
 ) -> Ended
     requires { ⌜ IsAccepted x × (at + mostBytes (rec .closed) + 8 ≤ length (now out)) ⌝ }
-    ensures ended { λ r. ⌜ ((sheet : List ℕ) (b : Book) (part : List ℕ) → AcceptedSheet sheet x → Serves sheet (ruleSheet x) b (held (now (storage .entry)) rec) → readLine (x .inputs) part ≡ calls (round (heard .known) (heard .value)) → LineEnded sheet (ruleSheet x) b line part (now (out .entry)) at (now (out .exit)) (now (storage .exit)) r) ⌝ }
+    ensures ended { λ r. ⌜ ((sheet : List ℕ) (b : Book) (part : List ℕ) → AcceptedSheet sheet x → Serves sheet (ruleSheet x) b (held (now (storage .entry)) rec) → readLine (x .inputs) part ≡ calls (round letters) → LineEnded sheet (ruleSheet x) b line part (now (out .entry)) at (now (out .exit)) (now (storage .exit)) r) ⌝ }
     ensures bound { λ r. ⌜ r .at + due (r .over) (r .record .closed) ≤ at + mostBytes (rec .closed) + 8 ⌝ }
 {
-    let a = answer_round(x, storage, rec, heard.known, heard.value);
+    let a = answer_round(x, storage, rec, letters);
     let outcome = a.outcome;
     match outcome {
         Outcome::Refused(e) => refused_line(e, line, rec, out, at),
@@ -151,12 +145,12 @@ fn malformed_line(line: u64, rec: JournalRecord, out: &mut [u8], at: usize) -> E
     refused_line(Refusal::Line, line, rec, out, at)
 }
 
-// A line of marks: blank, a round, or too short for one.
+// A line of alternatives: a round, or too short for one behind its last bar.
 fn marks_line(
     x: Sheet,
     line: u64,
     rec: JournalRecord,
-    marks: Masks,
+    marks: Alternatives,
     storage: &mut [u64],
     out: &mut [u8],
     at: usize,
@@ -165,19 +159,11 @@ fn marks_line(
     ensures ended { λ r. ⌜ ((sheet : List ℕ) (b : Book) (part : List ℕ) → AcceptedSheet sheet x → Serves sheet (ruleSheet x) b (held (now (storage .entry)) rec) → Marked (x .inputs) part marks → LineEnded sheet (ruleSheet x) b line part (now (out .entry)) at (now (out .exit)) (now (storage .exit)) r) ⌝ }
     ensures bound { λ r. ⌜ r .at + due (r .over) (r .record .closed) ≤ at + mostBytes (rec .closed) + 8 ⌝ }
 {
-    let count = marks.count;
-    if count == 0 {
-        return Ended {
-            over: false,
-            line: next_line(line),
-            record: rec,
-            at,
-        };
-    }
-    if count != x.inputs {
+    if marks.count != x.inputs {
         return malformed_line(line, rec, out, at);
     }
-    round_line(x, line, rec, marks, storage, out, at)
+    let letters = marks.line_set(x.inputs);
+    round_line(x, line, rec, letters, storage, out, at)
 }
 
 // The line that has come is at its end.
@@ -195,6 +181,12 @@ pub fn line_end(
     ensures bound { λ r. ⌜ r .at + due (r .over) (r .record .closed) ≤ at + mostBytes (rec .closed) + 8 ⌝ }
 {
     match pending {
+        Pending::Blank => Ended {
+            over: false,
+            line: next_line(line),
+            record: rec,
+            at,
+        },
         Pending::Marks(marks) => marks_line(x, line, rec, marks, storage, out, at),
         Pending::Dot => closing_line(x, line, rec, storage, out, at),
         Pending::Malformed => malformed_line(line, rec, out, at),

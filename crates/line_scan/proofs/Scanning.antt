@@ -1,23 +1,23 @@
 -- Reading a line byte by byte.
-use mathlib.Core.Path.{_≡_, refl, sym, ap, _∙_}
-use mathlib.Core.Bool.{Bool, true, false, cond, not, _&&_, and-false}
-use mathlib.Core.List.{List, [], _∷_, _++_}
-use Prim.Native.Nat.{ℕ, suc, _+_, _*_, _^_, _%_, _≤_, _<_}
+use mathlib.Core.Path.{_≡_, refl, sym, ap, ap₂, _∙_}
+use mathlib.Core.Bool.{Bool, true, false, cond, _&&_, _||_, Bool·beq, and-false, true≢false}
+use mathlib.Core.List.{List, [], _∷_, _++_, append-assoc}
+use Prim.Native.Nat.{ℕ, _+_, _≤_, _<_}
 use native.Mathlib.Omega.{arith}
-use native.Mathlib.Nat.{pow-suc, zero-add}
-use lib.Bits.{bitOr, or-shifted-r}
+use lib.Bits.{bitOr}
 use lib.Dec.{eqb}
 use lib.ListN.{length, length-append}
-use lib.Pow.{shl-exact}
 use lib.Seq.{append-snoc}
-use borrow.Author.Tests.{ne-eqb}
-use Rattle.words.specs.Below.{one}
-use Rattle.words.proofs.CountLaws.{one-le-one}
-use Rattle.line_scan.specs.Lines.{isMark, allMarks, knownMask, valueMask, isDot, malformed, readLine}
-use Rattle.line_scan.specs.Scan.{Marked, Spoiled}
-use Rattle.line_scan.specs.declared.Masks.{Masks}
+use borrow.Author.Tests.{eq-eqb, ne-eqb}
+use Rattle.words.specs.Bits.{digit, bit}
+use Rattle.words.proofs.Bools.{and-split}
+use Rattle.words.proofs.BitLaws.{bit-or, bit-none, bit-all}
+use Rattle.line_scan.specs.Lines.{isMark, allMarks, alternativesFrom, alternatives, whole, allWhole, fits, fitsOne, isDot, malformed, readLine}
+use Rattle.line_scan.specs.Scan.{Parted, Marked, Spoiled}
+use Rattle.line_scan.specs.declared.Alternatives.{Alternatives}
+use Rattle.line_scan.proofs.Fitting.{suits, fits-more, mark-fits, one-more-fits}
 
--- ---- malformed lines
+-- ---- lines that are no dot
 
 not-dot : (p : List ℕ) (b : ℕ) (rest : List ℕ) → (length p ≡ 0 → b ≡ 46 → ⊥) → isDot (p ++ b ∷ rest) ≡ false
 not-dot [] b [] h = ne-eqb b 46 (h refl)
@@ -25,136 +25,181 @@ not-dot [] b (d ∷ rest) h = refl
 not-dot (a ∷ []) b rest h = refl
 not-dot (a ∷ c ∷ p) b rest h = refl
 
-no-marks : (p : List ℕ) (b : ℕ) (rest : List ℕ) → isMark b ≡ false → allMarks (p ++ b ∷ rest) ≡ false
-unfolding allMarks
-no-marks [] b rest h = rw h refl
-no-marks (a ∷ p) b rest h = rw (no-marks p b rest h) (and-false (isMark a))
-
 long : (p : List ℕ) (b : ℕ) (rest : List ℕ) → length p < length (p ++ b ∷ rest)
 long p b rest = omega (arith, length-append p (b ∷ rest))
 
-pub read-bad : (m : ℕ) (l : List ℕ) → 0 < length l → isDot l ≡ false → (eqb (length l) m && allMarks l) ≡ false → readLine m l ≡ malformed
+-- ---- malformed lines
+
+pub read-bad : (m : ℕ) (l : List ℕ) → 0 < length l → isDot l ≡ false → allWhole m (alternatives l) ≡ false → readLine m l ≡ malformed
 unfolding readLine
 read-bad m [] h d e = absurd (omega arith)
 read-bad m (b ∷ bs) h d e = simp (d, e)
 
-module _ (m : ℕ) (p : List ℕ) (b : ℕ) where
-  spoil : (length p ≡ 0 → b ≡ 46 → ⊥) → ((rest : List ℕ) → (eqb (length (p ++ b ∷ rest)) m && allMarks (p ++ b ∷ rest)) ≡ false) → Spoiled m (p ++ b ∷ [])
-  spoil d e rest = rw (append-snoc p b rest) (read-bad m (p ++ b ∷ rest) (omega (arith, long p b rest)) (not-dot p b rest d) (e rest))
+-- one that isn't whole among them
+pub bad-behind : (m : ℕ) (as′ bs : List (List ℕ)) → allWhole m bs ≡ false → allWhole m (as′ ++ bs) ≡ false
+unfolding allWhole
+bad-behind m [] bs e = e
+bad-behind m (a ∷ as′) bs e = rw (bad-behind m as′ bs e) (and-false (whole m a))
 
-  -- a byte that is no mark, and no dot alone
-  pub no-mark : (length p ≡ 0 → b ≡ 46 → ⊥) → isMark b ≡ false → Spoiled m (p ++ b ∷ [])
-  no-mark d h = spoil d (λ rest. rw (no-marks p b rest h) (and-false (eqb (length (p ++ b ∷ rest)) m)))
+no-marks : (p : List ℕ) (b : ℕ) → isMark b ≡ false → allMarks (p ++ b ∷ []) ≡ false
+unfolding allMarks
+no-marks [] b h = rw h refl
+no-marks (a ∷ p) b h = rw (no-marks p b h) (and-false (isMark a))
 
-  -- one byte too many
-  pub one-more : (b ≡ 46 → ⊥) → m ≤ length p → Spoiled m (p ++ b ∷ [])
-  one-more d h = spoil (λ z e. d e) (λ rest. rw (ne-eqb (length (p ++ b ∷ rest)) m (λ e. omega (arith, long p b rest))) refl)
+still-none : (p : List ℕ) (b : ℕ) → allMarks p ≡ false → allMarks (p ++ b ∷ []) ≡ false
+unfolding allMarks
+still-none [] b h = absurd (true≢false h)
+still-none (a ∷ p) b h = go (isMark a) h (still-none p b)
+  where
+    go : (t : Bool) → (t && allMarks p) ≡ false → (allMarks p ≡ false → allMarks (p ++ b ∷ []) ≡ false) → (t && allMarks (p ++ b ∷ [])) ≡ false
+    go true g f = f g
+    go false g f = refl
 
-  -- a byte after a malformed start
-  pub still : Spoiled m p → Spoiled m (p ++ b ∷ [])
-  still h rest = rw (append-snoc p b rest) (h (b ∷ rest))
+-- an alternative that can't become whole, whatever comes
+pub data Lost (m : ℕ) (p : List ℕ) : Type 0 where
+  too-long : m < length p → Lost m p
+  no-mark : allMarks p ≡ false → Lost m p
 
-after-dot : (m b : ℕ) → Spoiled m (46 ∷ b ∷ [])
-unfolding readLine allMarks
-after-dot m b rest = simp (and-false (eqb (length (46 ∷ (b ∷ rest))) m))
+lost-more : (m : ℕ) (p : List ℕ) (b : ℕ) → Lost m p → Lost m (p ++ b ∷ [])
+lost-more m p b (too-long h) = too-long (omega (arith, length-append p (b ∷ [])))
+lost-more m p b (no-mark h) = no-mark (still-none p b h)
 
--- ---- masks
+lost-bad : (m : ℕ) (p : List ℕ) → Lost m p → whole m p ≡ false
+lost-bad m p (too-long h) = rw (ne-eqb (length p) m (λ e. omega arith)) refl
+lost-bad m p (no-mark h) = rw h (and-false (eqb (length p) m))
 
--- the bit of place k, or none
-abbrev bitIf : Bool → ℕ → ℕ
-bitIf t k = cond t (2 ^ k) 0
+lost-first : (m : ℕ) (p : List ℕ) (as′ : List (List ℕ)) → whole m p ≡ false → allWhole m (p ∷ as′) ≡ false
+unfolding allWhole
+lost-first m p as′ e = rw e refl
 
-double : (t : Bool) (k : ℕ) → bitIf t (suc k) ≡ 2 * bitIf t k
-double true k = omega (arith, pow-suc 2 k)
-double false k = refl
+lost : (m : ℕ) (p rest : List ℕ) → Lost m p → allWhole m (alternativesFrom p rest) ≡ false
+unfolding alternativesFrom
+lost m p [] h = lost-first m p [] (lost-bad m p h)
+lost m p (b ∷ bs) h = go (eqb b 124) (lost m (p ++ b ∷ []) bs (lost-more m p b h))
+  where
+    go : (t : Bool) → allWhole m (alternativesFrom (p ++ b ∷ []) bs) ≡ false → allWhole m (cond t (p ∷ alternativesFrom [] bs) (alternativesFrom (p ++ b ∷ []) bs)) ≡ false
+    go true f = lost-first m p (alternativesFrom [] bs) (lost-bad m p h)
+    go false f = f
 
-alone : (t : Bool) → one t + 2 * 0 ≡ bitIf t 0 + 0
-alone true = refl
-alone false = refl
+-- a dot among the marks
+dot-lost : (m : ℕ) (rest : List ℕ) → allWhole m (alternativesFrom [] (46 ∷ rest)) ≡ false
+unfolding alternativesFrom allMarks
+dot-lost m rest = lost m (46 ∷ []) rest (no-mark refl)
 
-known-more : (p : List ℕ) (b : ℕ) → knownMask (p ++ b ∷ []) ≡ bitIf (not (eqb b 63)) (length p) + knownMask p
-unfolding knownMask
-known-more [] b = alone (not (eqb b 63))
-known-more (a ∷ p) b = omega (arith, known-more p b, double (not (eqb b 63)) (length p))
+-- how an alternative goes on: with a bar, and with any other byte
+from-bar : (p rest : List ℕ) (b : ℕ) → b ≡ 124 → alternativesFrom p (b ∷ rest) ≡ p ∷ alternativesFrom [] rest
+unfolding alternativesFrom
+from-bar p rest b e = rw (eq-eqb b 124 e) refl
 
-value-more : (p : List ℕ) (b : ℕ) → valueMask (p ++ b ∷ []) ≡ bitIf (eqb b 49) (length p) + valueMask p
-unfolding valueMask
-value-more [] b = alone (eqb b 49)
-value-more (a ∷ p) b = omega (arith, value-more p b, double (eqb b 49) (length p))
+from-other : (p rest : List ℕ) (b : ℕ) → (b ≡ 124 → ⊥) → alternativesFrom p (b ∷ rest) ≡ alternativesFrom (p ++ b ∷ []) rest
+unfolding alternativesFrom
+from-other p rest b n = rw (ne-eqb b 124 n) refl
 
-known-lt : (p : List ℕ) → knownMask p < 2 ^ length p
-unfolding knownMask
-known-lt [] = omega arith
-known-lt (a ∷ p) = omega (arith, known-lt p, one-le-one (not (eqb a 63)), pow-suc 2 (length p))
-
-value-lt : (p : List ℕ) → valueMask p < 2 ^ length p
-unfolding valueMask
-value-lt [] = omega arith
-value-lt (a ∷ p) = omega (arith, value-lt p, one-le-one (eqb a 49), pow-suc 2 (length p))
-
-or-bit : (w k : ℕ) → k < 6 → w < 2 ^ k → bitOr w (1 * 2 ^ k % 2 ^ 8) ≡ 2 ^ k + w
-or-bit w k h l = rw (shl-exact {a = 1} 1 k 8 (omega arith) (omega arith)) (or-shifted-r 1 k w l ∙ omega arith)
-
--- ---- one mark more
+-- ---- whole alternatives
 
 all-more : (p : List ℕ) (b : ℕ) → allMarks p ≡ true → isMark b ≡ true → allMarks (p ++ b ∷ []) ≡ true
 unfolding allMarks
 all-more [] b h e = rw e refl
-all-more (a ∷ p) b h e = go (isMark a) h (λ g. all-more p b g e)
-  where
-    go : (t : Bool) → (t && allMarks p) ≡ true → (allMarks p ≡ true → allMarks (p ++ b ∷ []) ≡ true) → (t && allMarks (p ++ b ∷ [])) ≡ true
-    go true g f = f g
-    go false g f = g
+all-more (a ∷ p) b h e = let z = and-split (isMark a) (allMarks p) h in ap₂ _&&_ (z .0) (all-more p b (z .1) e)
 
-module _ (m : ℕ) (part : List ℕ) (q : Masks) (b : ℕ) (low : q .count < m) (h : Marked m part q) where
-  marked : (r : Masks) → r .count ≡ q .count + 1 → isMark b ≡ true → r .known ≡ knownMask (part ++ b ∷ []) → r .value ≡ valueMask (part ++ b ∷ []) → Marked m (part ++ b ∷ []) r
-  marked r n e k v = record {
-    all = all-more part b (h .all) e;
-    few = omega (arith, h .count, length-append part (b ∷ []));
-    count = omega (arith, h .count, length-append part (b ∷ []));
-    known = k;
-    value = v;
-  }
+pub all-whole : (m : ℕ) (as′ : List (List ℕ)) (a : List ℕ) → allWhole m as′ ≡ true → length a ≡ m → allMarks a ≡ true → allWhole m (as′ ++ a ∷ []) ≡ true
+unfolding allWhole
+all-whole m [] a h e f = rw (eq-eqb (length a) m e, f) refl
+all-whole m (c ∷ as′) a h e f = let z = and-split (whole m c) (allWhole m as′) h in ap₂ _&&_ (z .0) (all-whole m as′ a (z .1) e f)
 
-  or-known : q .count < 6 → bitOr (q .known) (1 * 2 ^ q .count % 2 ^ 8) ≡ 2 ^ length part + knownMask part
-  or-known l = rw (h .known, h .count) (or-bit (knownMask part) (length part) (omega (arith, h .count)) (known-lt part))
+-- no mark has come
+none-marked : allMarks [] ≡ true
+unfolding allMarks
+none-marked = refl
 
-  or-value : q .count < 6 → bitOr (q .value) (1 * 2 ^ q .count % 2 ^ 8) ≡ 2 ^ length part + valueMask part
-  or-value l = rw (h .value, h .count) (or-bit (valueMask part) (length part) (omega (arith, h .count)) (value-lt part))
+all-fit : (l : ℕ) → l < 64 → bit l 18446744073709551615 ≡ fits [] l
+unfolding fits
+all-fit l h = bit-all 64 l h
 
-  known-is : (z : ℕ) → b ≡ z → knownMask (part ++ b ∷ []) ≡ bitIf (not (eqb z 63)) (length part) + knownMask part
-  known-is z e = known-more part b ∙ ap (λ (y : ℕ). bitIf (not (eqb y 63)) (length part) + knownMask part) e
-
-  value-is : (z : ℕ) → b ≡ z → valueMask (part ++ b ∷ []) ≡ bitIf (eqb z 49) (length part) + valueMask part
-  value-is z e = value-more part b ∙ ap (λ (y : ℕ). bitIf (eqb y 49) (length part) + valueMask part) e
-
-  same-value : (z : ℕ) → b ≡ z → eqb z 49 ≡ false → q .value ≡ valueMask (part ++ b ∷ [])
-  same-value z e f = h .value ∙ sym (rw f at (value-is z e) ∙ zero-add (valueMask part))
-
-  pub zero-mark : b ≡ 48 → q .count < 6 → Marked m (part ++ b ∷ []) (record { count = q .count + 1; known = bitOr (q .known) (1 * 2 ^ q .count % 2 ^ 8); value = q .value })
-  zero-mark e l = marked _ refl (rw e refl) (or-known l ∙ sym (known-is 48 e)) (same-value 48 e refl)
-
-  pub one-mark : b ≡ 49 → q .count < 6 → Marked m (part ++ b ∷ []) (record { count = q .count + 1; known = bitOr (q .known) (1 * 2 ^ q .count % 2 ^ 8); value = bitOr (q .value) (1 * 2 ^ q .count % 2 ^ 8) })
-  one-mark e l = marked _ refl (rw e refl) (or-known l ∙ sym (known-is 49 e)) (or-value l ∙ sym (value-is 49 e))
-
-  pub open-mark : b ≡ 63 → Marked m (part ++ b ∷ []) (record { count = q .count + 1; known = q .known; value = q .value })
-  open-mark e = marked _ refl (rw e refl) (h .known ∙ sym (known-is 63 e ∙ zero-add (knownMask part))) (same-value 63 e refl)
+pub none-parted : (m : ℕ) → Parted m [] (record { set = 0; count = 0; letters = 18446744073709551615 })
+unfolding allWhole fitsOne
+none-parted m = record {
+  done = [];
+  last = [];
+  splits = λ rest. refl;
+  whole = refl;
+  marks = none-marked;
+  few = omega arith;
+  set = λ l h. bit-none l;
+  count = refl;
+  letters = all-fit;
+}
 
 -- ---- one byte more
 
-pub mark-none : (b : ℕ) → (b ≡ 48 → ⊥) → (b ≡ 49 → ⊥) → (b ≡ 63 → ⊥) → isMark b ≡ false
-mark-none b h i j = simp (ne-eqb b 48 h, ne-eqb b 49 i, ne-eqb b 63 j)
+module _ (m : ℕ) (part : List ℕ) (b : ℕ) where
+  -- a byte after a malformed start
+  pub still : Spoiled m part → Spoiled m (part ++ b ∷ [])
+  still h rest = rw (append-snoc part b rest) (h (b ∷ rest))
 
-pub first-dot : (m : ℕ) (part : List ℕ) (q : Masks) (b : ℕ) → q .count ≡ 0 → b ≡ 46 → Marked m part q → part ++ b ∷ [] ≡ 46 ∷ []
-first-dot m [] q b e d h = rw d refl
-first-dot m (a ∷ part) q b e d h = absurd (omega (arith, h .count))
+  module _ (q : Alternatives) (dot : length part ≡ 0 → b ≡ 46 → ⊥) (h : Parted m part q) where
+    spoil : ((rest : List ℕ) → allWhole m (alternativesFrom (h .last) (b ∷ rest)) ≡ false) → Spoiled m (part ++ b ∷ [])
+    spoil e rest =
+        rw (append-snoc part b rest)
+        (read-bad m (part ++ b ∷ rest) (omega (arith, long part b rest)) (not-dot part b rest dot)
+        (rw (h .splits (b ∷ rest)) (bad-behind m (h .done) (alternativesFrom (h .last) (b ∷ rest)) (e rest))))
 
-pub late-dot : (m : ℕ) (part : List ℕ) (q : Masks) (b : ℕ) → (q .count ≡ 0 → ⊥) → b ≡ 46 → Marked m part q → Spoiled m (part ++ b ∷ [])
-late-dot m part q b e d h = no-mark m part b (λ z f. e (h .count ∙ z)) (rw d refl)
+    -- a bar behind too few marks
+    pub early-bar : b ≡ 124 → (q .count ≡ m → ⊥) → Spoiled m (part ++ b ∷ [])
+    early-bar e n =
+        spoil (λ rest. rw (from-bar (h .last) rest b e) (lost-first m (h .last) (alternativesFrom [] rest) (rw (ne-eqb (length (h .last)) m (λ z. n (h .count ∙ z))) refl)))
+
+    -- one mark too many
+    pub one-more : (b ≡ 124 → ⊥) → m ≤ q .count → Spoiled m (part ++ b ∷ [])
+    one-more n l = spoil (λ rest. rw (from-other (h .last) rest b n) (lost m (h .last ++ b ∷ []) rest (too-long (omega (arith, h .count, length-append (h .last) (b ∷ []))))))
+
+    -- a byte that is neither mark nor bar
+    pub other-byte : (b ≡ 124 → ⊥) → isMark b ≡ false → Spoiled m (part ++ b ∷ [])
+    other-byte n e = spoil (λ rest. rw (from-other (h .last) rest b n) (lost m (h .last ++ b ∷ []) rest (no-mark (no-marks (h .last) b e))))
+
+    marked : (r : Alternatives) → Parted m (part ++ b ∷ []) r → Marked m (part ++ b ∷ []) r
+    marked r p = record { some = omega (arith, long part b []); no-dot = not-dot part b [] dot; parted = p }
+
+    -- a bar behind m marks
+    pub bar : b ≡ 124 → q .count ≡ m → Marked m (part ++ b ∷ []) (record { set = bitOr (q .set) (q .letters); count = 0; letters = 18446744073709551615 })
+    bar e n = marked _ (record {
+      done = h .done ++ h .last ∷ [];
+      last = [];
+      splits = λ rest.
+          ap (alternativesFrom []) (append-snoc part b rest) ∙ h .splits (b ∷ rest) ∙ ap (λ (z : List (List ℕ)). h .done ++ z) (from-bar (h .last) rest b e)
+          ∙ sym (append-assoc (h .done) (h .last ∷ []) (alternativesFrom [] rest));
+      whole = all-whole m (h .done) (h .last) (h .whole) (sym (h .count) ∙ n) (h .marks);
+      marks = none-marked;
+      few = omega arith;
+      set = λ l g. bit-or l (q .set) (q .letters) ∙ ap₂ _||_ (h .set l g) (h .letters l g) ∙ sym (one-more-fits (h .done) (h .last) l);
+      count = refl;
+      letters = all-fit;
+    })
+
+    -- a mark
+    pub one-mark-more : (letters : ℕ) → (b ≡ 124 → ⊥) → q .count < m → isMark b ≡ true
+        → ((l : ℕ) → l < 64 → bit l letters ≡ (bit l (q .letters) && (Bool·beq (bit (q .count) l) (eqb b 49) || eqb b 63)))
+        → Marked m (part ++ b ∷ []) (record { set = q .set; count = q .count + 1; letters = letters })
+    one-mark-more letters n low e f = marked _ (record {
+      done = h .done;
+      last = h .last ++ b ∷ [];
+      splits = λ rest. ap (alternativesFrom []) (append-snoc part b rest) ∙ h .splits (b ∷ rest) ∙ ap (λ (z : List (List ℕ)). h .done ++ z) (from-other (h .last) rest b n);
+      whole = h .whole;
+      marks = all-more (h .last) b (h .marks) e;
+      few = omega (arith, h .count, length-append (h .last) (b ∷ []));
+      set = h .set;
+      count = omega (arith, h .count, length-append (h .last) (b ∷ []));
+      letters = λ l g.
+          f l g ∙ ap₂ _&&_ (h .letters l g) (sym (mark-fits b (q .count) l e) ∙ ap (λ (k : ℕ). suits b (digit k l)) (h .count)) ∙ sym (fits-more (h .last) b l);
+    })
+
+-- ---- the first byte, and a dot
+
+pub first-dot : (part : List ℕ) (b : ℕ) → part ≡ [] → b ≡ 46 → part ++ b ∷ [] ≡ 46 ∷ []
+first-dot part b e d = rw (e, d) refl
 
 pub past-dot : (m : ℕ) (part : List ℕ) (b : ℕ) → part ≡ 46 ∷ [] → Spoiled m (part ++ b ∷ [])
-past-dot m part b e = rw e (after-dot m b)
-
-pub none-marked : (m : ℕ) → Marked m [] (record { count = 0; known = 0; value = 0 })
-unfolding allMarks knownMask valueMask
-none-marked m = record { all = refl; few = omega arith; count = refl; known = refl; value = refl }
+past-dot m part b e rest = rw (e) (after m b rest)
+  where
+    after : (m b : ℕ) (rest : List ℕ) → readLine m (46 ∷ b ∷ rest) ≡ malformed
+    after m b rest = read-bad m (46 ∷ b ∷ rest) (omega arith) refl (dot-lost m (b ∷ rest))

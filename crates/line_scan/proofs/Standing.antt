@@ -1,57 +1,68 @@
 -- What a line stands for, by what was kept of it.
-use mathlib.Core.Path.{_≡_, refl, sym, ap, _∙_}
-use mathlib.Core.Bool.{Bool, true, false, true≢false, and-true}
-use mathlib.Core.List.{List, [], _∷_, append-nil}
-use Prim.Native.Nat.{ℕ, _<_}
+use mathlib.Core.Path.{_≡_, refl, sym, ap, ap₂, _∙_}
+use mathlib.Core.Bool.{Bool, true, false, cond, _&&_, _||_, and-comm, true≢false}
+use mathlib.Core.List.{List, [], _∷_, _++_, append-nil}
+use Prim.Native.Nat.{ℕ, _+_, _^_, _≤_, _<_}
 use native.Mathlib.Omega.{arith}
-use lib.Dec.{eqb}
+use lib.Dec.{ltb}
 use lib.ListN.{length}
-use borrow.Author.Tests.{eq-eqb, ne-eqb, eqb-true}
+use lib.Pow.{pow-mono}
+use borrow.Author.Tests.{ne-eqb, lt-ltb}
+use Rattle.words.specs.Bits.{bit, fromBits}
+use Rattle.words.proofs.BitLaws.{bit-none}
+use Rattle.words.proofs.FromBits.{from-bit, from-lt, from-word}
+use Rattle.letters.specs.Sets.{badSet}
+use Rattle.letters.proofs.SetLaws.{bad-within}
 use Rattle.claims.specs.Book.{round, closing}
-use Rattle.line_scan.specs.Lines.{isMark, allMarks, knownMask, valueMask, isDot, blank, calls, malformed, readLine}
-use Rattle.line_scan.specs.Scan.{Marked, Spoiled}
-use Rattle.line_scan.specs.declared.Masks.{Masks}
-use Rattle.line_scan.proofs.Scanning.{read-bad}
+use Rattle.line_scan.specs.Lines.{alternativesFrom, alternatives, allWhole, fitsOne, lineSet, isDot, blank, calls, malformed, readLine}
+use Rattle.line_scan.specs.Scan.{Parted, Marked, Spoiled}
+use Rattle.line_scan.specs.declared.Alternatives.{Alternatives}
+use Rattle.line_scan.proofs.Fitting.{one-more-fits, some-alternative, some-letter}
+use Rattle.line_scan.proofs.Scanning.{read-bad, bad-behind, all-whole}
 
-no-dot : (b : ℕ) → isMark b ≡ true → eqb b 46 ≡ false
-no-dot b h = go (eqb b 46) refl
-  where
-    go : (t : Bool) → eqb b 46 ≡ t → eqb b 46 ≡ false
-    go true e = absurd (true≢false (sym h ∙ ap isMark (eqb-true b 46 e)))
-    go false e = e
-
-marks-no-dot : (l : List ℕ) → allMarks l ≡ true → isDot l ≡ false
-unfolding allMarks
-marks-no-dot [] h = refl
-marks-no-dot (b ∷ []) h = no-dot b (sym (and-true (isMark b)) ∙ h)
-marks-no-dot (b ∷ c ∷ l) h = refl
-
-marks-line : (m : ℕ) (l : List ℕ) → allMarks l ≡ true → length l ≡ m → (length l ≡ 0 → ⊥) → readLine m l ≡ calls (round (knownMask l) (valueMask l))
+round-line : (m : ℕ) (l : List ℕ) → 0 < length l → isDot l ≡ false → allWhole m (alternatives l) ≡ true → readLine m l ≡ calls (round (lineSet m l))
 unfolding readLine
-marks-line m [] a e n = absurd (n refl)
-marks-line m (b ∷ bs) a e n = simp (marks-no-dot (b ∷ bs) a, eq-eqb (length (b ∷ bs)) m e, a)
+round-line m [] h d e = absurd (omega arith)
+round-line m (b ∷ bs) h d e = simp (d, e)
 
-module _ (m : ℕ) (part : List ℕ) (q : Masks) (h : Marked m part q) where
-  pub marked-blank : q .count ≡ 0 → part ≡ []
-  marked-blank e = go part (sym (h .count) ∙ e)
-    where
-      go : (p : List ℕ) → length p ≡ 0 → p ≡ []
-      go [] e = refl
-      go (a ∷ p) e = absurd (omega arith)
+from-none : (p : List ℕ) → alternativesFrom p [] ≡ p ∷ []
+unfolding alternativesFrom
+from-none p = refl
 
-  pub marked-some : (q .count ≡ 0 → ⊥) → part ≡ [] → ⊥
-  marked-some n e = n (h .count ∙ ap length e)
+module _ (m : ℕ) (part : List ℕ) (q : Alternatives) (h : Marked m part q) where
+  abbrev p : Parted m part q
+  p = h .parted
 
-  pub marked-round : (q .count ≡ 0 → ⊥) → q .count ≡ m → readLine m part ≡ calls (round (q .known) (q .value))
-  marked-round n e = rw (h .known, h .value) (marks-line m part (h .all) (sym (h .count) ∙ e) (λ z. n (h .count ∙ z)))
+  parts : alternatives part ≡ p .done ++ p .last ∷ []
+  parts = ap alternatives (sym (append-nil part)) ∙ p .splits [] ∙ ap (λ (z : List (List ℕ)). p .done ++ z) (from-none (p .last))
 
-  -- too few marks
-  pub marked-short : (q .count ≡ 0 → ⊥) → (q .count ≡ m → ⊥) → readLine m part ≡ malformed
-  marked-short n e =
-      let some : 0 < length part = omega (arith, h .count) in
-      read-bad m part some (marks-no-dot part (h .all)) (rw (ne-eqb (length part) m (λ z. e (h .count ∙ z))) refl)
+  pub marked-some : part ≡ [] → ⊥
+  marked-some e = let z : length part ≡ 0 = ap length e in omega (arith, h .some)
+
+  -- a line that ends with a whole alternative, and its set
+  pub marked-round : (w : ℕ) → m ≤ 6 → w < 2 ^ 64 → ((l : ℕ) → l < 64 → bit l w ≡ ((bit l (q .set) || bit l (q .letters)) && ltb l (2 ^ m)))
+      → q .count ≡ m → readLine m part ≡ calls (round w)
+  unfolding lineSet
+  marked-round w few small f e =
+      let fit : 2 ^ m ≤ 2 ^ 6 = pow-mono few in
+      let whole : allWhole m (alternatives part) ≡ true = rw parts (all-whole m (p .done) (p .last) (p .whole) (sym (p .count) ∙ e) (p .marks)) in
+      let same : (l : ℕ) → l < 64 → bit l w ≡ (ltb l (2 ^ m) && fitsOne (alternatives part) l) =
+      λ l g. f l g ∙ and-comm (bit l (q .set) || bit l (q .letters)) (ltb l (2 ^ m))
+      ∙ ap (λ (t : Bool). ltb l (2 ^ m) && t) (ap₂ _||_ (p .set l g) (p .letters l g) ∙ sym (one-more-fits (p .done) (p .last) l) ∙ ap (λ (z : List (List ℕ)). fitsOne z l) (sym parts)) in
+      round-line m part (h .some) (h .no-dot) whole ∙ ap (λ (z : ℕ). calls (round z)) (sym (from-word 64 (2 ^ m) w (fitsOne (alternatives part)) fit small same))
+
+  -- too few marks behind the last bar
+  pub marked-short : (q .count ≡ m → ⊥) → readLine m part ≡ malformed
+  unfolding allWhole
+  marked-short n =
+      let short : allWhole m (p .last ∷ []) ≡ false = rw (ne-eqb (length (p .last)) m (λ z. n (p .count ∙ z))) refl in
+      read-bad m part (h .some) (h .no-dot) (rw parts (bad-behind m (p .done) (p .last ∷ []) short))
 
 module _ (m : ℕ) (part : List ℕ) where
+  pub blank-line : part ≡ [] → readLine m part ≡ blank
+  unfolding readLine
+  blank-line h = rw h refl
+
   pub dot-closing : part ≡ 46 ∷ [] → readLine m part ≡ calls closing
   unfolding readLine
   dot-closing h = rw h refl
@@ -65,3 +76,25 @@ module _ (m : ℕ) (part : List ℕ) where
   pub spoiled-some : Spoiled m part → part ≡ [] → ⊥
   unfolding readLine
   spoiled-some h e = let z : blank ≡ malformed = rw e at (h []) in true≢false cc
+
+-- ---- no line stands for a set that rule 21 refuses
+
+line-set-good : (m : ℕ) (l : List ℕ) → allWhole m (alternatives l) ≡ true → badSet m (lineSet m l) ≡ false
+unfolding lineSet
+line-set-good m l e =
+    let f : ℕ → Bool = fitsOne (alternatives l) in
+    let some = some-letter m (alternatives l) (some-alternative [] l) e in
+    let k = some .0 in
+    let there : bit k (fromBits (2 ^ m) f) ≡ true = from-bit (2 ^ m) f k ∙ ap₂ _&&_ (lt-ltb k (2 ^ m) (some .1)) (some .2) in
+    bad-within m (fromBits (2 ^ m) f) (λ z. true≢false (sym there ∙ ap (bit k) z ∙ bit-none k)) (from-lt (2 ^ m) f)
+
+pub good-line : (m : ℕ) (l : List ℕ) (w : ℕ) → readLine m l ≡ calls (round w) → badSet m w ≡ false
+unfolding readLine
+good-line m [] w e = absurd (true≢false cc)
+good-line m (b ∷ bs) w e = go (isDot (b ∷ bs)) (allWhole m (alternatives (b ∷ bs))) refl e
+  where
+    go : (d a : Bool) → allWhole m (alternatives (b ∷ bs)) ≡ a
+        → cond d (calls closing) (cond a (calls (round (lineSet m (b ∷ bs)))) malformed) ≡ calls (round w) → badSet m w ≡ false
+    go true a h e = absurd (true≢false cc)
+    go false false h e = absurd (true≢false cc)
+    go false true h e = let z : lineSet m (b ∷ bs) ≡ w = cc in rw (← z) (line-set-good m (b ∷ bs) h)

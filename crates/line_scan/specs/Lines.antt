@@ -1,11 +1,11 @@
--- The lines of the program's standard input and what each stands for (01, "The journal program").
+-- The lines of the program's standard input and what each stands for (01, "The journal program"; 02, W4).
 -- Manual: "The program".
-use mathlib.Core.Bool.{Bool, true, false, cond, not, _&&_, _||_}
+use mathlib.Core.Bool.{Bool, true, false, cond, _&&_, _||_}
 use mathlib.Core.List.{List, [], _∷_, _++_}
-use Prim.Native.Nat.{ℕ, _+_, _*_}
+use Prim.Native.Nat.{ℕ, _+_, _/_, _%_, _^_}
 use lib.Dec.{eqb}
 use lib.ListN.{length}
-use Rattle.words.specs.Below.{one}
+use Rattle.words.specs.Bits.{fromBits}
 use Rattle.claims.specs.Book.{Call, round, closing}
 
 -- the lines from here on, when `part` is what has come of the first: a last line may lack its line feed, and the empty end after a last line
@@ -38,14 +38,35 @@ unfoldable pub allMarks : List ℕ → Bool
 allMarks [] = true
 allMarks (b ∷ bs) = isMark b && allMarks bs
 
--- the masks of a line of marks, input 0 first: every input but the `?` is known, and a `1` has the value 1
-unfoldable pub knownMask : List ℕ → ℕ
-knownMask [] = 0
-knownMask (b ∷ bs) = one (not (eqb b 63)) + 2 * knownMask bs
+-- the alternatives of a line (02, W4), which bars part, when `part` is what has come of the first
+unfoldable pub alternativesFrom : List ℕ → List ℕ → List (List ℕ)
+alternativesFrom part [] = part ∷ []
+alternativesFrom part (b ∷ bs) = cond (eqb b 124) (part ∷ alternativesFrom [] bs) (alternativesFrom (part ++ (b ∷ [])) bs)
 
-unfoldable pub valueMask : List ℕ → ℕ
-valueMask [] = 0
-valueMask (b ∷ bs) = one (eqb b 49) + 2 * valueMask bs
+abbrev pub alternatives : List ℕ → List (List ℕ)
+alternatives l = alternativesFrom [] l
+
+-- m marks
+abbrev pub whole : ℕ → List ℕ → Bool
+whole m a = eqb (length a) m && allMarks a
+
+unfoldable pub allWhole : ℕ → List (List ℕ) → Bool
+allWhole m [] = true
+allWhole m (a ∷ as′) = whole m a && allWhole m as′
+
+-- a letter fits marks, input 0 first: `0` and `1` are the input's value, `?` is either
+unfoldable pub fits : List ℕ → ℕ → Bool
+fits [] l = true
+fits (b ∷ bs) l = (eqb b 63 || eqb b (48 + l % 2)) && fits bs (l / 2)
+
+-- it fits one of the alternatives
+unfoldable pub fitsOne : List (List ℕ) → ℕ → Bool
+fitsOne [] l = false
+fitsOne (a ∷ as′) l = fits a l || fitsOne as′ l
+
+-- the set of a line with m inputs: the letters below 2^m that fit one of its alternatives
+unfoldable pub lineSet : ℕ → List ℕ → ℕ
+lineSet m l = fromBits (2 ^ m) (fitsOne (alternatives l))
 
 pub data Line : Type 0 where
   blank : Line
@@ -60,7 +81,7 @@ isDot (b ∷ c ∷ bs) = false
 
 -- what a line stands for in a journal of m inputs
 abbrev pub nonblank : ℕ → List ℕ → Line
-nonblank m l = cond (isDot l) (calls closing) (cond (eqb (length l) m && allMarks l) (calls (round (knownMask l) (valueMask l))) malformed)
+nonblank m l = cond (isDot l) (calls closing) (cond (allWhole m (alternatives l)) (calls (round (lineSet m l))) malformed)
 
 unfoldable pub readLine : ℕ → List ℕ → Line
 readLine m [] = blank

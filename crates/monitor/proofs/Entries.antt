@@ -1,11 +1,8 @@
 -- From the parts of a call to its definition: the sheet's checks, then the call's, then what is done.
 use mathlib.Core.Path.{_≡_, refl, sym, _∙_, subst}
-use mathlib.Core.Bool.{false}
 use mathlib.Core.List.{List, [], _∷_, _++_}
-use Prim.Native.Nat.{ℕ, _^_, _<_, _≤_}
-use native.Mathlib.Omega.{arith}
+use Prim.Native.Nat.{ℕ}
 use lib.ListN.{length, replicate}
-use lib.Pow.{pow-mono}
 use Rattle.outcomes.specs.Numbers.{untold}
 use Rattle.outcomes.specs.Decided.{Check, Decided}
 use Rattle.outcomes.specs.declared.Refusal.{Refusal}
@@ -13,7 +10,6 @@ use Rattle.outcomes.specs.declared.Refusal.the-variants.{Storage}
 use Rattle.outcomes.specs.declared.Outcome.{Outcome}
 use Rattle.outcomes.specs.declared.Outcome.the-variants.{Accepted, Refused}
 use Rattle.outcomes.proofs.Decisions.{decided-refused, decided-accepted}
-use Rattle.words.specs.Bits.{bit}
 use Rattle.sheet.specs.ReadingChecks.{inputsOf, outputsOf}
 use Rattle.sheet.specs.Reading.{ruleSheet}
 use Rattle.sheet.specs.declared.Sheet.{Sheet}
@@ -21,17 +17,13 @@ use Rattle.sheet.proofs.Formed.{counts-of}
 use Rattle.circular.specs.SheetChecks.{sheetChecks, AcceptedSheet}
 use Rattle.record.specs.Record.{Fresh}
 use Rattle.record.specs.declared.JournalRecord.{JournalRecord}
-use Rattle.completions.specs.Completion.{masked}
-use Rattle.letters.specs.Masks.{badMasks}
-use Rattle.letters.specs.Matching.{matches}
-use Rattle.letters.proofs.Matching.{letters-masked}
+use Rattle.completions.specs.Completion.{members}
 use Rattle.checks.specs.JournalChecks.{tooShort, roundRules, closingRules, prepareChecks, roundChecks, closingChecks}
 use Rattle.effects.specs.Results.{Prepared, RoundDone, ClosingDone}
 use Rattle.effects.specs.declared.PrepareAnswer.{PrepareAnswer}
 use Rattle.effects.specs.declared.RoundAnswer.{RoundAnswer}
 use Rattle.effects.specs.declared.ClosingAnswer.{ClosingAnswer}
 use Rattle.effects.proofs.Rounding.{sheet-outputs}
-use Rattle.effects.proofs.Done.{round-as}
 use Rattle.monitor.specs.Entries.{Prepares, PrepareCall, Rounds, RoundCall, Closes, CloseCall}
 
 -- ---- the checks
@@ -46,8 +38,8 @@ module _ (bs : List ℕ) (x : Sheet) (ok : AcceptedSheet bs x) where
   behind-sheet : (cs : List Check) (o : Outcome) → Decided cs o → Decided (sheetChecks bs ++ cs) o
   behind-sheet cs o d = decided-accepted (sheetChecks bs) cs o (ok .decided) d
 
-  round-checks : (lent : ℕ) (r : JournalRecord) (known val : ℕ) (o : Outcome) → Decided (roundRules (x .inputs) (x .outputs) lent r known val) o → Decided (roundChecks bs lent r known val) o
-  round-checks lent r known val o d = behind-sheet (roundRules (inputsOf bs) (outputsOf bs) lent r known val) o (rw (← same-inputs, ← same-outputs) d)
+  round-checks : (lent : ℕ) (r : JournalRecord) (letters : ℕ) (o : Outcome) → Decided (roundRules (x .inputs) (x .outputs) lent r letters) o → Decided (roundChecks bs lent r letters) o
+  round-checks lent r letters o d = behind-sheet (roundRules (inputsOf bs) (outputsOf bs) lent r letters) o (rw (← same-inputs, ← same-outputs) d)
 
   closing-checks : (lent : ℕ) (r : JournalRecord) (o : Outcome) → Decided (closingRules (x .outputs) lent r) o → Decided (closingChecks bs lent r) o
   closing-checks lent r o d = behind-sheet (closingRules (outputsOf bs) lent r) o (rw (← same-outputs) d)
@@ -58,9 +50,9 @@ pub prepare-refused : (bs s : List ℕ) (a : PrepareAnswer) (e : Refusal) → (a
     → Decided (prepareChecks bs (length s)) (Refused e) → PrepareCall bs s s a
 prepare-refused bs s a e p d = record { decided = rw (p .0) d; result = subst (Prepares bs s s a) (sym (p .0)) (refl, p .1, p .2) }
 
-pub round-refused : (bs s : List ℕ) (r : JournalRecord) (known val : ℕ) (a : RoundAnswer) (e : Refusal) → (a .outcome ≡ Refused e) × (a .record ≡ r) × (a .verdicts ≡ replicate 7 untold)
-    → Decided (roundChecks bs (length s) r known val) (Refused e) → RoundCall bs s s r known val a
-round-refused bs s r known val a e p d = record { decided = rw (p .0) d; result = subst (Rounds bs s s r known val a) (sym (p .0)) (refl, p .1, p .2) }
+pub round-refused : (bs s : List ℕ) (r : JournalRecord) (letters : ℕ) (a : RoundAnswer) (e : Refusal) → (a .outcome ≡ Refused e) × (a .record ≡ r) × (a .verdicts ≡ replicate 7 untold)
+    → Decided (roundChecks bs (length s) r letters) (Refused e) → RoundCall bs s s r letters a
+round-refused bs s r letters a e p d = record { decided = rw (p .0) d; result = subst (Rounds bs s s r letters a) (sym (p .0)) (refl, p .1, p .2) }
 
 pub closing-refused : (bs s : List ℕ) (r : JournalRecord) (a : ClosingAnswer) (e : Refusal) → (a .outcome ≡ Refused e) × (a .record ≡ r) × (a .verdicts ≡ replicate 7 untold) × (a .shares ≡ replicate 7 0)
     → Decided (closingChecks bs (length s) r) (Refused e) → CloseCall bs s r a
@@ -70,8 +62,8 @@ closing-refused bs s r a e p d = record { decided = rw (p .0) d; result = subst 
 pub prepare-unread : (bs : List ℕ) (lent : ℕ) (e : Refusal) → Decided (sheetChecks bs) (Refused e) → Decided (prepareChecks bs lent) (Refused e)
 prepare-unread bs lent e d = decided-refused (sheetChecks bs) (tooShort lent ∷ []) e d
 
-pub round-unread : (bs : List ℕ) (lent : ℕ) (r : JournalRecord) (known val : ℕ) (e : Refusal) → Decided (sheetChecks bs) (Refused e) → Decided (roundChecks bs lent r known val) (Refused e)
-round-unread bs lent r known val e d = decided-refused (sheetChecks bs) (roundRules (inputsOf bs) (outputsOf bs) lent r known val) e d
+pub round-unread : (bs : List ℕ) (lent : ℕ) (r : JournalRecord) (letters : ℕ) (e : Refusal) → Decided (sheetChecks bs) (Refused e) → Decided (roundChecks bs lent r letters) (Refused e)
+round-unread bs lent r letters e d = decided-refused (sheetChecks bs) (roundRules (inputsOf bs) (outputsOf bs) lent r letters) e d
 
 pub closing-unread : (bs : List ℕ) (lent : ℕ) (r : JournalRecord) (e : Refusal) → Decided (sheetChecks bs) (Refused e) → Decided (closingChecks bs lent r) (Refused e)
 closing-unread bs lent r e d = decided-refused (sheetChecks bs) (closingRules (outputsOf bs) lent r) e d
@@ -88,22 +80,17 @@ module _ (bs : List ℕ) (x : Sheet) (ok : AcceptedSheet bs x) where
     result = subst (Prepares bs s t a) (sym e) (ruleSheet x, ok .reads, p);
   }
 
-  module _ (r : JournalRecord) (known val : ℕ) where
+  module _ (r : JournalRecord) (letters : ℕ) where
     pub round-turned-down : (s : List ℕ) (a : RoundAnswer) (e : Refusal) → (a .outcome ≡ Refused e) × (a .record ≡ r) × (a .verdicts ≡ replicate 7 untold)
-        → Decided (roundRules (x .inputs) (x .outputs) (length s) r known val) (Refused e) → RoundCall bs s s r known val a
-    round-turned-down s a e p d = round-refused bs s r known val a e p (round-checks bs x ok (length s) r known val (Refused e) d)
+        → Decided (roundRules (x .inputs) (x .outputs) (length s) r letters) (Refused e) → RoundCall bs s s r letters a
+    round-turned-down s a e p d = round-refused bs s r letters a e p (round-checks bs x ok (length s) r letters (Refused e) d)
 
-    pub round-done : (s t : List ℕ) (a : RoundAnswer) (letters : ℕ) → a .outcome ≡ Accepted
-        → Decided (roundRules (x .inputs) (x .outputs) (length s) r known val) Accepted → badMasks (x .inputs) known val ≡ false
-        → ((l : ℕ) → l < 64 → bit l letters ≡ matches known val 6 l) → RoundDone (ruleSheet x) s t r (λ l. bit l letters) a → RoundCall bs s t r known val a
-    round-done s t a letters e d m f p =
-        let few : x .inputs ≤ 6 = ok .usable .ranges .inputs in
-        let small : 2 ^ x .inputs ≤ 64 = pow-mono few in
-        record {
-          decided = rw e (round-checks bs x ok (length s) r known val Accepted d);
-          result = subst (Rounds bs s t r known val a) (sym e)
-              (ruleSheet x, ok .reads, round-as (ruleSheet x) s t r (λ l. bit l letters) (masked known val) a (λ l h. letters-masked (x .inputs) known val letters few m f l (omega arith)) p);
-        }
+    pub round-done : (s t : List ℕ) (a : RoundAnswer) → a .outcome ≡ Accepted
+        → Decided (roundRules (x .inputs) (x .outputs) (length s) r letters) Accepted → RoundDone (ruleSheet x) s t r (members letters) a → RoundCall bs s t r letters a
+    round-done s t a e d p = record {
+      decided = rw e (round-checks bs x ok (length s) r letters Accepted d);
+      result = subst (Rounds bs s t r letters a) (sym e) (ruleSheet x, ok .reads, p);
+    }
 
   pub closing-turned-down : (r : JournalRecord) (s : List ℕ) (a : ClosingAnswer) (e : Refusal) → (a .outcome ≡ Refused e) × (a .record ≡ r) × (a .verdicts ≡ replicate 7 untold) × (a .shares ≡ replicate 7 0)
       → Decided (closingRules (x .outputs) (length s) r) (Refused e) → CloseCall bs s r a

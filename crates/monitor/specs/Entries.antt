@@ -1,4 +1,4 @@
--- What a call of each entry means (01, "Completions and verdicts", each entry's definition; "What is turned down"): how it is decided, and by
+-- What a call of each entry means (01, "Completions and verdicts", each entry's definition; "What is turned down"; 02, W4): how it is decided, and by
 -- the outcome what is done, or that nothing but the refusal is given and what was lent or handed in has not altered.
 -- Manual: "Refusals".
 use mathlib.Core.Path.{_≡_}
@@ -12,7 +12,7 @@ use Rattle.outcomes.specs.declared.Outcome.the-variants.{Accepted, Refused}
 use Rattle.circular.specs.SheetChecks.{OfSheet}
 use Rattle.record.specs.Record.{Fresh}
 use Rattle.record.specs.declared.JournalRecord.{JournalRecord}
-use Rattle.completions.specs.Completion.{masked}
+use Rattle.completions.specs.Completion.{members}
 use Rattle.checks.specs.JournalChecks.{prepareChecks, roundChecks, closingChecks}
 use Rattle.effects.specs.Results.{Prepared, RoundDone, ClosingDone}
 use Rattle.effects.specs.declared.PrepareAnswer.{PrepareAnswer}
@@ -28,14 +28,14 @@ pub record PrepareCall (bs s t : List ℕ) (a : PrepareAnswer) : Type 0 where
   pub decided : Decided (prepareChecks bs (length s)) (a .outcome)
   pub result : Prepares bs s t a (a .outcome)
 
--- a round with the record r and its masks
-abbrev pub Rounds : List ℕ → List ℕ → List ℕ → JournalRecord → ℕ → ℕ → RoundAnswer → Outcome → Type 0
-Rounds bs s t r known val a Accepted = OfSheet bs (λ x. RoundDone x s t r (masked known val) a)
-Rounds bs s t r known val a (Refused e) = (t ≡ s) × (a .record ≡ r) × (a .verdicts ≡ replicate 7 untold)
+-- a round with the record r and its set of letters
+abbrev pub Rounds : List ℕ → List ℕ → List ℕ → JournalRecord → ℕ → RoundAnswer → Outcome → Type 0
+Rounds bs s t r letters a Accepted = OfSheet bs (λ x. RoundDone x s t r (members letters) a)
+Rounds bs s t r letters a (Refused e) = (t ≡ s) × (a .record ≡ r) × (a .verdicts ≡ replicate 7 untold)
 
-pub record RoundCall (bs s t : List ℕ) (r : JournalRecord) (known val : ℕ) (a : RoundAnswer) : Type 0 where
-  pub decided : Decided (roundChecks bs (length s) r known val) (a .outcome)
-  pub result : Rounds bs s t r known val a (a .outcome)
+pub record RoundCall (bs s t : List ℕ) (r : JournalRecord) (letters : ℕ) (a : RoundAnswer) : Type 0 where
+  pub decided : Decided (roundChecks bs (length s) r letters) (a .outcome)
+  pub result : Rounds bs s t r letters a (a .outcome)
 
 -- a closing, which only reads the storage
 abbrev pub Closes : List ℕ → List ℕ → JournalRecord → ClosingAnswer → Outcome → Type 0

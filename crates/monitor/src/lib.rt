@@ -74,38 +74,26 @@ pub fn prepare(sheet: &[u8], storage: &mut [u64]) -> PrepareAnswer
 
 // ---- Rounds
 
-pub fn round_on(
-    x: Sheet,
-    storage: &mut [u64],
-    r: JournalRecord,
-    known: u8,
-    value: u8,
-) -> RoundAnswer
+pub fn round_on(x: Sheet, storage: &mut [u64], r: JournalRecord, letters: u64) -> RoundAnswer
     requires { ⌜ IsAccepted x ⌝ }
-    ensures { λ a. ⌜ ((bs : List ℕ) → AcceptedSheet bs x → RoundCall bs (now (storage .entry)) (now (storage .exit)) r known value a) ⌝ }
+    ensures { λ a. ⌜ ((bs : List ℕ) → AcceptedSheet bs x → RoundCall bs (now (storage .entry)) (now (storage .exit)) r letters a) ⌝ }
 {
-    let outcome = checks::check_round(x.inputs, x.outputs, storage.len(), r, known, value);
+    let outcome = checks::check_round(x.inputs, x.outputs, storage.len(), r, letters);
     match outcome {
         Outcome::Refused(e) => refused_round(e, r),
-        Outcome::Accepted => effects::round(x, storage, r, letters::letters_of(known, value)),
+        Outcome::Accepted => effects::round(x, storage, r, letters),
     }
 }
 
-// One round of a journal: what was heard is the value's bits at the known places.
-pub fn round(
-    sheet: &[u8],
-    storage: &mut [u64],
-    before: JournalRecord,
-    known: u8,
-    value: u8,
-) -> RoundAnswer
-    ensures { λ a. ⌜ RoundCall (now (sheet .entry)) (now (storage .entry)) (now (storage .exit)) before known value a ⌝ }
+// One round of a journal: its letter is one of the set, in which bit l is letter l.
+pub fn round(sheet: &[u8], storage: &mut [u64], before: JournalRecord, letters: u64) -> RoundAnswer
+    ensures { λ a. ⌜ RoundCall (now (sheet .entry)) (now (storage .entry)) (now (storage .exit)) before letters a ⌝ }
 {
     let got = circular::accept_sheet(sheet);
     let outcome = got.outcome;
     match outcome {
         Outcome::Refused(e) => refused_round(e, before),
-        Outcome::Accepted => round_on(got.sheet, storage, before, known, value),
+        Outcome::Accepted => round_on(got.sheet, storage, before, letters),
     }
 }
 

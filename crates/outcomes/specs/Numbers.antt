@@ -1,11 +1,11 @@
--- The numbers of the refusals and the verdicts (01, "What is turned down", the table; "Completions and verdicts").
+-- The numbers of the refusals and the verdicts (01, "What is turned down", the table; "Completions and verdicts"; 02, W4).
 -- Manual: "Refusals".
 use mathlib.Core.Path.{_≡_}
 use mathlib.Core.List.{List, map}
 use Prim.Native.Nat.{ℕ, _<_, _≤_}
 use lib.ListN.{length, getD, take}
 use Rattle.outcomes.specs.declared.Refusal.{Refusal}
-use Rattle.outcomes.specs.declared.Refusal.the-variants.{Short, Mark, Version, Counts, Assumption, Length, Byte, Values, Leftover, Circular, Letter, Closed, Full, NoRound, Storage, Extent, Line, Record}
+use Rattle.outcomes.specs.declared.Refusal.the-variants.{Short, Mark, Version, Counts, Assumption, Length, Byte, Values, Leftover, Circular, Letter, Closed, Full, NoRound, Storage, Extent, Line, Record, RoundSet}
 use Rattle.outcomes.specs.declared.Outcome.{Outcome}
 use Rattle.outcomes.specs.declared.Outcome.the-variants.{Accepted, Refused}
 use Rattle.outcomes.specs.declared.Verdict.{Verdict}
@@ -50,6 +50,8 @@ refusalNo Extent = 16
 refusalNo Line = 17
 -- the record's rounds are over 1,000,000, or an output's counts don't add up to them
 refusalNo Record = 18
+-- a round's set of letters is empty or has a letter beyond m
+refusalNo RoundSet = 21
 
 -- An outcome as one number: 0 for accepted.
 abbrev pub outcomeNo : Outcome → ℕ

@@ -3,7 +3,7 @@ ghost use mathlib.Core.Path.{_≡_};
 ghost use lib.ListN.{replicate};
 ghost use Rattle.outcomes.specs.Numbers.{refusalNo, outcomeNo, verdictNo, untold};
 
-// One case for each rule of the table, in the table's order.
+// One case for each rule of the table, in the table's order. 19 and 20 have none.
 pub enum Refusal {
     Short,
     Mark,
@@ -23,6 +23,7 @@ pub enum Refusal {
     Extent,
     Line,
     Record,
+    RoundSet,
 }
 
 // What a check says: nothing is broken, or the first rule that is.
@@ -77,6 +78,7 @@ pub fn refusal_number(r: Refusal) -> u32
         Refusal::Extent => 16,
         Refusal::Line => 17,
         Refusal::Record => 18,
+        Refusal::RoundSet => 21,
     }
 }
 

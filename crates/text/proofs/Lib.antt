@@ -1,3 +1,2 @@
 pub mod VerdictLaws
 pub mod TallyLaws
-pub mod RefusalLaws

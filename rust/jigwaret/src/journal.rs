@@ -1,6 +1,6 @@
 //! Journals: rounds, closing, tallies.
 
-use crate::heard::Heard;
+use crate::letters::LetterSet;
 use crate::raw::{self, ANSWER_NUMBERS, RECORD_NUMBERS, STORAGE_WORDS};
 use crate::refusal::Refusal;
 use crate::sheet::Sheet;
@@ -50,11 +50,12 @@ impl Journal {
         Ok(Journal { sheet, storage, record, live_pairs: answer[0] as usize })
     }
 
-    /// Takes a round: a [`Heard`], or [`Masks`](crate::Masks).
-    pub fn round(&mut self, heard: impl Into<Heard>) -> Result<Verdicts, Refusal> {
+    /// Takes a round: the set of the letters that it may have been. [`Sheet::letters`] makes one of what
+    /// was heard.
+    pub fn round(&mut self, letters: LetterSet) -> Result<Verdicts, Refusal> {
         let mut answer = [0; ANSWER_NUMBERS];
-        let (sheet, masks) = (self.sheet.bytes(), heard.into().masks());
-        Refusal::outcome(raw::round(sheet, &mut self.storage, &mut self.record, masks, &mut answer))?;
+        let (sheet, bits) = (self.sheet.bytes(), letters.bits());
+        Refusal::outcome(raw::round(sheet, &mut self.storage, &mut self.record, bits, &mut answer))?;
         Ok(Verdicts::of_numbers(&answer[..self.sheet.outputs()]))
     }
 
@@ -104,12 +105,17 @@ impl Journal {
 #[cfg(test)]
 mod tests {
     use super::*;
-    use crate::heard::Masks;
+    use crate::heard::Heard;
     use crate::verdict::Verdict;
 
     fn session() -> Journal {
         let sheet = Sheet::new(include_bytes!("../../../examples/session/sheet.slr")).unwrap();
         Journal::prepare(sheet).unwrap()
+    }
+
+    /// A round of the session's sheet.
+    fn masks(known: u8, value: u8) -> LetterSet {
+        LetterSet::from_masks(2, known, value).unwrap()
     }
 
     #[test]
@@ -118,7 +124,7 @@ mod tests {
         assert_eq!((journal.live_pairs(), journal.rounds(), journal.is_closed()), (44, 0, false));
         let rounds = [(3, 1, "?1"), (2, 2, "11"), (1, 1, "?1"), (3, 0, "11"), (3, 2, "!!")];
         for (known, value, expected) in rounds {
-            assert_eq!(journal.round(Masks { known, value }).unwrap().to_string(), expected);
+            assert_eq!(journal.round(masks(known, value)).unwrap().to_string(), expected);
         }
         let closing = journal.close().unwrap();
         assert_eq!(closing.verdicts, [Verdict::Broken; 2]);
@@ -129,21 +135,28 @@ mod tests {
         assert_eq!([2, 6, 7, usize::MAX].map(|output| journal.counts(output)), [None; 4]);
     }
 
+    /// Sent and acknowledged, or neither; the masks that have both have every letter.
+    #[test]
+    fn alternatives() {
+        let mut journal = session();
+        assert_eq!(journal.round(masks(3, 0) | masks(3, 3)).unwrap().to_string(), "11");
+        assert_eq!(journal.round(masks(0, 0)).unwrap().to_string(), "?1");
+    }
+
     #[test]
     fn a_refused_call_changes_nothing() {
         let mut journal = session();
         assert_eq!(journal.close(), Err(Refusal::NoRound));
-        for (known, value) in [(4, 0), (0, 1), (1, 3), (255, 255), (0, 128)] {
-            assert_eq!(journal.round(Masks { known, value }), Err(Refusal::Letter));
-        }
-        for input in [2, 6, 7, 8, usize::MAX] {
-            assert_eq!(journal.round(Heard::nothing().with(input, true)), Err(Refusal::Letter));
+        for bits in [0, 1 << 4, 1 << 63, 0b11111, u64::MAX] {
+            assert_eq!(journal.round(bits.into()), Err(Refusal::RoundSet));
         }
         assert_eq!(journal.rounds(), 0);
-        assert_eq!(journal.round(Heard::nothing().with(0, true).with(1, false)).unwrap().to_string(), "?1");
+        let heard = Heard::nothing().with(0, true).with(1, false);
+        assert_eq!(journal.round(journal.sheet().letters(heard).unwrap()).unwrap().to_string(), "?1");
         assert_eq!(journal.close().unwrap().verdicts.to_string(), "01");
         assert_eq!(journal.close(), Err(Refusal::Closed));
-        assert_eq!(journal.round(Heard::nothing()), Err(Refusal::Closed));
+        assert_eq!(journal.round(masks(0, 0)), Err(Refusal::Closed));
+        assert_eq!(journal.round(0.into()), Err(Refusal::Closed));
         assert_eq!(journal.rounds(), 1);
     }
 }

@@ -1,7 +1,8 @@
 //! Verdicts on the journals of electronic shelf labels: a safe interface to the proved library.
 //!
-//! A [`Sheet`] names inputs and defines outputs over them. A [`Journal`] takes rounds in which some
-//! inputs were not heard, and answers each with a [`Verdict`] on every output.
+//! A [`Sheet`] names inputs and defines outputs over them. A [`Journal`] takes rounds, each the
+//! [`LetterSet`] of what it may have been, and answers with a [`Verdict`] on every output. What was
+//! [`Heard`] input by input makes such a set.
 //!
 //! ```
 //! use jigwaret::{Heard, Journal, Sheet, Verdict};
@@ -12,17 +13,21 @@
 //!     0x06, 0x40, 0x02, 0x41, 0x04, 0x61, 0x04, // what is sent is acknowledged now or in the next round
 //!     0x06, 0x41, 0x02, 0x40, 0x04, 0x50, 0x04, // what is acknowledged was sent now or one round earlier
 //! ])?;
+//! let sent = sheet.letters(Heard::nothing().with(0, true).with(1, false))?;
+//! let acknowledged = sheet.letters(Heard::nothing().with(1, true))?;
+//! let neither = sheet.letters(Heard::nothing().with(0, false).with(1, false))?;
+//! let both = sheet.letters(Heard::nothing().with(0, true).with(1, true))?;
 //! let mut journal = Journal::prepare(sheet)?;
 //!
 //! // Sent, and not acknowledged: the next round decides. There, only the acknowledgement was heard.
-//! let verdicts = journal.round(Heard::nothing().with(0, true).with(1, false))?;
-//! assert_eq!(verdicts, [Verdict::Open, Verdict::True]);
-//! let verdicts = journal.round(Heard::nothing().with(1, true))?;
-//! assert_eq!(verdicts, [Verdict::True, Verdict::True]);
+//! assert_eq!(journal.round(sent)?, [Verdict::Open, Verdict::True]);
+//! assert_eq!(journal.round(acknowledged)?, [Verdict::True, Verdict::True]);
+//! // Neither or both, and not known which.
+//! assert_eq!(journal.round(neither | both)?, [Verdict::True, Verdict::True]);
 //!
 //! let closing = journal.close()?;
 //! assert_eq!(closing.verdicts.to_string(), "11");
-//! assert_eq!(closing.shares, [500, 1000]);
+//! assert_eq!(closing.shares, [667, 1000]);
 //! # Ok::<(), jigwaret::Refusal>(())
 //! ```
 
@@ -35,13 +40,15 @@ pub mod raw;
 
 mod heard;
 mod journal;
+mod letters;
 mod number;
 mod refusal;
 mod sheet;
 mod verdict;
 
-pub use heard::{Heard, Masks};
+pub use heard::Heard;
 pub use journal::{Closing, Counts, Journal};
+pub use letters::LetterSet;
 pub use number::UnknownNumber;
 pub use refusal::Refusal;
 pub use sheet::{check, evaluate, Sheet};

@@ -5,8 +5,6 @@
 //! the call before left of these; else the answers say nothing about a journal. [`crate::Journal`] sees
 //! to that.
 
-use crate::heard::Masks;
-
 /// Returned where a call is accepted.
 pub const ACCEPTED: u32 = 0;
 /// Returned where a record or an answer has the wrong number of elements.
@@ -39,6 +37,7 @@ mod ffi {
             answer: *mut u32,
             answer_len: usize,
         ) -> u32;
+        pub fn jigwaret_letters(inputs: u8, known: u8, value: u8, letters: *mut u64) -> u32;
         pub fn jigwaret_round(
             sheet: *const u8,
             sheet_len: usize,
@@ -46,8 +45,7 @@ mod ffi {
             storage_len: usize,
             record: *mut u32,
             record_len: usize,
-            known: u8,
-            value: u8,
+            letters: u64,
             answer: *mut u32,
             answer_len: usize,
         ) -> u32;
@@ -102,8 +100,15 @@ pub fn prepare(sheet: &[u8], storage: &mut [u64], record: &mut [u32], answer: &m
     }
 }
 
-/// Takes a round into the record and storage and writes the verdicts into `answer`.
-pub fn round(sheet: &[u8], storage: &mut [u64], record: &mut [u32], heard: Masks, answer: &mut [u32]) -> u32 {
+/// Writes the set of the letters that agree with the masks, for so many inputs.
+pub fn letters(inputs: u8, known: u8, value: u8, letters: &mut u64) -> u32 {
+    // SAFETY: the library writes only the number.
+    unsafe { ffi::jigwaret_letters(inputs, known, value, letters) }
+}
+
+/// Takes a round into the record and storage and writes the verdicts into `answer`. Bit j of `letters`
+/// says that letter j may have been the one.
+pub fn round(sheet: &[u8], storage: &mut [u64], record: &mut [u32], letters: u64, answer: &mut [u32]) -> u32 {
     // SAFETY: the library reads the sheet and writes only inside the other slices.
     unsafe {
         ffi::jigwaret_round(
@@ -113,8 +118,7 @@ pub fn round(sheet: &[u8], storage: &mut [u64], record: &mut [u32], heard: Masks
             storage.len(),
             record.as_mut_ptr(),
             record.len(),
-            heard.known,
-            heard.value,
+            letters,
             answer.as_mut_ptr(),
             answer.len(),
         )
@@ -150,7 +154,7 @@ mod tests {
         let (mut storage, mut record, mut answer) = (vec![5; storage], vec![0; record], vec![5; answer]);
         let numbers = [
             close(SHEET, &storage, &mut record, &mut answer),
-            round(SHEET, &mut storage, &mut record, Masks::default(), &mut answer),
+            round(SHEET, &mut storage, &mut record, 0b1111, &mut answer),
             prepare(SHEET, &mut storage, &mut record, &mut answer),
         ];
         let untouched = storage.iter().all(|&word| word == 5) && answer.iter().all(|&number| number == 5);
@@ -176,5 +180,14 @@ mod tests {
         for (record, answer) in sizes {
             assert_eq!(returned(STORAGE_WORDS, record, answer), [WRONG_SIZES; 3]);
         }
+    }
+
+    #[test]
+    fn refused_masks_leave_the_set() {
+        let mut set = 5;
+        assert_eq!(letters(0, 0, 0, &mut set), Refusal::Counts.number());
+        assert_eq!(letters(6, 64, 0, &mut set), Refusal::Letter.number());
+        assert_eq!(set, 5);
+        assert_eq!((letters(1, 1, 1, &mut set), set), (ACCEPTED, 0b10));
     }
 }

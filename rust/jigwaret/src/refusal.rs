@@ -57,6 +57,7 @@ refusals! {
     Extent = 16, "no letters, over 4,096, or a buffer that is too small";
     Line = 17, "a line of the program's input is malformed";
     Record = 18, "the record is not one of a journal";
+    RoundSet = 21, "a round's set of letters is empty or has a letter beyond the inputs";
 }
 
 impl Refusal {
@@ -97,13 +98,13 @@ mod tests {
     #[test]
     fn numbers() {
         assert_eq!(Refusal::outcome(0), Ok(()));
-        for number in 1..=18u8 {
+        for number in (1..=18u8).chain([21]) {
             let refusal = Refusal::try_from(number).unwrap();
             assert_eq!(refusal.number(), u32::from(number));
             assert_eq!(Refusal::outcome(refusal.number()), Err(refusal));
         }
-        assert_eq!((Refusal::Letter.number(), Refusal::Record.number()), (11, 18));
-        for number in [0, 19, raw::WRONG_SIZES, 256 + 1, u32::MAX] {
+        assert_eq!((Refusal::Letter.number(), Refusal::RoundSet.number()), (11, 21));
+        for number in [0, 19, 20, 22, raw::WRONG_SIZES, 256 + 1, u32::MAX] {
             assert_eq!(Refusal::try_from(number), Err(UnknownNumber(number)));
         }
     }

@@ -1,5 +1,7 @@
 //! Rule sheets, and the values of whole traces.
 
+use crate::heard::Heard;
+use crate::letters::LetterSet;
 use crate::raw;
 use crate::refusal::Refusal;
 
@@ -51,6 +53,11 @@ impl Sheet {
         Some(self.bytes[7] as usize).filter(|&output| output < self.outputs())
     }
 
+    /// The letters that agree with what was heard.
+    pub fn letters(&self, heard: Heard) -> Result<LetterSet, Refusal> {
+        heard.letters(self.bytes[5])
+    }
+
     /// For each letter the byte whose bit k is output k. The assumption is not enforced.
     pub fn evaluate(&self, letters: &[u8]) -> Result<Vec<u8>, Refusal> {
         let mut out = vec![0; letters.len()];
@@ -78,6 +85,16 @@ mod tests {
         assert_eq!(check(b""), Err(Refusal::Short));
         assert_eq!(check(b"SLX\x01\x00\x01\x01\xFF\x01\x40"), Err(Refusal::Mark));
         assert_eq!(Sheet::new(*b"SLR\x01\x00\x01\x01\xFF\x01\x41"), Err(Refusal::Circular));
+    }
+
+    #[test]
+    fn letters_of_what_was_heard() {
+        let sheet = Sheet::new(SESSION).unwrap();
+        let heard = Heard::nothing().with(1, false);
+        assert_eq!(sheet.letters(heard), Ok(LetterSet::from_bits(0b0011)));
+        for input in [2, 5, 6, 7, 8, usize::MAX] {
+            assert_eq!(sheet.letters(heard.with(input, true)), Err(Refusal::Letter));
+        }
     }
 
     #[test]

@@ -21,13 +21,13 @@ returns : tie.Need-returns
 returns c =
     let after-check-journal = c .before .before .before in
     let start = after-check-journal .before in
-    decided-refused (journalRules _ _ (start .args .r)) (heardRules _ (start .args .r) _ _) _ (rw (c .before .outcome .given .1) at (after-check-journal .check-journal .ensures))
+    decided-refused (journalRules _ _ (start .args .r)) (heardRules _ (start .args .r) _) _ (rw (c .before .outcome .given .1) at (after-check-journal .check-journal .ensures))
 
 returns-2 : tie.Need-returns-2
 returns-2 c =
     let after-check-journal = c .before .before .before in
     let start = after-check-journal .before in
-    decided-accepted (journalRules _ _ (start .args .r)) (heardRules _ (start .args .r) _ _) _ (rw (c .before .enum-told .given .1) at (after-check-journal .check-journal .ensures)) (c .check-heard .ensures)
+    decided-accepted (journalRules _ _ (start .args .r)) (heardRules _ (start .args .r) _) _ (rw (c .before .enum-told .given .1) at (after-check-journal .check-journal .ensures)) (c .check-heard .ensures)
 
 pub check-round-spec : {M : Type 1} → statement M
 check-round-spec =

@@ -32,7 +32,7 @@ returns : tie.Need-returns
 returns c =
     let a = c .before .before .before .before .before .before .args in
     let z = slices (now (a .record)) (now (a .record)) (now (a .answer)) (now (a .answer)) in
-    sizes-wrong (ByMark (marked (now (a .record))) (RoundNumbered (now (a .sheet)) (now (a .storage)) (now (a .storage)) (a .known) (a .value) z 255) (MarkRefused (now (a .sheet)) (now (a .storage)) (now (a .storage)) z 255))
+    sizes-wrong (ByMark (marked (now (a .record))) (RoundNumbered (now (a .sheet)) (now (a .storage)) (now (a .storage)) (a .letters) z 255) (MarkRefused (now (a .sheet)) (now (a .storage)) (now (a .storage)) z 255))
     (now (a .storage)) (now (a .record)) (now (a .answer)) (c .before .sized .result) (c .before .sized .ensures) (c .if1 .taken)
 
 -- an accepted sheet is long enough to have a byte 6, which is at most 7
@@ -42,7 +42,7 @@ long c =
     let after-load = after-round .before .before in
     let a = entry (after-load .before .before) .args in
     let bs = now (a .sheet) in
-    sheet-long bs (roundRules (inputsOf bs) (outputsOf bs) (length (now (a .storage))) (after-load .load .result) (a .known) (a .value)) (rw (c .enum-told .given .1) at (after-round .round .ensures .decided))
+    sheet-long bs (roundRules (inputsOf bs) (outputsOf bs) (length (now (a .storage))) (after-load .load .result) (a .letters)) (rw (c .enum-told .given .1) at (after-round .round .ensures .decided))
 
 few : (c : tie.After-enum-told) → outputsOf (now (entry (c .before .before .before .before .before .before .before .before) .args .sheet)) ≤ 7
 few c =
@@ -92,9 +92,9 @@ returns-2 c =
     let z = slices (now (a .record)) (now (a .record)) (now (a .answer)) (now (a .answer)) in
     let e = c .before .before .outcome .given .1 in
     let r = c .refusal-number .result in
-    sizes-right (ByMark (marked (now (a .record))) (RoundNumbered (now (a .sheet)) (now (a .storage)) (p .last .1 .0) (a .known) (a .value) z r) (MarkRefused (now (a .sheet)) (now (a .storage)) (p .last .1 .0) z r)) (now (a .storage)) (p .last .1 .0) z r (fits d)
-    (round-by-mark (now (a .sheet)) (now (a .storage)) (p .last .1 .0) z r (a .known) (a .value) (p .result)
-    (subst (λ (q : JournalRecord). RoundCall (now (a .sheet)) (now (a .storage)) (p .last .1 .0) q (a .known) (a .value) (p .result)) (after-load .load .ensures) (p .ensures))
+    sizes-right (ByMark (marked (now (a .record))) (RoundNumbered (now (a .sheet)) (now (a .storage)) (p .last .1 .0) (a .letters) z r) (MarkRefused (now (a .sheet)) (now (a .storage)) (p .last .1 .0) z r)) (now (a .storage)) (p .last .1 .0) z r (fits d)
+    (round-by-mark (now (a .sheet)) (now (a .storage)) (p .last .1 .0) z r (a .letters) (p .result)
+    (subst (λ (q : JournalRecord). RoundCall (now (a .sheet)) (now (a .storage)) (p .last .1 .0) q (a .letters) (p .result)) (after-load .load .ensures) (p .ensures))
     (number-of (p .result .outcome) _ r e (c .refusal-number .ensures))
     (not-written (numbersOf (p .result .record)) (paste (now (a .answer)) 0 (verdictNumbers (p .result .verdicts) (outputsOf (now (a .sheet)))) (outputsOf (now (a .sheet)))) z (p .result .outcome) _ e refl refl))
 
@@ -119,9 +119,9 @@ returns-3 c =
     let e = after-enum-told .enum-told .given .1 in
     let put = c .before .before .put-verdicts in
     let z = slices (now (a .record)) (after-store .store .last .0) (now (a .answer)) (put .last .0) in
-    sizes-right (ByMark (marked (now (a .record))) (RoundNumbered (now (a .sheet)) (now (a .storage)) (p .last .1 .0) (a .known) (a .value) z 0) (MarkRefused (now (a .sheet)) (now (a .storage)) (p .last .1 .0) z 0)) (now (a .storage)) (p .last .1 .0) z 0 (fits d)
-    (round-by-mark (now (a .sheet)) (now (a .storage)) (p .last .1 .0) z 0 (a .known) (a .value) (p .result)
-    (subst (λ (q : JournalRecord). RoundCall (now (a .sheet)) (now (a .storage)) (p .last .1 .0) q (a .known) (a .value) (p .result)) (after-load .load .ensures) (p .ensures))
+    sizes-right (ByMark (marked (now (a .record))) (RoundNumbered (now (a .sheet)) (now (a .storage)) (p .last .1 .0) (a .letters) z 0) (MarkRefused (now (a .sheet)) (now (a .storage)) (p .last .1 .0) z 0)) (now (a .storage)) (p .last .1 .0) z 0 (fits d)
+    (round-by-mark (now (a .sheet)) (now (a .storage)) (p .last .1 .0) z 0 (a .letters) (p .result)
+    (subst (λ (q : JournalRecord). RoundCall (now (a .sheet)) (now (a .storage)) (p .last .1 .0) q (a .letters) (p .result)) (after-load .load .ensures) (p .ensures))
     (sym (ap outcomeNo e))
     (written (numbersOf (p .result .record)) (paste (now (a .answer)) 0 (verdictNumbers (p .result .verdicts) (outputsOf (now (a .sheet)))) (outputsOf (now (a .sheet)))) z (p .result .outcome) e (after-store .store .ensures) (put .ensures)))
 

@@ -16,14 +16,14 @@ unfolding badMasks
 returns c =
     let a = c .before .args in
     let g : 2 ^ a .m ≤ 2 ^ 6 = pow-mono (c .before .pre) in
-    rw (le-leb (2 ^ a .m) (a .known) (omega arith))
+    rw (lt-leb (2 ^ a .m) (a .known) (omega arith))
 
 returns-2 : tie.Need-returns-2
 unfolding badMasks
 returns-2 c =
     let a = c .before .args in
     let g : 2 ^ a .m ≤ 2 ^ 6 = pow-mono (c .before .pre) in
-    rw (lt-leb (2 ^ a .m) (a .known) (omega arith))
+    rw (le-leb (2 ^ a .m) (a .known) (omega arith))
 
 pub bad-masks-spec : {M : Type 1} → statement M
 bad-masks-spec = tie.close (tie.spec shl-size returns returns-2)

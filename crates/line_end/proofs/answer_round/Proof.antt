@@ -20,8 +20,8 @@ returns c =
     let call = c .before .before .round-on in
     let t = call .last .1 .0 in
     let p = call .result in (
-      λ sheet b o sv. serves-step sheet (ruleSheet (a .x)) b _ sv _ _ _ (round-step sheet (a .x) o s t (a .r) (a .known) (a .value) p (call .ensures sheet o)),
-      round-kept (start .pre .0) s t (a .r) (a .known) (a .value) p (call .ensures (start .pre .0) (start .pre .1)),
+      λ sheet b o sv. serves-step sheet (ruleSheet (a .x)) b _ sv _ _ _ (round-step sheet (a .x) o s t (a .r) (a .letters) p (call .ensures sheet o)),
+      round-kept (start .pre .0) s t (a .r) (a .letters) p (call .ensures (start .pre .0) (start .pre .1)),
     )
 
 pub answer-round-spec : {M : Type 1} → statement M

@@ -24,8 +24,8 @@ round-on-requires c κs = (_, rw (c .before .enum-told .given .1) at (c .before 
 returns : tie.Need-returns
 returns c =
     let a = c .before .before .before .before .before .before .before .args in
-    round-refused (now (a .sheet)) (now (a .storage)) (a .before) (a .known) (a .value) _ _ (c .refused-round .ensures)
-    (round-unread (now (a .sheet)) (length (now (a .storage))) (a .before) (a .known) (a .value) _ (rw (c .before .before .outcome .given .1) at (c .before .before .before .before .accept-sheet .ensures .0)))
+    round-refused (now (a .sheet)) (now (a .storage)) (a .before) (a .letters) _ _ (c .refused-round .ensures)
+    (round-unread (now (a .sheet)) (length (now (a .storage))) (a .before) (a .letters) _ (rw (c .before .before .outcome .given .1) at (c .before .before .before .before .accept-sheet .ensures .0)))
 
 same-length : tie.Need-same-length
 same-length c = search needs

@@ -19,33 +19,29 @@ refused-round-requires c κs = search needs
 enum-told : tie.Need-enum-told
 enum-told c = search needs
 
-letters-of-requires : tie.Need-letters-of-requires
-letters-of-requires c κs = search needs
-
 round-requires : tie.Need-round-requires
 round-requires c κs =
-    let start = c .before .before .before .before .before .before in
+    let start = c .before .before .before .before .before in
     let a = start .args in
-    let d = rw (c .before .before .enum-told .given .1) at (c .before .before .before .before .check-round .ensures) in
-    let y = round-ready (a .x .inputs) (a .x .outputs) (length (now (a .storage))) (a .r) (a .known) (a .value) d in
+    let d = rw (c .before .enum-told .given .1) at (c .before .before .before .check-round .ensures) in
+    let y = round-ready (a .x .inputs) (a .x .outputs) (length (now (a .storage))) (a .r) (a .letters) d in
     (start .pre .1 .usable, y .long, y .right, y .rounds-left)
 
 returns : tie.Need-returns
 returns c =
     let a = c .before .before .before .before .before .before .args in
     let d = rw (c .before .before .outcome .given .1) at (c .before .before .before .before .check-round .ensures) in
-    λ bs ok. round-turned-down bs (a .x) ok (a .r) (a .known) (a .value) (now (a .storage)) _ _ (c .refused-round .ensures) d
+    λ bs ok. round-turned-down bs (a .x) ok (a .r) (a .letters) (now (a .storage)) _ _ (c .refused-round .ensures) d
 
 same-length : tie.Need-same-length
 same-length c = search needs
 
 returns-2 : tie.Need-returns-2
 returns-2 c =
-    let a = c .before .before .before .before .before .before .before .before .before .args in
+    let a = c .before .before .before .before .before .before .before .before .args in
     let p = c .before .before .round in
-    let d = rw (c .before .before .before .before .before .enum-told .given .1) at (c .before .before .before .before .before .before .before .check-round .ensures) in
-    let y = round-ready (a .x .inputs) (a .x .outputs) (length (now (a .storage))) (a .r) (a .known) (a .value) d in
-    λ bs ok. round-done bs (a .x) ok (a .r) (a .known) (a .value) (now (a .storage)) (p .last .1 .0) (p .result) _ (p .ensures .0) d (y .masks) (c .before .before .before .letters-of .ensures) (p .ensures .1)
+    let d = rw (c .before .before .before .before .enum-told .given .1) at (c .before .before .before .before .before .before .check-round .ensures) in
+    λ bs ok. round-done bs (a .x) ok (a .r) (a .letters) (now (a .storage)) (p .last .1 .0) (p .result) (p .ensures .0) d (p .ensures .1)
 
 pub round-on-spec : {M : Type 1} → statement M
 round-on-spec =
@@ -55,7 +51,6 @@ round-on-spec =
     enum-known-outcome
     refused-round-requires
     enum-told
-    letters-of-requires
     round-requires
     returns
     same-length

@@ -3,7 +3,7 @@ use native.Mathlib.Omega.{arith}
 use borrow.Author.Needs.{needs}
 use Rattle.buffer.proofs.PlacedLaws.{placed-then}
 use Rattle.buffer.proofs.DecimalLaws.{decimal-length}
-use Rattle.text.proofs.RefusalLaws.{refusal-short}
+use Rattle.outcomes.proofs.NumberLaws.{refusal-range}
 use Rattle.text.proofs.refused.Statement.{statement}
 use Rattle.text.proofs.refused.Tie as tie
 
@@ -22,7 +22,7 @@ cast-decimal c = search needs
 decimal-requires : tie.Need-decimal-requires
 decimal-requires c κs =
     let w = c .before .before .before .before .bytes .ensures in
-    rw (c .refusal-number .ensures) (omega (arith, w .end, w .size, decimal-length 2 _ (omega arith) (refusal-short (c .before .before .before .before .before .before .before .before .args .r))))
+    rw (c .refusal-number .ensures) (omega (arith, w .end, w .size, decimal-length 2 _ (omega arith) (refusal-range (c .before .before .before .before .before .before .before .before .args .r) .1)))
 
 same-length : tie.Need-same-length
 same-length c = search needs
@@ -33,7 +33,7 @@ returns c =
     let after-bytes = after-refusal-number .before .before .before .before in
     let start = after-bytes .before .before .before .before in
     let w = placed-then (after-bytes .bytes .ensures) (rw (after-refusal-number .refusal-number .ensures) at (c .before .before .decimal .ensures)) in
-    (w, omega (arith, w .end, decimal-length 2 _ (omega arith) (refusal-short (start .args .r))))
+    (w, omega (arith, w .end, decimal-length 2 _ (omega arith) (refusal-range (start .args .r) .1)))
 
 pub refused-spec : {M : Type 1} → statement M
 refused-spec =

@@ -67,6 +67,11 @@ pub fn shop_sheet() -> Vec<u8> {
 }
 
 /// A sheet without an assumption, its expressions in hex.
+/// Inputs 0 and 1 say which of two labels show the new price; outputs are these, and that they are alike.
+pub fn labels() -> Vec<u8> {
+    version_2(plain(2, &["40", "41", "40 41 05"]))
+}
+
 pub fn plain(inputs: u8, expressions: &[&str]) -> Vec<u8> {
     assuming(inputs, NO_ASSUMPTION, expressions)
 }
@@ -596,7 +601,8 @@ fn letter_refusals(sheet: Vec<u8>) -> Vec<RefusedLetters> {
 }
 
 pub fn journals() -> Vec<JournalCase> {
-    let groups = [marked_journals(), assuming_journals(), plain_journals(), comparing_journals()];
+    let groups =
+        [marked_journals(), assuming_journals(), plain_journals(), comparing_journals(), alternative_journals()];
     let cases = groups.into_iter().flatten();
     cases.map(|(name, sheet, calls)| JournalCase { name, sheet, calls }).collect()
 }
@@ -700,6 +706,42 @@ fn comparing_journals() -> Vec<Lines> {
     ]
 }
 
+/// Rounds of several alternatives. With two inputs these are two labels, each with the old price or the
+/// new one; where it is assumed, none goes back to the old one.
+fn alternative_journals() -> Vec<Lines> {
+    let three = || plain(3, &["40 41 03", "40 41 04 42 04", "40 02 41 02 03 42 02 03"]);
+    let before = || version_2(plain(2, &["50 51 05", "50"]));
+    let kept = || assuming(2, 1, &["40 41 03", "50 02 40 04 51 02 41 04 03"]);
+    let unlike = || version_2(assuming(2, 1, &["40", "40 41 05 02"]));
+    let six = || version_2(plain(6, &["40 41 05", "45"]));
+    let later = || assuming(1, 1, &["40", "40 02 60 04"]);
+    vec![
+        ("the labels agree", labels(), vec![("00|11", "??1"), ("??", "???"), (".", "???")]),
+        ("the labels differ", labels(), vec![("01|10", "??0"), (".", "??0")]),
+        ("one alternative within another", labels(), vec![("0?|01", "0??"), ("01|0?", "0??"), (".", "0??")]),
+        ("an alternative twice", labels(), vec![("01|01", "010"), ("11|11|11", "111"), (".", "111")]),
+        ("alternatives that settle an input", labels(), vec![("00|01", "0??"), ("11|01", "?1?"), (".", "?1?")]),
+        ("alternatives that leave one letter out", labels(), vec![("1?|?1", "???"), ("0?|?0", "???"), (".", "???")]),
+        ("exactly one of three", three(), vec![("100|010|001", "010"), ("??0|001", "???"), (".", "???")]),
+        ("all three or none", three(), vec![("000|111", "???"), ("111|111", "110"), ("000", "001"), (".", "001")]),
+        ("the round before, alike", before(), vec![("00|11", "10"), ("??", "1?"), ("01", "??"), (".", "??")]),
+        ("the round before, one of two", before(), vec![("10|11", "10"), ("??", "?1"), (".", "?1")]),
+        (
+            "agreed, then one shows the old price",
+            kept(),
+            vec![("00|11", "?1"), ("?0", "01"), ("01|10", "01"), (".", "01")],
+        ),
+        ("agreed, and neither goes back", kept(), vec![("1?", "?1"), ("00|11", "11"), ("?1", "11"), (".", "11")]),
+        ("no alternative without going back", kept(), vec![("11", "11"), ("00|01", "!!"), ("11", "!!"), (".", "!!")]),
+        ("one alternative without going back", kept(), vec![("01", "01"), ("10|11", "11"), ("?1|1?", "11")]),
+        ("an assumption leaves one alternative", unlike(), vec![("00|01", "01"), ("11|10", "11"), (".", "11")]),
+        ("an assumption leaves no alternative", unlike(), vec![("00|11", "!!"), ("??", "!!"), (".", "!!")]),
+        ("both values of one input", plain(1, &["40"]), vec![("0|1", "?"), ("1|0|1", "?"), ("1|1", "1"), (".", "1")]),
+        ("one alternative would need a trace without end", later(), vec![("0|1", "01"), ("1|1", "!!"), (".", "!!")]),
+        ("six inputs", six(), vec![("000000|111111", "1?"), ("?????0|?????1", "??"), ("01???1|10???1", "01")]),
+    ]
+}
+
 pub fn live_counts() -> Vec<LiveCount> {
     let cases = vec![
         ("example k", plain(1, &["40"]), 12),
@@ -760,6 +802,21 @@ fn differs(left: &[u8], right: &[u8]) -> Vec<u8> {
     [left, right, &[0x02, 0x03], left, &[0x02], right, &[0x03, 0x04]].concat()
 }
 
+/// Lines that are malformed where there are two inputs, although they look like alternatives.
+pub fn malformed_alternatives() -> Vec<&'static str> {
+    let empty =
+        ["|", "||", "|||", "00|", "|00", "00||11", "||00", "00||", "|00|11", "00|11|", "|00|", "||00|11", "00|11||01"];
+    let lengths = ["0|1", "00|1", "0|11", "00|111", "001|11", "0|011", "0|0|11", "00|11|0", "0011", "0011|", "00|1101"];
+    let dots = [".|", "|.", ".|.", ".|00", "00|.", "00|.|11", ".00|11", "00|11.", "00|1.", "..|00", "00|.."];
+    let blanks = ["00 |11", "00| 11", " 00|11", "00|11 ", "00|1 ", "00| ", " |00", "00\t|11", "00|11\t", "00 | 11"];
+    let returns = ["00|11\r", "00\r|11", "00|\r", "\r|00", "|\r", "00|1\r", ".\r|00"];
+    let others = [
+        "00|x1", "00|12", "00|1\0", "00|11x", "0x|11", "00/11", "00,11", "00¦11", "00\\11", "00}11", "00{11", "{}|00",
+        "00|11|!!",
+    ];
+    [&empty[..], &lengths, &dots, &blanks, &returns, &others].concat()
+}
+
 /// Storage and record as somebody may hand them in, with all storage bits 1 and junk beyond the
 /// outputs counted.
 pub fn forged(rounds: u32, closed: u32, counts: &[[u32; 4]]) -> Held {
@@ -777,7 +834,8 @@ pub fn journal_refusals() -> Vec<JournalRefusal> {
         record_refusals(),
         order_refusals(plain(1, &["40"])),
         order_refusals(version_2(plain(1, &["40 50 05"]))),
-        mask_refusals(),
+        faults_at_once(),
+        set_refusals(),
         length_refusals(),
         sheet_refusals(),
     ];
@@ -789,7 +847,7 @@ type Refused = (&'static str, Vec<u8>, Held, Call, u32);
 
 /// The same number for a round and for a closing.
 fn both(name: &'static str, sheet: Vec<u8>, held: Held, number: u32) -> Vec<Refused> {
-    vec![(name, sheet.clone(), held.clone(), round(0, 0), number), (name, sheet, held, Call::Close, number)]
+    vec![(name, sheet.clone(), held.clone(), round(0b11), number), (name, sheet, held, Call::Close, number)]
 }
 
 /// Rule 18, and what it does not look at.
@@ -840,7 +898,7 @@ fn record_refusals() -> Vec<Refused> {
     .concat()
 }
 
-/// What comes first with an accepted sheet of one input and one output: 15, 18, 12, then 11 and 13, or
+/// What comes first with an accepted sheet of one input and one output: 15, 18, 12, then 21 and 13, or
 /// 14.
 fn order_refusals(sheet: Vec<u8>) -> Vec<Refused> {
     let sheet = || sheet.clone();
@@ -852,7 +910,7 @@ fn order_refusals(sheet: Vec<u8>) -> Vec<Refused> {
     let full = |closed| forged(MAX_ROUNDS, closed, &[[MAX_ROUNDS - 7, 3, 3, 1]]);
     let wrong = |closed| forged(1, closed, &[[0; 4]]);
     let empty = |closed| forged(0, closed, &[[0; 4]]);
-    let (good, beyond, unknown) = (round(1, 1), round(2, 0), round(0, 1));
+    let (good, none, beyond) = (round(0b10), round(0), round(0b110));
     vec![
         ("preparation, 3,083 numbers", sheet(), short(open()), Call::Prepare, 15),
         ("preparation, 3,083 numbers and a wrong record", sheet(), short(wrong(1)), Call::Prepare, 15),
@@ -863,20 +921,20 @@ fn order_refusals(sheet: Vec<u8>) -> Vec<Refused> {
         ("closing, 3,083 numbers", sheet(), short(open()), Call::Close, 15),
         ("round, 3,083 numbers and wrong sums", sheet(), short(wrong(0)), good, 15),
         ("closing, 3,083 numbers and wrong sums", sheet(), short(wrong(0)), Call::Close, 15),
-        ("round, 3,083 numbers, closed, bad masks", sheet(), short(closed()), beyond, 15),
+        ("round, 3,083 numbers, closed, bad set", sheet(), short(closed()), beyond, 15),
         ("closing, 3,083 numbers and no round", sheet(), short(empty(0)), Call::Close, 15),
         ("round, wrong sums and closed", sheet(), wrong(1), good, 18),
         ("closing, wrong sums and closed", sheet(), wrong(1), Call::Close, 18),
-        ("round, wrong sums and bad masks", sheet(), wrong(0), beyond, 18),
+        ("round, wrong sums and a bad set", sheet(), wrong(0), beyond, 18),
         ("round after closing", sheet(), closed(), good, 12),
         ("closing after closing", sheet(), closed(), Call::Close, 12),
-        ("round after closing, known bit beyond", sheet(), closed(), beyond, 12),
-        ("round after closing, value bit not known", sheet(), closed(), unknown, 12),
+        ("round after closing, letter beyond", sheet(), closed(), beyond, 12),
+        ("round after closing, no letter", sheet(), closed(), none, 12),
         ("round after closing, 1,000,000 rounds", sheet(), full(1), good, 12),
         ("closing, closed and without a round", sheet(), empty(1), Call::Close, 12),
         ("round, closed and without a round", sheet(), empty(1), good, 12),
-        ("1,000,000 rounds and bad masks", sheet(), full(0), beyond, 11),
-        ("1,000,000 rounds and a value bit not known", sheet(), full(0), unknown, 11),
+        ("1,000,000 rounds and a letter beyond", sheet(), full(0), beyond, 21),
+        ("1,000,000 rounds and no letter", sheet(), full(0), none, 21),
         ("1,000,000 rounds and one more", sheet(), full(0), good, 13),
         ("1,000,000 rounds closed", sheet(), full(0), Call::Close, 0),
         ("closing with no round", sheet(), empty(0), Call::Close, 14),
@@ -884,29 +942,60 @@ fn order_refusals(sheet: Vec<u8>) -> Vec<Refused> {
     ]
 }
 
-fn mask_refusals() -> Vec<Refused> {
-    let one =
-        |name, known, value, number| (name, plain(1, &["40"]), forged(0, 0, &[[0; 4]]), round(known, value), number);
-    let six = |name, known, value, number| {
-        (name, plain(6, &["40", "41"]), forged(2, 0, &[[1, 1, 0, 0], [0, 0, 2, 0]]), round(known, value), number)
+/// What a round is refused for, in the order in which it is checked. 10 stands for all rules of a sheet.
+const ROUND_FAULTS: [u32; 7] = [WRONG_SIZES, 10, 15, 18, 12, 21, 13];
+
+/// A round with any choice of these faults at once, of which the first decides. Several sets break rule 21.
+fn faults_at_once() -> Vec<Refused> {
+    let mut cases = Vec::new();
+    for choice in 0..1 << ROUND_FAULTS.len() {
+        let chosen = (0..ROUND_FAULTS.len()).filter(|place| choice >> place & 1 == 1);
+        let faults: Vec<u32> = chosen.map(|place| ROUND_FAULTS[place]).collect();
+        let has = |number: u32| faults.contains(&number);
+        let rounds = if has(13) { MAX_ROUNDS } else { 5 };
+        let mut held = forged(rounds, has(12) as u32, &[[rounds - 2, 1, 1, has(18) as u32]]);
+        held.record.truncate(RECORD_NUMBERS - has(WRONG_SIZES) as usize);
+        held.storage.truncate(STORAGE_WORDS - has(15) as usize);
+        let sheet = plain(2, &[if has(10) { "42" } else { "40" }]);
+        let number = faults.first().copied().unwrap_or(0);
+        let sets: &[u64] = if has(21) { &[0, 1 << 4, 1 << 63, 0b1_1001] } else { &[0b1001] };
+        let calls = sets.iter().map(|&set| round(set));
+        cases.extend(calls.map(|call| ("several faults at once", sheet.clone(), held.clone(), call, number)));
+    }
+    cases
+}
+
+fn set_refusals() -> Vec<Refused> {
+    let one = |name, set, number| (name, plain(1, &["40"]), forged(0, 0, &[[0; 4]]), round(set), number);
+    let five = |name, set, number| {
+        (name, plain(5, &["40", "41"]), forged(2, 0, &[[1, 1, 0, 0], [0, 0, 2, 0]]), round(set), number)
+    };
+    let six = |name, set, number| {
+        (name, plain(6, &["40", "41"]), forged(2, 0, &[[1, 1, 0, 0], [0, 0, 2, 0]]), round(set), number)
     };
     vec![
-        one("known 0, value 1", 0, 1, 11),
-        one("known 1, value 1", 1, 1, 0),
-        one("known 2, value 0", 2, 0, 11),
-        one("known 3, value 3", 3, 3, 11),
-        one("known 1, value 2", 1, 2, 11),
-        one("known 1, value 3", 1, 3, 11),
-        one("known 128, value 128", 128, 128, 11),
-        one("known 255, value 0", 255, 0, 11),
-        one("known 0, value 128", 0, 128, 11),
-        six("known 63, value 63", 63, 63, 0),
-        six("known 0, value 0", 0, 0, 0),
-        six("known 64, value 0", 64, 0, 11),
-        six("known 191, value 63", 191, 63, 11),
-        six("known 62, value 1", 62, 1, 11),
-        six("known 63, value 64", 63, 64, 11),
-        six("known 63, value 255", 63, 255, 11),
+        one("no letter of one input", 0, 21),
+        one("letter 0", 0b01, 0),
+        one("letter 1", 0b10, 0),
+        one("both letters", 0b11, 0),
+        one("letter 2 of one input", 0b100, 21),
+        one("both letters, and letter 2", 0b111, 21),
+        one("letter 1, and letter 32", 1 << 32 | 0b10, 21),
+        one("letter 1, and letter 33", 1 << 33 | 0b10, 21),
+        one("letter 63 of one input", 1 << 63, 21),
+        one("all numbers of letters", u64::MAX, 21),
+        five("no letter of five inputs", 0, 21),
+        five("letter 31", 1 << 31, 0),
+        five("letter 32 of five inputs", 1 << 32, 21),
+        five("letters 0 and 31", 1 << 31 | 1, 0),
+        five("every letter of five inputs", 0xFFFF_FFFF, 0),
+        five("every letter of five inputs, and letter 32", 0x1_FFFF_FFFF, 21),
+        five("letter 0, and letter 63 of five inputs", 1 << 63 | 1, 21),
+        six("no letter of six inputs", 0, 21),
+        six("letter 0 of six inputs", 1, 0),
+        six("letter 32 of six inputs", 1 << 32, 0),
+        six("letter 63 of six inputs", 1 << 63, 0),
+        six("every letter of six inputs", u64::MAX, 0),
     ]
 }
 
@@ -921,7 +1010,7 @@ fn length_refusals() -> Vec<Refused> {
     ];
     let mut cases = Vec::new();
     for (name, record, answer) in lengths {
-        for call in [Call::Prepare, round(1, 1), Call::Close] {
+        for call in [Call::Prepare, round(0b10), Call::Close] {
             let mut held = forged(1, 0, &[[1, 0, 0, 0]]);
             held.record.resize(record, 0);
             held.answer.resize(answer, 0);
@@ -938,7 +1027,7 @@ fn sheet_refusals() -> Vec<Refused> {
         let full = forged(1, 1, &[[1, 1, 0, 0]; 7]);
         let none = Held { storage: vec![], ..full.clone() };
         for held in [full, none] {
-            for call in [Call::Prepare, round(0, 1), round(0, 0), Call::Close] {
+            for call in [Call::Prepare, round(0), round(1), Call::Close] {
                 cases.push((case.name, case.sheet.clone(), held.clone(), call, case.number));
             }
         }

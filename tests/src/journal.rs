@@ -1,7 +1,8 @@
 //! The book of a journal, which is fed calls alone, and the entries that work on a record and on
 //! lent storage.
 
-use crate::monitor::{Heard, Monitor, Verdict};
+use crate::letters::LetterSet;
+use crate::monitor::{Monitor, Verdict};
 use crate::pairs::{Pairs, SET_WORDS};
 
 /// The most rounds that a journal holds.
@@ -18,35 +19,39 @@ pub const WRONG_SIZES: u32 = 255;
 #[derive(Clone, Copy, Debug, PartialEq, Eq)]
 pub enum Call {
     Prepare,
-    Round(Heard),
+    Round(LetterSet),
     Close,
 }
 
-/// A round of masks.
-pub fn round(known: u8, value: u8) -> Call {
-    Call::Round(Heard { known, value })
+/// A round whose set has this number.
+pub fn round(letters: u64) -> Call {
+    Call::Round(LetterSet(letters))
 }
 
-/// A call from a line of the journal program: `.` closes, and else each input is `0`, `1` or `?`.
+/// Whether a letter fits the marks `0 1 ?` of an alternative, input 0 first.
+fn fits(marks: &str, letter: usize) -> bool {
+    let fits_one = |(input, mark)| match mark {
+        '0' => letter >> input & 1 == 0,
+        '1' => letter >> input & 1 == 1,
+        _ => true,
+    };
+    marks.chars().enumerate().all(fits_one)
+}
+
+/// A call from a line of the journal program: `.` closes, and else the letters are those that fit one of
+/// the alternatives.
 pub fn call_of_line(line: &str) -> Call {
     if line == "." {
         return Call::Close;
     }
-    let mask = |wanted: &[char]| {
-        let bits = line.chars().enumerate().map(|(input, sign)| (wanted.contains(&sign) as u8) << input);
-        bits.sum()
-    };
-    round(mask(&['0', '1']), mask(&['1']))
+    let alternatives: Vec<&str> = line.split('|').collect();
+    let letters = 0..1 << alternatives[0].len();
+    Call::Round(letters.filter(|&letter| alternatives.iter().any(|marks| fits(marks, letter))).collect())
 }
 
 /// Verdicts as the journal program prints them.
 pub fn print(verdicts: &[Verdict]) -> String {
     verdicts.iter().map(|verdict| verdict.mark()).collect()
-}
-
-/// Rule 11: a known bit beyond the inputs, or a value bit that is not known.
-fn bad_masks(inputs: usize, heard: Heard) -> bool {
-    heard.known >> inputs != 0 || heard.value & !heard.known != 0
 }
 
 /// Where a verdict is counted among the four counts: true, false, open, broken.
@@ -78,7 +83,7 @@ pub struct Answer {
 /// The book: what a journal's calls are answered, found from the sheet and the calls in their order.
 pub struct Book<'a> {
     monitor: &'a Monitor,
-    pub rounds: Vec<Heard>,
+    pub rounds: Vec<LetterSet>,
     pub closed: bool,
     /// For each output the rounds answered true, false, open, broken.
     pub counts: Vec<[u32; 4]>,
@@ -91,18 +96,18 @@ impl Book<'_> {
         Book { monitor, rounds: Vec::new(), closed: false, counts, reached: None }
     }
 
-    pub fn round(&mut self, heard: Heard) -> Result<Answer, u32> {
+    pub fn round(&mut self, letters: LetterSet) -> Result<Answer, u32> {
         if self.closed {
             return Err(12);
         }
-        if bad_masks(self.monitor.sheet.inputs, heard) {
-            return Err(11);
+        if letters.is_bad(self.inputs()) {
+            return Err(21);
         }
         if self.rounds.len() == MAX_ROUNDS as usize {
             return Err(13);
         }
-        self.rounds.push(heard);
-        let reached = self.monitor.step(&self.monitor.live, self.reached.as_ref(), heard);
+        self.rounds.push(letters);
+        let reached = self.monitor.step(&self.monitor.live, self.reached.as_ref(), letters);
         let verdicts = self.monitor.verdicts(&reached);
         self.reached = Some(reached);
         for (counts, &verdict) in self.counts.iter_mut().zip(&verdicts) {
@@ -129,12 +134,12 @@ impl Book<'_> {
         self.monitor.sheet.inputs
     }
 
-    /// The letters with which the journal can go on in a completion of what was heard.
+    /// The letters with which the journal can go on in a completion of its rounds.
     pub fn letters_ahead(&self) -> Vec<u8> {
-        let m = self.monitor.sheet.inputs;
+        let m = self.inputs();
         let ahead = match &self.reached {
             // Round 1: all first valuations of completions.
-            None => self.monitor.step(&self.monitor.live, None, Heard { known: 0, value: 0 }).all(),
+            None => self.monitor.step(&self.monitor.live, None, LetterSet::all(m)).all(),
             Some(reached) => {
                 let pairs = reached.all().into_iter();
                 pairs.filter(|&(_, b)| b != reached.end()).map(|(a, b)| (b, a)).collect()
@@ -180,7 +185,7 @@ impl Held {
 pub fn call(monitor: &Result<Monitor, u32>, held: &mut Held, call: Call) -> u32 {
     let outcome = match call {
         Call::Prepare => prepare(monitor, held),
-        Call::Round(heard) => hear(monitor, held, heard),
+        Call::Round(letters) => hear(monitor, held, letters),
         Call::Close => close(monitor, held),
     };
     outcome.err().unwrap_or(0)
@@ -197,13 +202,13 @@ fn prepare(monitor: &Result<Monitor, u32>, held: &mut Held) -> Result<(), u32> {
     Ok(())
 }
 
-fn hear(monitor: &Result<Monitor, u32>, held: &mut Held, heard: Heard) -> Result<(), u32> {
+fn hear(monitor: &Result<Monitor, u32>, held: &mut Held, letters: LetterSet) -> Result<(), u32> {
     check_lengths(held)?;
     let monitor = monitor.as_ref().map_err(|&number| number)?;
     check_storage(held)?;
     check_record(held, monitor.sheet.outputs())?;
-    if bad_masks(monitor.sheet.inputs, heard) {
-        return Err(11);
+    if letters.is_bad(monitor.sheet.inputs) {
+        return Err(21);
     }
     if held.record[0] == MAX_ROUNDS {
         return Err(13);
@@ -213,7 +218,7 @@ fn hear(monitor: &Result<Monitor, u32>, held: &mut Held, heard: Heard) -> Result
         Pairs::from_words(monitor.size(), words)
     };
     let before = (held.record[0] > 0).then(|| set(1));
-    let reached = monitor.step(&set(0), before.as_ref(), heard);
+    let reached = monitor.step(&set(0), before.as_ref(), letters);
     let verdicts = monitor.verdicts(&reached);
     reached.write(&mut held.storage[SET_WORDS..2 * SET_WORDS]);
     Pairs::none(monitor.size()).write(&mut held.storage[2 * SET_WORDS..STORAGE_WORDS]);
@@ -280,11 +285,16 @@ mod tests {
 
     #[test]
     fn lines() {
-        assert_eq!(call_of_line("10"), round(3, 1));
-        assert_eq!(call_of_line("?1"), round(2, 2));
-        assert_eq!(call_of_line("1?0?"), round(5, 1));
-        assert_eq!(call_of_line("??????"), round(0, 0));
+        assert_eq!(call_of_line("10"), round(0b0010));
+        assert_eq!(call_of_line("?1"), round(0b1100));
+        assert_eq!(call_of_line("1?0?"), round(1 << 1 | 1 << 3 | 1 << 9 | 1 << 11));
+        assert_eq!(call_of_line("??????"), round(u64::MAX));
         assert_eq!(call_of_line("."), Call::Close);
+        assert_eq!(call_of_line("00|11"), round(0b1001));
+        assert_eq!(call_of_line("11|00|11"), round(0b1001));
+        assert_eq!(call_of_line("0|1"), round(0b11));
+        assert_eq!(call_of_line("1?|?1"), round(0b1110));
+        assert_eq!(call_of_line("000000|111111"), round(1 << 63 | 1));
     }
 
     #[test]
@@ -314,7 +324,7 @@ mod tests {
             let mut book = Book::new(&monitor);
             for (line, expected) in &case.calls {
                 let answer = match call_of_line(line) {
-                    Call::Round(heard) => book.round(heard),
+                    Call::Round(letters) => book.round(letters),
                     _ => book.close(),
                 };
                 let printed = answer.map_or_else(|number| number.to_string(), |answer| print(&answer.verdicts));
@@ -362,9 +372,9 @@ mod tests {
             assert_eq!(call(&monitor, &mut held, Call::Prepare), 0);
             let mut broken = false;
             for _ in 0..random.range(1, 12) {
-                let heard = random.heard_along(&book, 30);
-                let number = call(&monitor, &mut held, Call::Round(heard));
-                let answer = book.round(heard);
+                let letters = random.round_along(&book, 30);
+                let number = call(&monitor, &mut held, Call::Round(letters));
+                let answer = book.round(letters);
                 assert_eq!(number, answer.as_ref().err().copied().unwrap_or(0));
                 let verdicts = answer.unwrap().verdicts;
                 for (k, verdict) in verdicts.iter().enumerate() {

@@ -2,7 +2,7 @@
 //! library, so that the two can be compared.
 //!
 //! `sheet`, `circular` and `language` follow the definitions as directly as they can, and so do
-//! `pairs`, `monitor` and `journal` for verdicts, and `session` for the journal program. `random`
+//! `letters`, `pairs`, `monitor` and `journal` for verdicts, and `session` for the journal program. `random`
 //! and `cases` supply the inputs, `versions` those that say the same in both versions, `library` makes
 //! the calls, `program` runs the journal program, and `vectors` has whole sessions for a proved program
 //! that runs many.
@@ -11,6 +11,7 @@ pub mod cases;
 pub mod circular;
 pub mod journal;
 pub mod language;
+pub mod letters;
 pub mod library;
 pub mod monitor;
 pub mod pairs;

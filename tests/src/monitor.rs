@@ -3,6 +3,7 @@
 
 use crate::circular;
 use crate::language;
+use crate::letters::{Heard, LetterSet};
 use crate::pairs::Pairs;
 use crate::sheet::{Expression, Sheet};
 
@@ -28,20 +29,6 @@ impl Verdict {
     /// As the journal program prints it.
     pub fn mark(self) -> char {
         ['0', '1', '?', '!'][self as usize]
-    }
-}
-
-/// A round as it was heard: known inputs, and the values of these.
-#[derive(Clone, Copy, Debug, PartialEq, Eq)]
-pub struct Heard {
-    pub known: u8,
-    pub value: u8,
-}
-
-impl Heard {
-    /// Whether the letter, or the letter of the valuation, matches the known bits.
-    pub fn matches(self, letter: usize) -> bool {
-        letter & self.known as usize == self.value as usize
     }
 }
 
@@ -137,13 +124,13 @@ impl Monitor {
         size(&self.sheet)
     }
 
-    /// The pairs (b, c) of `live` reached in a round: b's letter was heard and the equations hold
-    /// at b between a and c, a being nothing in round 1 (`reached` is none) and later some a of a
+    /// The pairs (b, c) of `live` reached in a round: b's letter is in the round's set and the equations
+    /// hold at b between a and c, a being nothing in round 1 (`reached` is none) and later some a of a
     /// pair (a, b) reached in the round before.
-    pub fn step(&self, live: &Pairs, reached: Option<&Pairs>, heard: Heard) -> Pairs {
+    pub fn step(&self, live: &Pairs, reached: Option<&Pairs>, letters: LetterSet) -> Pairs {
         let size = self.size();
         let mut next = Pairs::none(size);
-        for b in (0..size).filter(|&b| heard.matches(b)) {
+        for b in (0..size).filter(|b| letters.has(b % (1 << self.sheet.inputs))) {
             let before = match reached {
                 None => vec![size],
                 Some(reached) => self.parts_before(reached, b),
@@ -247,35 +234,53 @@ fn live(sheet: &Sheet, equations: &Table) -> (Pairs, usize) {
     (live, layers - 1)
 }
 
-/// How many lists of letters match the rounds heard and have so many further rounds.
-pub fn lists(sheet: &Sheet, heard: &[Heard], further: usize) -> usize {
-    let known: u32 = heard.iter().map(|round| round.known.count_ones()).sum();
-    let free = sheet.inputs * (heard.len() + further) - known as usize;
-    1usize.checked_shl(free as u32).unwrap_or(usize::MAX)
+/// The letters that each round may have been, over these rounds and so many further ones.
+fn choices(sheet: &Sheet, rounds: &[LetterSet], further: usize) -> Vec<Vec<u8>> {
+    let free = std::iter::repeat_n(LetterSet::all(sheet.inputs), further);
+    rounds.iter().copied().chain(free).map(LetterSet::letters).collect()
 }
 
-/// The verdicts in the last round heard over the completions with one of these numbers of further
-/// rounds, by trying all lists of letters.
-pub fn by_trying(sheet: &Sheet, heard: &[Heard], further: impl Iterator<Item = usize>) -> Vec<Verdict> {
-    let (m, n, t) = (sheet.inputs, sheet.outputs(), heard.len());
-    let mut some = vec![[false; 2]; n];
-    for more in further {
-        let unknown = Heard { known: 0, value: 0 };
-        let rounds = heard.iter().copied().chain(std::iter::repeat_n(unknown, more));
-        let choices: Vec<Vec<u8>> =
-            rounds.map(|round| (0..1 << m).filter(|&letter| round.matches(letter as usize)).collect()).collect();
-        for number in 0..lists(sheet, heard, more) {
-            let mut rest = number;
-            let mut draw = |choice: &Vec<u8>| {
-                let letter = choice[rest % choice.len()];
-                rest /= choice.len();
-                letter
-            };
-            let letters: Vec<u8> = choices.iter().map(&mut draw).collect();
-            let outputs = language::values(sheet, &letters).expect("an accepted sheet");
-            if sheet.assumption.is_none_or(|output| outputs.iter().all(|byte| byte >> output & 1 == 1)) {
-                (0..n).for_each(|k| some[k][(outputs[t - 1] >> k & 1) as usize] = true);
-            }
+/// How many lists of letters take each letter from the set of its round and have so many further rounds.
+pub fn lists(sheet: &Sheet, rounds: &[LetterSet], further: usize) -> usize {
+    let choices = choices(sheet, rounds, further);
+    choices.iter().fold(1, |lists, choice| lists.saturating_mul(choice.len()))
+}
+
+/// The verdicts in the last round over the completions with one of these numbers of further rounds, by
+/// trying all lists of letters.
+pub fn by_trying(sheet: &Sheet, rounds: &[LetterSet], further: impl Iterator<Item = usize>) -> Vec<Verdict> {
+    let lists = further.flat_map(|more| every_list(choices(sheet, rounds, more)));
+    over_lists(sheet, rounds.len(), lists)
+}
+
+/// The same for rounds given as masks: the lists whose letters match the known bits.
+pub fn by_trying_masks(sheet: &Sheet, heard: &[Heard], further: impl Iterator<Item = usize>) -> Vec<Verdict> {
+    let every = further.flat_map(|more| every_list(choices(sheet, &[], heard.len() + more)));
+    let matching = |letters: &Vec<u8>| heard.iter().zip(letters).all(|(round, &letter)| round.matches(letter as usize));
+    over_lists(sheet, heard.len(), every.filter(matching))
+}
+
+/// Every list that takes its letters from the choices of their places.
+fn every_list(choices: Vec<Vec<u8>>) -> impl Iterator<Item = Vec<u8>> {
+    let count: usize = choices.iter().map(Vec::len).product();
+    (0..count).map(move |number| {
+        let mut rest = number;
+        let mut draw = |choice: &Vec<u8>| {
+            let letter = choice[rest % choice.len()];
+            rest /= choice.len();
+            letter
+        };
+        choices.iter().map(&mut draw).collect()
+    })
+}
+
+/// The verdicts in round t over those of these lists of letters that keep the assumption.
+fn over_lists(sheet: &Sheet, t: usize, lists: impl Iterator<Item = Vec<u8>>) -> Vec<Verdict> {
+    let mut some = vec![[false; 2]; sheet.outputs()];
+    for letters in lists {
+        let outputs = language::values(sheet, &letters).expect("an accepted sheet");
+        if sheet.assumption.is_none_or(|output| outputs.iter().all(|byte| byte >> output & 1 == 1)) {
+            some.iter_mut().enumerate().for_each(|(k, some)| some[(outputs[t - 1] >> k & 1) as usize] = true);
         }
     }
     some.iter().map(|&[some_false, some_true]| Verdict::of(some_true, some_false)).collect()
@@ -346,40 +351,79 @@ mod tests {
         assert!(deep >= 5, "{deep}");
     }
 
-    /// Verdicts and closing verdicts of whole journals against all lists of letters. A completion
-    /// that exists has one with `reach` further rounds or fewer and the same value in round t.
+    /// How often each verdict came up, in rounds and in closings.
+    type Times = [[usize; 4]; 2];
+
+    /// Verdicts and closing verdicts of a journal against all lists of letters, as long as these are at
+    /// most so many. A completion that exists has one with `reach` further rounds or fewer and the same
+    /// value in round t.
+    fn compare(random: &mut Random, bytes: &[u8], most: usize, seen: &mut Times) {
+        let monitor = Monitor::new(bytes).unwrap();
+        let sheet = &monitor.sheet;
+        let (mut rounds, mut reached, unknown) = (Vec::new(), None, random.pick(&[0, 20, 40, 100]));
+        for _ in 0..random.range(1, 6) {
+            rounds.push(random.round(sheet.inputs, unknown));
+            let enough = monitor.reach + random.below(2);
+            if lists(sheet, &rounds, enough) > most {
+                break;
+            }
+            let next = monitor.step(&monitor.live, reached.as_ref(), *rounds.last().unwrap());
+            let journal = || format!("sheet {}, rounds {rounds:?}", hex(bytes));
+            let verdicts = monitor.verdicts(&next);
+            assert_eq!(verdicts, by_trying(sheet, &rounds, 0..=enough), "{}", journal());
+            let closing = monitor.closing_verdicts(&next);
+            assert_eq!(closing, by_trying(sheet, &rounds, 0..=0), "closing: {}", journal());
+            for (way, verdicts) in [verdicts, closing].iter().enumerate() {
+                verdicts.iter().for_each(|&verdict| seen[way][verdict as usize] += 1);
+            }
+            reached = Some(next);
+        }
+    }
+
     #[test]
     fn verdicts_by_trying_letters() {
         let mut random = Random::new(713);
         let mut seen = [[0; 4]; 2];
         for _ in 0..1500 {
             let bytes = random::small(&mut random, 5);
-            let monitor = Monitor::new(&bytes).unwrap();
-            let sheet = &monitor.sheet;
-            let mut heard = Vec::new();
-            let mut reached = None;
-            for _ in 0..random.range(1, 6) {
-                heard.push(random.heard(sheet.inputs, 40));
-                let enough = monitor.reach + random.below(2);
-                if lists(sheet, &heard, enough) > 256 {
-                    break;
-                }
-                let next = monitor.step(&monitor.live, reached.as_ref(), *heard.last().unwrap());
-                let journal = || format!("sheet {}, rounds {heard:?}", hex(&bytes));
-                let verdicts = monitor.verdicts(&next);
-                assert_eq!(verdicts, by_trying(sheet, &heard, 0..=enough), "{}", journal());
-                let closing = monitor.closing_verdicts(&next);
-                assert_eq!(closing, by_trying(sheet, &heard, 0..=0), "closing: {}", journal());
-                for (way, verdicts) in [verdicts, closing].iter().enumerate() {
-                    verdicts.iter().for_each(|&verdict| seen[way][verdict as usize] += 1);
-                }
-                reached = Some(next);
-            }
+            compare(&mut random, &bytes, 256, &mut seen);
         }
         assert!(seen.iter().flatten().all(|&times| times >= 100), "{seen:?}");
     }
 
-    /// The pairs reached are the last valuation heard and the one after it, over all completions.
+    #[test]
+    fn verdicts_of_many_inputs_by_trying_letters() {
+        let mut random = Random::new(715);
+        let mut seen = [[0; 4]; 2];
+        for _ in 0..300 {
+            let bytes = random::wide(&mut random);
+            compare(&mut random, &bytes, 5000, &mut seen);
+        }
+        assert!(seen.iter().flatten().all(|&times| times >= 10), "{seen:?}");
+    }
+
+    /// Masks and the sets made from them have the same completions.
+    #[test]
+    fn masks_by_trying_letters() {
+        let mut random = Random::new(716);
+        for _ in 0..300 {
+            let monitor = Monitor::new(&random::small(&mut random, 4)).unwrap();
+            let sheet = &monitor.sheet;
+            let further = monitor.reach.min(3);
+            let t = random.range(1, 3);
+            if sheet.inputs * (t + further) > 10 {
+                continue;
+            }
+            let heard: Vec<Heard> = (0..t).map(|_| random.heard(sheet.inputs, 50)).collect();
+            let sets: Vec<LetterSet> = heard.iter().map(|round| round.set(sheet.inputs)).collect();
+            for more in [0..=further, 0..=0] {
+                let expected = by_trying_masks(sheet, &heard, more.clone());
+                assert_eq!(by_trying(sheet, &sets, more), expected, "{heard:?}");
+            }
+        }
+    }
+
+    /// The pairs reached are the valuation of the last round and the one after it, over all completions.
     #[test]
     fn reached_pairs_by_trying_letters() {
         let mut random = Random::new(714);
@@ -388,19 +432,19 @@ mod tests {
             let monitor = Monitor::new(&bytes).unwrap();
             let (sheet, size) = (&monitor.sheet, monitor.size());
             let t = random.range(1, 3);
-            let heard: Vec<Heard> = (0..t).map(|_| random.heard(sheet.inputs, 50)).collect();
-            if lists(sheet, &heard, monitor.reach + 1) > 1024 {
+            let sets: Vec<LetterSet> = (0..t).map(|_| random.round(sheet.inputs, 50)).collect();
+            if lists(sheet, &sets, monitor.reach + 1) > 1024 {
                 continue;
             }
             let mut reached = None;
-            for &round in &heard {
+            for &round in &sets {
                 reached = Some(monitor.step(&monitor.live, reached.as_ref(), round));
             }
             let mut expected = Pairs::none(size);
             for rounds in t..=t + monitor.reach + 1 {
                 for number in 0..1usize << (sheet.inputs * rounds) {
                     let letter = |round: usize| (number >> (sheet.inputs * round)) % (1 << sheet.inputs);
-                    if !(0..t).all(|round| heard[round].matches(letter(round))) {
+                    if !(0..t).all(|round| sets[round].has(letter(round))) {
                         continue;
                     }
                     let letters: Vec<u8> = (0..rounds).map(|round| letter(round) as u8).collect();
@@ -411,7 +455,7 @@ mod tests {
                     }
                 }
             }
-            assert_eq!(reached, Some(expected), "sheet {}, rounds {heard:?}", hex(&bytes));
+            assert_eq!(reached, Some(expected), "sheet {}, rounds {sets:?}", hex(&bytes));
         }
     }
 }

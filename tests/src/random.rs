@@ -1,7 +1,7 @@
 //! Random sheets, letters and rounds from a fixed start, so that every run makes the same ones.
 
 use crate::journal::Book;
-use crate::monitor::Heard;
+use crate::letters::{Heard, LetterSet};
 use crate::sheet::{byte_of_read, write, write_version, HEADER, LONGEST_EXPRESSION, NO_ASSUMPTION};
 
 /// Marsaglia's xorshift generator on 64 bits, its output multiplied by an odd constant.
@@ -57,23 +57,32 @@ impl Random {
         (0..rounds).map(|_| self.below(1 << inputs) as u8).collect()
     }
 
-    /// A round in which about so many of a hundred inputs were not heard.
+    /// A letter of so many inputs.
+    pub fn letter(&mut self, inputs: usize) -> u8 {
+        self.below(1 << inputs) as u8
+    }
+
+    /// A letter that leaves the journal a completion, if there is one.
+    pub fn letter_along(&mut self, book: &Book) -> u8 {
+        match &book.letters_ahead()[..] {
+            [] => self.letter(book.inputs()),
+            letters => self.pick(letters),
+        }
+    }
+
+    /// Masks in which about so many of a hundred inputs were not heard.
     pub fn heard(&mut self, inputs: usize, unknown: usize) -> Heard {
-        let letter = self.below(1 << inputs) as u8;
+        let letter = self.letter(inputs);
         self.heard_of(letter, inputs, unknown)
     }
 
     /// The same with a letter that leaves the journal a completion, if there is one.
     pub fn heard_along(&mut self, book: &Book, unknown: usize) -> Heard {
-        let letters = book.letters_ahead();
-        if letters.is_empty() {
-            return self.heard(book.inputs(), unknown);
-        }
-        let letter = self.pick(&letters);
+        let letter = self.letter_along(book);
         self.heard_of(letter, book.inputs(), unknown)
     }
 
-    /// A round with this letter.
+    /// Masks that this letter matches.
     pub fn heard_of(&mut self, letter: u8, inputs: usize, unknown: usize) -> Heard {
         let bits = (0..inputs).map(|input| ((self.below(100) >= unknown) as u8) << input);
         let known = bits.sum();
@@ -83,6 +92,70 @@ impl Random {
     /// Any masks at all, most of which rule 11 turns down.
     pub fn masks(&mut self) -> Heard {
         Heard { known: self.byte(), value: self.byte() }
+    }
+
+    /// A round whose set is made from masks, is the union of some of these, or has any letters. About so
+    /// many of a hundred inputs, or of the other letters, are left open.
+    pub fn round(&mut self, inputs: usize, unknown: usize) -> LetterSet {
+        let letter = self.letter(inputs);
+        self.round_of(letter, inputs, unknown)
+    }
+
+    /// The same with a letter that leaves the journal a completion, if there is one.
+    pub fn round_along(&mut self, book: &Book, unknown: usize) -> LetterSet {
+        let letter = self.letter_along(book);
+        self.round_of(letter, book.inputs(), unknown)
+    }
+
+    /// The same with this letter.
+    pub fn round_of(&mut self, letter: u8, inputs: usize, unknown: usize) -> LetterSet {
+        let masked = self.heard_of(letter, inputs, unknown).set(inputs);
+        match self.below(3) {
+            0 => masked,
+            1 => (0..self.range(1, 3)).fold(masked, |set, _| set.union(self.heard(inputs, unknown).set(inputs))),
+            _ => (0..1 << inputs).filter(|&other| other == letter as usize || self.below(100) < unknown).collect(),
+        }
+    }
+
+    /// Any number at all, most of which rule 21 turns down if there are few inputs.
+    pub fn any_set(&mut self, inputs: usize) -> LetterSet {
+        LetterSet(match self.below(4) {
+            0 => 0,
+            1 => 1 << self.below(64),
+            2 => 1 << self.below(64) | self.round(inputs, 50).0,
+            _ => self.next(),
+        })
+    }
+
+    /// A line of two alternatives or more that stands for this set: as many as it takes to have every
+    /// letter, and some of them again, in any order.
+    pub fn alternatives(&mut self, inputs: usize, letters: LetterSet) -> String {
+        let (mut parts, mut left) = (Vec::new(), letters.letters());
+        while !left.is_empty() {
+            let letter = self.pick(&left);
+            let heard = self.heard_within(inputs, letter, letters);
+            left.retain(|&letter| !heard.matches(letter as usize));
+            parts.push(heard);
+        }
+        for _ in 0..self.range((parts.len() == 1) as usize, 2) {
+            parts.push(self.pick(&parts));
+        }
+        let order = self.shuffled(parts.len());
+        let marks: Vec<String> = order.into_iter().map(|place| parts[place].marks(inputs)).collect();
+        marks.join("|")
+    }
+
+    /// Masks that this letter matches, and none that is not in the set.
+    fn heard_within(&mut self, inputs: usize, letter: u8, letters: LetterSet) -> Heard {
+        let with = |known: u8| Heard { known, value: letter & known };
+        let mut heard = with((1 << inputs) - 1);
+        for input in self.shuffled(inputs) {
+            let wider = with(heard.known & !(1 << input));
+            if !self.one_in(3) && letters.includes(wider.set(inputs)) {
+                heard = wider;
+            }
+        }
+        heard
     }
 
     /// Numbers without any order.
@@ -303,6 +376,16 @@ pub fn small(random: &mut Random, most: u8) -> Vec<u8> {
     }
 }
 
+/// An accepted sheet with four inputs or more.
+pub fn wide(random: &mut Random) -> Vec<u8> {
+    loop {
+        let sheet = accepted(random);
+        if sheet[5] >= 4 {
+            return sheet;
+        }
+    }
+}
+
 /// An accepted sheet of version 1 with these counts and no assumption, whose expressions all have 64
 /// bytes.
 pub fn dense(random: &mut Random, inputs: usize, outputs: usize) -> Vec<u8> {
@@ -483,7 +566,49 @@ fn expression_byte<'a>(random: &mut Random, sheet: &'a mut [u8]) -> &'a mut u8 {
 #[cfg(test)]
 mod tests {
     use super::*;
+    use crate::journal::{call_of_line, Call};
     use crate::{circular, hex, sheet};
+
+    /// Sets of one letter, of all, and of numbers in between that no masks make occur for all inputs.
+    #[test]
+    fn all_kinds_of_sets_occur() {
+        let mut random = Random::new(507);
+        for inputs in 1..=6 {
+            let (mut single, mut full, mut others) = (0, 0, 0);
+            for _ in 0..2000 {
+                let unknown = random.pick(&[0, 10, 50, 90, 100]);
+                let letter = random.letter(inputs);
+                let set = random.round_of(letter, inputs, unknown);
+                assert!(set.has(letter as usize) && !set.is_bad(inputs));
+                single += (set.letters().len() == 1) as usize;
+                full += (set == LetterSet::all(inputs)) as usize;
+                others += !set.letters().len().is_power_of_two() as usize;
+            }
+            assert!(single >= 100 && full >= 100 && (inputs == 1 || others >= 100), "{single} {full} {others}");
+        }
+    }
+
+    #[test]
+    fn good_and_bad_sets_occur() {
+        let mut random = Random::new(508);
+        for inputs in 1..=6 {
+            let bad = (0..1000).filter(|_| random.any_set(inputs).is_bad(inputs)).count();
+            assert!((200..=990).contains(&bad), "{inputs} inputs: {bad}");
+        }
+    }
+
+    #[test]
+    fn alternatives_stand_for_their_set() {
+        let mut random = Random::new(509);
+        for turn in 0..3000 {
+            let inputs = 1 + turn % 6;
+            let unknown = random.pick(&[0, 20, 60, 100]);
+            let letters = random.round(inputs, unknown);
+            let line = random.alternatives(inputs, letters);
+            assert_eq!(call_of_line(&line), Call::Round(letters), "{line}");
+            assert!(line.contains('|') && line.split('|').all(|marks| marks.len() == inputs), "{line}");
+        }
+    }
 
     #[test]
     fn well_formed_sheets_break_no_rule_below_10() {

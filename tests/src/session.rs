@@ -50,11 +50,12 @@ pub fn lines(input: &[u8]) -> Vec<&[u8]> {
     lines
 }
 
-/// The call that a line makes, if it is not malformed.
+/// The call that a line makes, if it is not malformed: `.`, or alternatives of as many marks as there are
+/// inputs, joined by bars.
 fn call(inputs: usize, line: &[u8]) -> Option<Call> {
-    let round = line.len() == inputs && line.iter().all(|sign| b"01?".contains(sign));
-    let good = round || line == b".";
-    good.then(|| call_of_line(std::str::from_utf8(line).expect("known signs")))
+    let whole = |part: &[u8]| part.len() == inputs && part.iter().all(|mark| b"01?".contains(mark));
+    let good = line == b"." || line.split(|&byte| byte == b'|').all(whole);
+    good.then(|| call_of_line(std::str::from_utf8(line).expect("known marks")))
 }
 
 /// What is written for a line that is not blank, or its refusal.
@@ -64,7 +65,7 @@ fn answer(book: &mut Book, line: &[u8]) -> Result<String, u32> {
     }
     match call(book.inputs(), line) {
         None => Err(17),
-        Some(Call::Round(heard)) => Ok(print(&book.round(heard)?.verdicts) + "\n"),
+        Some(Call::Round(letters)) => Ok(print(&book.round(letters)?.verdicts) + "\n"),
         Some(_) => {
             let answer = book.close()?;
             Ok(closing(book, &answer))
@@ -85,9 +86,10 @@ fn closing(book: &Book, answer: &Answer) -> String {
 #[cfg(test)]
 mod tests {
     use super::*;
-    use crate::cases::{self, assuming, plain, session_sheet, shop_sheet};
+    use crate::cases::{self, assuming, labels, plain, session_sheet, shop_sheet};
     use crate::journal::MAX_ROUNDS;
-    use crate::monitor::Heard;
+    use crate::letters::{spelled_out, LetterSet};
+    use crate::random::{self, Random};
 
     fn one() -> Vec<u8> {
         plain(1, &["40"])
@@ -141,6 +143,47 @@ mod tests {
         assert_eq!(run(&six, b"1?0?1\n"), "refused 17 line 1\n");
         assert_eq!(run(&six, b"1?0?1?0\n"), "refused 17 line 1\n");
         assert_eq!(run(&six, b"......\n"), "refused 17 line 1\n");
+    }
+
+    #[test]
+    fn alternatives() {
+        assert_eq!(run(&labels(), b"00|11\n01|10\n1?|?1\n0?|01"), "??1\n??0\n???\n0??\n");
+        assert_eq!(run(&one(), b"0|1\n1|1\n1|1|0\n.\n"), "?\n1\n?\n=?\n# 0 1 0 2 0 333\n");
+        let (every, either) = (spelled_out(6), plain(6, &["40", "40 41 42 43 44 45 04 04 04 04 04"]));
+        assert_eq!(run(&either, every.as_bytes()), "??\n");
+        assert_eq!(run(&either, &every.as_bytes()[7..]), "?1\n");
+        assert_eq!(run(&one(), "1|".repeat(200_000).as_bytes()), "refused 17 line 1\n");
+        assert_eq!(run(&one(), ("1|".repeat(200_000) + "1").as_bytes()), "1\n");
+    }
+
+    /// Each before and after other lines, with a last line feed and without.
+    #[test]
+    fn malformed_alternatives() {
+        for line in cases::malformed_alternatives() {
+            for end in ["", "\n", "\n00\n"] {
+                let after = |start: &str| run(&labels(), format!("{start}{line}{end}").as_bytes());
+                assert_eq!(after(""), "refused 17 line 1\n", "{line:?}");
+                assert_eq!(after("00|11\n\n"), "??1\nrefused 17 line 3\n", "{line:?}");
+                let closed = after("11\n.\n");
+                assert!(closed.starts_with("111\n=111\n") && closed.ends_with("\nrefused 12 line 3\n"), "{line:?}");
+            }
+        }
+    }
+
+    /// The same sets in other words have the same answers.
+    #[test]
+    fn equal_sets_written_differently() {
+        let mut random = Random::new(731);
+        for _ in 0..300 {
+            let monitor = Monitor::new(&random::small(&mut random, 6)).unwrap();
+            let inputs = monitor.sheet.inputs;
+            let sets: Vec<LetterSet> = (0..8).map(|_| random.round(inputs, 40)).collect();
+            let mut written = || {
+                let lines: Vec<String> = sets.iter().map(|&set| random.alternatives(inputs, set)).collect();
+                keep(&monitor, (lines.join("\n") + "\n.").as_bytes())
+            };
+            assert_eq!(written(), written());
+        }
     }
 
     #[test]
@@ -204,9 +247,9 @@ mod tests {
         let monitor = Monitor::new(&one()).unwrap();
         let mut book = Book::new(&monitor);
         for _ in 0..MAX_ROUNDS {
-            book.round(Heard { known: 1, value: 1 }).unwrap();
+            book.round(LetterSet(0b10)).unwrap();
         }
-        for (line, number) in [("x", 17), ("?", 13), ("..", 17), ("1", 13), ("10", 17)] {
+        for (line, number) in [("x", 17), ("?", 13), ("..", 17), ("1", 13), ("10", 17), ("0|1", 13), ("1|", 17)] {
             assert_eq!(answer(&mut book, line.as_bytes()), Err(number), "{line}");
         }
         assert_eq!(answer(&mut book, b".").unwrap(), "=1\n# 0 1000000 0 0 0 1000\n");

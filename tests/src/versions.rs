@@ -130,8 +130,8 @@ mod tests {
             assert_eq!((&first.live, first.reach), (&second.live, second.reach), "{}", hex(&sheets[1]));
             let (mut one, mut other) = (Book::new(&first), Book::new(&second));
             for _ in 0..random.range(1, 8) {
-                let heard = random.heard_along(&one, 40);
-                assert_eq!(one.round(heard), other.round(heard), "{}", hex(&sheets[1]));
+                let letters = random.round_along(&one, 40);
+                assert_eq!(one.round(letters), other.round(letters), "{}", hex(&sheets[1]));
             }
             assert_eq!(one.close(), other.close(), "{}", hex(&sheets[1]));
         }

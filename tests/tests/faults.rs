@@ -219,7 +219,7 @@ fn interrupted_reads() {
     let Some(folder) = Folder::with_sheet("interrupted_reads", &session_sheet()) else { return };
     let (input, mut to) = timed_sockets(Duration::from_secs(1000));
     let run = feed(&folder, input);
-    let pieces = ["1", "0\n", "1?\n1", "", "?\n0", "0", "\n", "\n", "01\n.", ""];
+    let pieces = ["1", "0\n", "1?\n1", "", "?\n0", "0|", "1", "1\n0", "0", "|11", "\n", "\n", "01\n.", ""];
     for piece in pieces {
         interrupt(&run);
         send(&mut to, piece.as_bytes());
@@ -483,22 +483,26 @@ fn line_by_line() {
     assert!(refused > 3, "{refused} refused lines");
 }
 
+/// Whether the line is malformed or not, no more of it is kept than what it stands for.
 #[test]
-fn a_line_of_a_hundred_megabytes() {
-    let Some(folder) = Folder::with_sheet("a_line_of_a_hundred_megabytes", &plain(1, &["40"])) else { return };
-    let (input, mut to) = input_pipe();
-    let run = feed(&folder, input);
-    send(&mut to, b"1\n");
-    run.until("an answer", |run| run.output() == "1\n");
-    let before = run.peak();
-    let part = vec![b'1'; 1_000_000];
-    for _ in 0..100 {
-        send(&mut to, &part);
+fn lines_of_a_hundred_megabytes() {
+    let Some(folder) = Folder::with_sheet("lines_of_a_hundred_megabytes", &plain(1, &["40"])) else { return };
+    for (part, answer) in [("11", "refused 17 line 2\n"), ("1|", "?\n")] {
+        let (input, mut to) = input_pipe();
+        let run = feed(&folder, input);
+        send(&mut to, b"1\n");
+        run.until("an answer", |run| run.output() == "1\n");
+        let before = run.peak();
+        let part = part.repeat(500_000);
+        for _ in 0..100 {
+            send(&mut to, part.as_bytes());
+        }
+        let after = run.peak();
+        assert!(after < 16_000 && after < before + 1000, "{before} kB before, {after} kB after");
+        send(&mut to, b"0");
+        drop(to);
+        run.end().expect(&format!("1\n{answer}"), "");
     }
-    let after = run.peak();
-    assert!(after < 16_000 && after < before + 1000, "{before} kB before, {after} kB after");
-    drop(to);
-    run.end().expect("1\nrefused 17 line 2\n", "");
 }
 
 /// A file that is opened gets the lowest number that is free, so the sheet may get one of these.

@@ -1,31 +1,66 @@
-//! The Rust package's journals against the book: verdicts, refusals, counts and shares, whatever masks
-//! a round is handed.
+//! The Rust package's journals against the book, and its sets against the outside ones: verdicts,
+//! refusals, counts and shares, whatever a round is handed.
 
-use jigwaret::{Heard, Journal, Masks, Refusal, Sheet};
+use jigwaret::{Heard, Journal, LetterSet, Refusal, Sheet};
 use outside::journal::{print, Book};
-use outside::monitor::{self, Monitor};
+use outside::letters;
+use outside::monitor::Monitor;
 use outside::random::{self, Random};
 
-/// What was heard, said input by input where that can be said, and else by masks.
-fn said(heard: monitor::Heard) -> Heard {
-    if heard.value & !heard.known != 0 {
-        return Masks::from(heard).into();
-    }
+fn refused(number: u32) -> Refusal {
+    Refusal::try_from(number).expect("a rule's number")
+}
+
+/// The number of a set of the package, or its refusal.
+fn bits(set: Result<LetterSet, Refusal>) -> Result<u64, Refusal> {
+    set.map(LetterSet::bits)
+}
+
+/// The same for the outside sets.
+fn expected_bits(heard: letters::Heard, inputs: u8) -> Result<u64, Refusal> {
+    heard.letters(inputs as usize).map(|set| set.0).map_err(refused)
+}
+
+/// Masks without a value bit that is not known, said input by input.
+fn said(heard: letters::Heard) -> Heard {
     let known = (0..8).filter(|input| heard.known >> input & 1 == 1);
     known.fold(Heard::nothing(), |built, input| built.with(input, heard.value >> input & 1 == 1))
 }
 
+#[test]
+fn sets_of_masks() {
+    let mut random = Random::new(62);
+    let sheets = [1, 2, 3, 4, 5, 6].map(|inputs| Sheet::new(outside::cases::plain(inputs, &["40"])).unwrap());
+    for _ in 0..20_000 {
+        let (inputs, heard) = (random.below(9) as u8, random.masks());
+        let set = LetterSet::from_masks(inputs, heard.known, heard.value);
+        assert_eq!(bits(set), expected_bits(heard, inputs), "{inputs} inputs, {heard:?}");
+        let heard = letters::Heard { value: heard.value & heard.known, ..heard };
+        assert_eq!(bits(said(heard).letters(inputs)), expected_bits(heard, inputs), "{inputs} inputs, {heard:?}");
+        let sheet = &sheets[random.below(6)];
+        assert_eq!(bits(sheet.letters(said(heard))), expected_bits(heard, sheet.inputs() as u8), "{heard:?}");
+    }
+}
+
+/// A set as the package has it, by its number or as a union of single letters.
+fn handed(random: &mut Random, set: letters::LetterSet) -> LetterSet {
+    if random.one_in(2) {
+        return set.0.into();
+    }
+    let singles = set.letters().into_iter().map(|letter| LetterSet::from_bits(1 << letter));
+    singles.fold(LetterSet::from_bits(0), |union, single| union | single)
+}
+
 fn compare(random: &mut Random, journal: &mut Journal, book: &mut Book) {
-    let refused = |number: u32| Refusal::try_from(number).expect("a rule's number");
     let unknown = random.pick(&[0, 30, 100]);
     for _ in 0..random.range(1, 12) {
-        let heard = match random.below(4) {
-            0 => random.masks(),
-            _ => random.heard_along(book, unknown),
+        let set = match random.below(4) {
+            0 => random.any_set(book.inputs()),
+            _ => random.round_along(book, unknown),
         };
-        let found = journal.round(said(heard)).map(|verdicts| verdicts.to_string());
-        let expected = book.round(heard).map(|answer| print(&answer.verdicts)).map_err(refused);
-        assert_eq!(found, expected, "{heard:?}");
+        let found = journal.round(handed(random, set)).map(|verdicts| verdicts.to_string());
+        let expected = book.round(set).map(|answer| print(&answer.verdicts)).map_err(refused);
+        assert_eq!(found, expected, "{set:?}");
     }
     for _ in 0..2 {
         let found = journal.close().map(|closing| (closing.verdicts.to_string(), closing.shares));

@@ -1,9 +1,11 @@
 //! The program `journal` itself, where it has been built: its files, and a journal with as many
 //! rounds as one may hold.
 
-use outside::cases::{longest, longest_comparing, plain, session_sheet, shop_sheet};
+use outside::cases::{labels, longest, longest_comparing, malformed_alternatives, plain, session_sheet, shop_sheet};
 use outside::journal::MAX_ROUNDS;
+use outside::letters::{spelled_out, LetterSet};
 use outside::program::Folder;
+use outside::random::{self, Random};
 use outside::sheet::with_version;
 use outside::{session, vectors};
 use std::fs;
@@ -54,6 +56,66 @@ fn comparisons() {
     }
 }
 
+#[test]
+fn alternatives() {
+    let Some(folder) = Folder::new("alternatives") else { return };
+    let written = "??1\n??0\n???\n0??\n111\n=111\n# 0 1 1 3 0 200\n# 1 1 0 4 0 200\n# 2 2 1 2 0 400\n";
+    assert_eq!(folder.run(Some(&labels()), b"00|11\n01|10\n1?|?1\n0?|01\n11|11|11\n.\n"), written);
+    let (six, every) = (plain(6, &["40", "40 41 42 43 44 45 04 04 04 04 04"]), spelled_out(6));
+    assert_eq!(folder.run(Some(&six), format!("{every}\n??????\n{}", &every[7..]).as_bytes()), "??\n??\n?1\n");
+}
+
+/// Each before and after closing, with a last line feed and without.
+#[test]
+fn lines_that_are_malformed() {
+    let Some(folder) = Folder::with_sheet("lines_that_are_malformed", &labels()) else { return };
+    let closed = "111\n=111\n# 0 1 0 0 0 1000\n# 1 1 0 0 0 1000\n# 2 1 0 0 0 1000\n";
+    for line in malformed_alternatives() {
+        for end in ["", "\n", "\n00\n"] {
+            let after = |start: &str| folder.written(folder.input(format!("{start}{line}{end}").as_bytes()).into());
+            assert_eq!(after("00|11\n\n"), "??1\nrefused 17 line 3\n", "{line:?}");
+            assert_eq!(after("11\n.\n"), format!("{closed}refused 12 line 3\n"), "{line:?}");
+        }
+    }
+}
+
+/// The same sets in other words.
+#[test]
+fn equal_sets_written_differently() {
+    let Some(folder) = Folder::new("equal_sets_written_differently") else { return };
+    let mut random = Random::new(91);
+    for _ in 0..60 {
+        let sheet = random::small(&mut random, 7);
+        folder.put_sheet(&sheet);
+        let inputs = sheet[5] as usize;
+        let sets: Vec<LetterSet> = (0..30).map(|_| random.round(inputs, 40)).collect();
+        let mut written = || {
+            let lines: Vec<String> = sets.iter().map(|&set| random.alternatives(inputs, set)).collect();
+            folder.written(folder.input((lines.join("\n") + "\n.").as_bytes()).into())
+        };
+        assert_eq!(written(), written(), "sheet {}", outside::hex(&sheet));
+    }
+}
+
+/// A line of 300,000 bytes, in which one alternative differs from all others or lacks a mark. The end of a
+/// buffer may lie before each of its seven bytes, the bar among them.
+#[test]
+fn long_lines() {
+    let Some(folder) = Folder::with_sheet("long_lines", &plain(6, &["40", "45"])) else { return };
+    for end in (10..=18).map(|bits| 1 << bits) {
+        for before in 0..7 {
+            let mut parts = vec!["011110"; 300_000 / 7];
+            let line = |parts: &[&str]| "\n".repeat(before) + &parts.join("|") + "\n011110";
+            let mut run = |part| {
+                parts[(end - before) / 7] = part;
+                folder.written(folder.input(line(&parts).as_bytes()).into())
+            };
+            assert_eq!(run("011111"), "0?\n00\n", "byte {end}, {before} blank lines");
+            assert_eq!(run("01111"), format!("refused 17 line {}\n", before + 1), "byte {end}, {before} blank lines");
+        }
+    }
+}
+
 /// The sheets and journals of examples/.
 #[test]
 fn examples() {
@@ -70,14 +132,12 @@ fn examples() {
         run(name);
     }
     assert_eq!(run("alike"), "01\n11\n?1\n01\n11\n=11\n# 0 2 2 1 0 400\n# 1 5 0 0 0 1000\n");
+    assert_eq!(run("relay"), "?1\n?1\n01\n11\n11\n=11\n# 0 2 1 2 0 400\n# 1 5 0 0 0 1000\n");
 }
 
-/// Rules 13 and 17 after the last round, closing, and line numbers with blank lines among them. Each
-/// line `0 1 ?` is answered with itself, the only output being the only input.
-#[test]
-fn a_million_rounds() {
-    let Some(folder) = Folder::new("a_million_rounds") else { return };
-    let sheet = plain(1, &["40"]);
+/// As many rounds as a journal may hold, with ten blank lines among them, and what is written. Each line
+/// is answered with itself where the only output is the only input.
+fn a_full_journal() -> (String, String) {
     let (mut input, mut written) = (String::new(), String::new());
     for round in 1..=MAX_ROUNDS {
         let line = match round {
@@ -91,22 +151,32 @@ fn a_million_rounds() {
             input += "\n";
         }
     }
+    (input, written)
+}
+
+/// Rules 13 and 17 after the last round, and closing.
+#[test]
+fn a_million_rounds() {
+    let Some(folder) = Folder::with_sheet("a_million_rounds", &plain(1, &["40"])) else { return };
+    let (input, written) = a_full_journal();
     // 999,500 of 1,000,000 is 999 and a half per thousand.
     let closing = "=?\n# 0 999500 499 1 0 1000\n";
-    let ends = [
+    let refused = |number: u32, line: u32| format!("refused {number} line {line}\n");
+    let full = ["?\n", "0", "0|1\n", "1|1"].map(|end| (end.to_string(), refused(13, 1_000_011)));
+    let malformed = ["x", "??", "..", "|", "0|", "|0", "0||1", ".|0", "0|.", "0|11", "01|1", "0| 1", "0|1\r"];
+    let malformed = malformed.into_iter().flat_map(|line| [line.to_string(), format!("{line}\n?\n")]);
+    let malformed = malformed.map(|end| (end, refused(17, 1_000_011)));
+    let others = [
         ("", "".to_string()),
-        ("?\n", "refused 13 line 1000011\n".to_string()),
-        ("0", "refused 13 line 1000011\n".to_string()),
-        ("\n\n1\n.\n", "refused 13 line 1000013\n".to_string()),
-        ("x\n", "refused 17 line 1000011\n".to_string()),
-        ("??\n?\n", "refused 17 line 1000011\n".to_string()),
-        ("..", "refused 17 line 1000011\n".to_string()),
+        ("\n\n1\n.\n", refused(13, 1_000_013)),
         (".\n\n", closing.to_string()),
-        (".\n?\n", format!("{closing}refused 12 line 1000012\n")),
-        (".\nx", format!("{closing}refused 12 line 1000012\n")),
+        (".\n?\n", format!("{closing}{}", refused(12, 1_000_012))),
+        (".\nx", format!("{closing}{}", refused(12, 1_000_012))),
+        (".\n0|", format!("{closing}{}", refused(12, 1_000_012))),
     ];
-    for (end, expected) in ends {
-        let found = folder.run(Some(&sheet), format!("{input}{end}").as_bytes());
+    let others = others.map(|(end, expected)| (end.to_string(), expected));
+    for (end, expected) in full.into_iter().chain(malformed).chain(others) {
+        let found = folder.written(folder.input(format!("{input}{end}").as_bytes()).into());
         assert!(found.starts_with(&written), "the rounds before {end:?}");
         assert_eq!(found[written.len()..], expected, "{end:?}");
     }
@@ -115,15 +185,20 @@ fn a_million_rounds() {
 /// Input that comes in pieces.
 #[test]
 fn pieces() {
-    let Some(folder) = Folder::with_sheet("pieces", &session_sheet()) else { return };
-    let (input, mut pipe) = io::pipe().expect("a pipe");
-    let mut command = folder.command();
-    command.stdin(input);
-    let run = folder.start(command);
-    for piece in ["1", "0", "\n?1\n1", "?\n00\n0", "1\n", "."] {
-        pipe.write_all(piece.as_bytes()).expect("a write");
-        thread::sleep(Duration::from_millis(5));
+    let Some(folder) = Folder::new("pieces") else { return };
+    let session = ["1", "0", "\n?1\n1", "?\n00\n0", "1\n", "."];
+    let bars = ["0", "0|", "11\n", "01", "|10\n0", "0|1", "1", "|01\n11|", "11\n0?", "|", "0", "1", "\n."];
+    for (sheet, pieces) in [(session_sheet(), &session[..]), (labels(), &bars)] {
+        folder.put_sheet(&sheet);
+        let (input, mut pipe) = io::pipe().expect("a pipe");
+        let mut command = folder.command();
+        command.stdin(input);
+        let run = folder.start(command);
+        for piece in pieces {
+            pipe.write_all(piece.as_bytes()).expect("a write");
+            thread::sleep(Duration::from_millis(5));
+        }
+        drop(pipe);
+        run.end().expect(&session::run(&sheet, pieces.concat().as_bytes()), "");
     }
-    drop(pipe);
-    run.end().expect("?1\n11\n?1\n11\n!!\n=!!\n# 0 2 0 2 1 400\n# 1 4 0 0 1 800\n", "");
 }

@@ -6,6 +6,7 @@ use crate::workloads::{dense, session_lines, Unheard, Workload};
 use jigwaret::raw;
 use outside::cases::session_sheet;
 use outside::journal::{call_of_line, Call, Held};
+use outside::letters::LetterSet;
 use outside::random::Random;
 use outside::sheet::{byte_of_read, write, NO_ASSUMPTION};
 
@@ -62,13 +63,13 @@ const STRETCH: usize = 500;
 /// By the rounds that a journal holds: seconds of a round after so many others.
 pub fn by_rounds() -> Vec<(usize, f64)> {
     let sheet = session_sheet();
-    let lines = session_lines(&mut Random::new(3), STRETCH);
+    let lines = session_lines(&mut Random::new(3), STRETCH, Unheard::Share(30));
     let calls: Vec<Call> = lines.lines().map(call_of_line).collect();
     let play = |held: &mut Held| {
         for call in &calls {
-            if let Call::Round(heard) = call {
+            if let Call::Round(LetterSet(letters)) = call {
                 let Held { storage, record, answer } = &mut *held;
-                assert_eq!(raw::round(&sheet, storage, record, (*heard).into(), answer), 0);
+                assert_eq!(raw::round(&sheet, storage, record, *letters, answer), 0);
             }
         }
     };

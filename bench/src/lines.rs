@@ -116,41 +116,57 @@ fn answer(journal: &mut Journal, line: &[u8], output: &mut impl Write) -> Result
         }
         return Ok(());
     }
-    let (known, value) = masks(journal.sheet.inputs, line).ok_or(17u32)?;
-    let verdicts = journal.round(known, value)?;
+    let letters = line_set(journal.sheet.inputs, line).ok_or(17u32)?;
+    let verdicts = journal.round(letters)?;
     print(output, b"", &verdicts)?;
     Ok(())
 }
 
-/// The masks of a line of `0`, `1` and `?`, input 0 first.
-fn masks(inputs: usize, line: &[u8]) -> Option<(u8, u8)> {
-    if line.len() != inputs {
-        return None;
-    }
-    let (mut known, mut value) = (0, 0);
-    for (input, &sign) in line.iter().enumerate() {
-        match sign {
-            b'0' => known |= 1 << input,
-            b'1' => {
-                known |= 1 << input;
-                value |= 1 << input;
-            }
-            b'?' => {}
+/// The set of a line: the union of its alternatives, which are joined by bars.
+fn line_set(inputs: usize, line: &[u8]) -> Option<u64> {
+    let (mut set, mut rest) = (0, line);
+    loop {
+        let (marks, after) = rest.split_at_checked(inputs)?;
+        set |= alternative_set(marks)?;
+        match after {
+            [] => return Some(set),
+            [b'|', others @ ..] => rest = others,
             _ => return None,
         }
     }
-    Some((known, value))
+}
+
+/// The letters that fit marks `0`, `1` and `?`, input 0 first. Marks can't be foretold, so there is no
+/// branch on them.
+fn alternative_set(marks: &[u8]) -> Option<u64> {
+    let (mut set, mut good) = (1, true);
+    for (input, &mark) in marks.iter().enumerate() {
+        let lower = if mark == b'1' { 0 } else { set };
+        let higher = if mark == b'0' { 0 } else { set << (1 << input) };
+        good &= matches!(mark, b'0' | b'1' | b'?');
+        set = lower | higher;
+    }
+    good.then_some(set)
 }
 
 #[cfg(test)]
 mod tests {
     use super::*;
-    use outside::cases;
+    use outside::journal::{call_of_line, Call};
+    use outside::letters::LetterSet;
+    use outside::monitor::Monitor;
+    use outside::random::{self, Random};
+    use outside::{cases, hex, session};
     use std::io::BufReader;
 
     fn printed(sheet: &[u8], input: &str) -> String {
+        printed_by_chunks(sheet, input.as_bytes(), input.len().max(1))
+    }
+
+    /// What is printed if so many bytes are read at once.
+    fn printed_by_chunks(sheet: &[u8], input: &[u8], length: usize) -> String {
         let mut output = Vec::new();
-        run(sheet, input.as_bytes(), &mut output).unwrap();
+        run(sheet, BufReader::with_capacity(length, input), &mut output).unwrap();
         String::from_utf8(output).unwrap()
     }
 
@@ -188,12 +204,75 @@ mod tests {
     /// Where the input is cut does not matter.
     #[test]
     fn chunks() {
-        let input = "10\n?1\n\n1?\n00\n01\n.\n\n.";
+        let input = "10\n?1|00\n\n1?\n00|11|00\n01\n.\n\n.";
         for length in 1..input.len() {
-            let mut output = Vec::new();
-            let chunked = BufReader::with_capacity(length, input.as_bytes());
-            run(&cases::session_sheet(), chunked, &mut output).unwrap();
-            assert_eq!(String::from_utf8(output).unwrap(), printed(&cases::session_sheet(), input));
+            let found = printed_by_chunks(&cases::session_sheet(), input.as_bytes(), length);
+            assert_eq!(found, printed(&cases::session_sheet(), input));
+        }
+    }
+
+    #[test]
+    fn alternatives() {
+        let mut random = Random::new(931);
+        for turn in 0..3000 {
+            let inputs = 1 + turn % 6;
+            let unknown = random.pick(&[0, 30, 100]);
+            let letters = random.round(inputs, unknown);
+            let line = random.alternatives(inputs, letters);
+            assert_eq!(line_set(inputs, line.as_bytes()).map(LetterSet), Some(letters), "{line}");
+        }
+        for line in ["00|11", "11|00", "00|00|00", "?0|1?", "??|01", "0?"] {
+            assert_eq!(line_set(2, line.as_bytes()).map(|set| Call::Round(LetterSet(set))), Some(call_of_line(line)));
+        }
+    }
+
+    #[test]
+    fn malformed() {
+        let lines = [
+            "|", "||", "|00", "00|", "00||11", "|00|11", "00|11|", "0|11", "00|1", "00|111", "001|11", "0|0", "00|.",
+            ".|00", ".|.", "00 |11", "00| 11", " 00|11", "00|11 ", "00|11\r", "00\r|11", "00|1x", "0x|11", "00\0|11",
+            "00/11", "00|11.",
+        ];
+        for line in lines {
+            for end in ["", "\n", "\n11\n"] {
+                let input = format!("{line}{end}");
+                assert_eq!(printed(&cases::session_sheet(), &input), "refused 17 line 1\n", "{input:?}");
+            }
+        }
+    }
+
+    /// A line; about one in six is altered in one place.
+    fn random_line(random: &mut Random, inputs: usize) -> Vec<u8> {
+        let unknown = random.pick(&[0, 30, 100]);
+        let letters = random.round(inputs, unknown);
+        let mut line = match random.below(12) {
+            0 => vec![],
+            1 => b".".to_vec(),
+            2..6 => random.heard(inputs, unknown).marks(inputs).into_bytes(),
+            _ => random.alternatives(inputs, letters).into_bytes(),
+        };
+        if random.one_in(6) {
+            let place = random.below(line.len() + 1);
+            let end = random.range(place, line.len().min(place + 1));
+            let byte = random.pick(b"01?|. \rx");
+            line.splice(place..end, random.one_in(2).then_some(byte));
+        }
+        line
+    }
+
+    /// The same text as the outside tests' program, with chunks of any length.
+    #[test]
+    fn random_sessions() {
+        let mut random = Random::new(932);
+        for turn in 0..1000 {
+            let sheet = random::small(&mut random, if turn % 20 == 0 { 8 } else { 6 });
+            let monitor = Monitor::new(&sheet).unwrap();
+            let lines: Vec<Vec<u8>> =
+                (0..random.range(1, 12)).map(|_| random_line(&mut random, monitor.sheet.inputs)).collect();
+            let mut input = lines.join(&b'\n');
+            input.extend(random.one_in(2).then_some(b'\n'));
+            let length = random.range(1, 40);
+            assert_eq!(printed_by_chunks(&sheet, &input, length), session::keep(&monitor, &input), "{}", hex(&input));
         }
     }
 

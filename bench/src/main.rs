@@ -1,9 +1,9 @@
 //! Times the proved library against the same algorithm without a proof, a straightforward monitor and
 //! the outside tests, prints the tables and writes docs/BENCHMARKS.md. With the argument `quick`, it
-//! prints the tables of checks, preparation, rounds, comparisons and the program, from fewer repeats,
-//! and writes nothing.
+//! prints the tables of checks, preparation, rounds, sets, comparisons and the program, from fewer
+//! repeats, and writes nothing.
 
-use bench::measure::{self, CheckTimes, PreparationTimes, RoundTimes, Subject};
+use bench::measure::{self, CheckTimes, PreparationTimes, RoundTimes, SetTimes, Subject};
 use bench::timing::Effort;
 use bench::workloads::{self, Unheard, TRACE_LENGTHS};
 use bench::{growth, program, report};
@@ -35,6 +35,7 @@ fn quick() {
     let (preparations, rounds) = journals(Effort::QUICK);
     println!("Preparation\n\n{}", report::preparations(&preparations));
     println!("A round\n\n{}", report::rounds(&rounds));
+    println!("Sets from masks\n\n{}", report::sets(&sets(Effort::QUICK)));
     println!("Comparisons\n\n{}", report::comparisons(&measure::comparisons(Effort::QUICK)));
     println!("The program\n\n{}", report::program(&program::time(Effort::QUICK)));
 }
@@ -54,6 +55,7 @@ fn document() -> String {
         checks = report::checks(&checks),
         preparations = report::preparations(&preparations),
         rounds = report::rounds(&rounds),
+        sets = report::sets(&sets(Effort::FULL)),
         traces = report::traces(&traces),
         compared = workloads::comparisons().len(),
         written_out = workloads::comparisons_written_out().len(),
@@ -77,17 +79,24 @@ fn checks(effort: Effort) -> Vec<CheckTimes> {
     ]
 }
 
+fn sets(effort: Effort) -> [SetTimes; 6] {
+    [1, 2, 3, 4, 5, 6].map(|inputs| measure::sets(effort, inputs))
+}
+
 fn journals(effort: Effort) -> (Vec<PreparationTimes>, Vec<RoundTimes>) {
     let mut preparations = Vec::new();
     let mut rounds = Vec::new();
     for workload in &workloads::journals() {
         let subject = Subject::new(workload);
         preparations.push(subject.preparation(effort));
-        for share in [0, 30, 100] {
-            rounds.push(subject.rounds(effort, Unheard::Share(share)));
-        }
+        let mut time = |unheard| rounds.push(subject.rounds(effort, unheard));
+        [0, 30, 100].map(Unheard::Share).into_iter().for_each(&mut time);
         if workload.name == "formula" {
-            rounds.push(subject.rounds(effort, Unheard::First));
+            time(Unheard::First);
+        }
+        // Masks make every set of one input's letters.
+        if subject.inputs() > 1 {
+            time(Unheard::Alternative);
         }
     }
     (preparations, rounds)

@@ -8,7 +8,8 @@ use crate::timing::{Effort, Parts};
 use crate::workloads::{self, Unheard, Workload, TRACE_LENGTHS};
 use jigwaret::raw;
 use outside::journal::{Book, Held};
-use outside::monitor::{Heard, Monitor};
+use outside::letters::{Heard, LetterSet};
+use outside::monitor::Monitor;
 use outside::{circular, language};
 use std::hint::black_box;
 
@@ -70,6 +71,13 @@ pub struct ProvedTimes {
     pub pairs: f64,
 }
 
+/// Making a set from masks.
+pub struct SetTimes {
+    pub inputs: u8,
+    /// Of one set.
+    pub times: Times,
+}
+
 pub struct TraceTimes {
     pub name: &'static str,
     pub rounds: usize,
@@ -127,6 +135,10 @@ impl Subject<'_> {
         Subject { workload, prepared, kept, straightforward, tabled }
     }
 
+    pub fn inputs(&self) -> usize {
+        self.tabled.sheet.inputs
+    }
+
     pub fn preparation(&self, effort: Effort) -> PreparationTimes {
         let sheet = &self.workload.sheet;
         let (mut first, mut second) = (Held::fresh(), Held::fresh());
@@ -138,7 +150,7 @@ impl Subject<'_> {
         ]);
         PreparationTimes {
             name: self.workload.name,
-            inputs: self.tabled.sheet.inputs,
+            inputs: self.inputs(),
             outputs: self.tabled.sheet.outputs(),
             live_pairs: self.prepared.answer[0],
             reach: self.tabled.reach,
@@ -160,20 +172,20 @@ impl Subject<'_> {
                 },
                 &mut |parts| {
                     let mut kept = self.kept.clone();
-                    stretches.play(parts, |round| assert!(kept.round(round.known, round.value).is_ok()));
+                    stretches.play(parts, |round| assert!(kept.round(round).is_ok()));
                 },
                 &mut |parts| {
                     let mut journal = straightforward::Journal::new(&self.straightforward);
-                    stretches.play(parts, |round| assert!(journal.round(round.known, round.value).is_ok()));
+                    stretches.play(parts, |round| assert!(journal.round(round).is_ok()));
                 },
                 &mut |parts| {
                     let mut book = Book::new(&self.tabled);
-                    stretches.play(parts, |round| assert!(book.round(round).is_ok()));
+                    stretches.play(parts, |round| assert!(book.round(LetterSet(round)).is_ok()));
                 },
             ])
             .map(|time| time / heard.len() as f64);
         let times = MonitorTimes { proved, fast, straightforward, tabled };
-        let streams = self.tabled.sheet.inputs + self.tabled.sheet.outputs();
+        let streams = self.inputs() + self.tabled.sheet.outputs();
         RoundTimes { name: self.workload.name, streams, unheard, pairs, times, kept }
     }
 
@@ -195,17 +207,17 @@ impl Subject<'_> {
     }
 
     /// So many rounds at once last long enough to be timed, even with the fastest monitor.
-    fn stretches<'a>(&self, effort: Effort, heard: &'a [Heard]) -> Stretches<'a> {
+    fn stretches<'a>(&self, effort: Effort, heard: &'a [u64]) -> Stretches<'a> {
         let [fastest] = effort.shortest([&mut || {
             let mut kept = self.kept.clone();
-            heard.iter().for_each(|round| assert!(kept.round(round.known, round.value).is_ok()));
+            heard.iter().for_each(|&round| assert!(kept.round(round).is_ok()));
         }]);
         Stretches { heard, length: (SHORTEST_PART / fastest * heard.len() as f64).ceil() as usize }
     }
 
     /// Plays a journal on all sides and compares numbers, verdicts and records after each call, and the
     /// storage of the two that have some. Returns the mean number of pairs reached.
-    fn same_answers(&self, heard: &[Heard]) -> f64 {
+    fn same_answers(&self, heard: &[u64]) -> f64 {
         let (sheet, name) = (&self.workload.sheet, self.workload.name);
         let (mut proved, mut fast, mut kept) = (self.prepared.clone(), self.prepared.clone(), self.kept.clone());
         let mut journal = straightforward::Journal::new(&self.straightforward);
@@ -216,9 +228,9 @@ impl Subject<'_> {
             let numbers = (proved_round(sheet, &mut proved, round), fast_round(sheet, &mut fast, round));
             assert_eq!(numbers, (0, 0), "{name}");
             assert!(proved == fast, "{name}: round {}", proved.record[0]);
-            let own = kept.round(round.known, round.value).expect("accepted by the others");
-            let direct = journal.round(round.known, round.value).expect("accepted by the others");
-            let tabled = book.round(round).expect("accepted by the others");
+            let own = kept.round(round).expect("accepted by the others");
+            let direct = journal.round(round).expect("accepted by the others");
+            let tabled = book.round(LetterSet(round)).expect("accepted by the others");
             for k in 0..n {
                 let verdicts = [own[k] as u32, direct[k] as u32, tabled.verdicts[k] as u32];
                 assert_eq!(verdicts, [proved.answer[k]; 3], "{name}");
@@ -245,12 +257,12 @@ impl Subject<'_> {
 
 /// A journal's rounds, so many of which are timed at once.
 struct Stretches<'a> {
-    heard: &'a [Heard],
+    heard: &'a [u64],
     length: usize,
 }
 
 impl Stretches<'_> {
-    fn play(&self, parts: &mut Parts, mut take: impl FnMut(Heard)) {
+    fn play(&self, parts: &mut Parts, mut take: impl FnMut(u64)) {
         parts.end_part();
         for stretch in self.heard.chunks(self.length) {
             stretch.iter().for_each(|&round| take(round));
@@ -267,12 +279,42 @@ fn fast_preparation(sheet: &[u8], held: &mut Held) -> u32 {
     entries::prepare(sheet, &mut held.storage, &mut held.record, &mut held.answer)
 }
 
-fn proved_round(sheet: &[u8], held: &mut Held, heard: Heard) -> u32 {
-    raw::round(sheet, &mut held.storage, &mut held.record, heard.into(), &mut held.answer)
+fn proved_round(sheet: &[u8], held: &mut Held, letters: u64) -> u32 {
+    raw::round(sheet, &mut held.storage, &mut held.record, letters, &mut held.answer)
 }
 
-fn fast_round(sheet: &[u8], held: &mut Held, heard: Heard) -> u32 {
-    entries::round(sheet, &mut held.storage, &mut held.record, heard.known, heard.value, &mut held.answer)
+fn fast_round(sheet: &[u8], held: &mut Held, letters: u64) -> u32 {
+    entries::round(sheet, &mut held.storage, &mut held.record, letters, &mut held.answer)
+}
+
+/// Takes the number of inputs and two masks, and writes the set.
+type MakeSet = fn(u8, u8, u8, &mut u64) -> u32;
+
+/// Sets from the masks of rounds.
+pub fn sets(effort: Effort, inputs: u8) -> SetTimes {
+    let masks = workloads::masks(inputs, 1000);
+    let sets: Vec<u64> = masks.iter().map(|heard| heard.set(inputs as usize).0).collect();
+    let functions: [MakeSet; 3] = [raw::letters, entries::letters, plain_letters];
+    let [mut proved, mut fast, mut plain] = functions.map(|function| {
+        let rounds = masks.iter().zip(&sets);
+        move || {
+            // Called, not inlined, like the library's.
+            let function = black_box(function);
+            for (heard, &set) in rounds.clone() {
+                let mut made = 0;
+                let number = function(inputs, heard.known, heard.value, &mut made);
+                assert_eq!((number, made), (0, set), "{heard:?} of {inputs} inputs");
+            }
+        }
+    });
+    let times = effort.shortest([&mut proved, &mut fast, &mut plain]);
+    let [proved, fast, plain] = times.map(|time| time / masks.len() as f64);
+    SetTimes { inputs, times: Times { proved, fast, plain } }
+}
+
+fn plain_letters(inputs: u8, known: u8, value: u8, letters: &mut u64) -> u32 {
+    let made = Heard { known, value }.letters(inputs as usize);
+    made.map(|set| *letters = set.0).err().unwrap_or(0)
 }
 
 pub fn evaluate(effort: Effort, workload: &Workload, rounds: usize) -> TraceTimes {

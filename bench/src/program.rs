@@ -1,7 +1,7 @@
-//! The proved program `journal` and the unproved one on the same journal.
+//! The proved program `journal` and the unproved one on the same journals.
 
 use crate::timing::{clock, Effort};
-use crate::workloads::session_lines;
+use crate::workloads::{session_lines, Unheard};
 use outside::cases::session_sheet;
 use outside::random::Random;
 use std::env;
@@ -12,14 +12,15 @@ use std::process::{Command, Stdio};
 
 pub const ROUNDS: usize = 1_000_000;
 
-/// Seconds of both.
+/// Seconds of both on a journal of the session sheet.
 pub struct Timed {
+    pub unheard: Unheard,
     pub proved: f64,
     pub fast: f64,
 }
 
 /// Times both programs, or tells what is missing.
-pub fn time(effort: Effort) -> Result<Timed, String> {
+pub fn time(effort: Effort) -> Result<Vec<Timed>, String> {
     let package = Path::new(env!("CARGO_MANIFEST_DIR"));
     let proved = package.join("../target/bin/journal");
     let fast = env::current_exe().map_err(|error| error.to_string())?.with_file_name("journal");
@@ -29,20 +30,25 @@ pub fn time(effort: Effort) -> Result<Timed, String> {
         }
     }
     let folder = env::temp_dir().join(format!("jigwaret-bench-{}", std::process::id()));
-    let timed = time_in(&folder, &proved, &fast, effort.program_runs);
+    let timed = [Unheard::Share(30), Unheard::Alternative].map(|unheard| {
+        let lines = session_lines(&mut Random::new(3), ROUNDS, unheard);
+        let [proved, fast] = time_in(&folder, [&proved, &fast], &lines, effort)?;
+        Ok(Timed { unheard, proved, fast })
+    });
     // What is left behind does no harm.
     let _ = fs::remove_dir_all(&folder);
-    timed.map_err(|error| error.to_string())
+    timed.into_iter().collect::<io::Result<_>>().map_err(|error| error.to_string())
 }
 
-fn time_in(folder: &Path, proved: &Path, fast: &Path, runs: usize) -> io::Result<Timed> {
+/// Seconds of both programs on these lines and a closing.
+fn time_in(folder: &Path, programs: [&Path; 2], lines: &str, effort: Effort) -> io::Result<[f64; 2]> {
     fs::create_dir_all(folder)?;
     fs::write(folder.join("sheet.slr"), session_sheet())?;
-    fs::write(folder.join("lines"), session_lines(&mut Random::new(3), ROUNDS) + ".\n")?;
-    let programs = [proved.canonicalize()?, fast.canonicalize()?];
+    fs::write(folder.join("lines"), format!("{lines}.\n"))?;
+    let programs = [programs[0].canonicalize()?, programs[1].canonicalize()?];
     let outputs = ["proved", "fast"].map(|name| folder.join(name));
     let mut best = [f64::INFINITY; 2];
-    for _ in 0..runs {
+    for _ in 0..effort.program_runs {
         for (i, program) in programs.iter().enumerate() {
             best[i] = best[i].min(run(program, folder, &outputs[i])?);
         }
@@ -50,7 +56,7 @@ fn time_in(folder: &Path, proved: &Path, fast: &Path, runs: usize) -> io::Result
     let texts = [fs::read(&outputs[0])?, fs::read(&outputs[1])?];
     assert!(texts[0] == texts[1], "the programs print the same");
     assert_eq!(texts[0].iter().filter(|&&byte| byte == b'\n').count(), ROUNDS + 3);
-    Ok(Timed { proved: best[0], fast: best[1] })
+    Ok(best)
 }
 
 fn run(program: &PathBuf, folder: &Path, output: &Path) -> io::Result<f64> {

@@ -1,7 +1,7 @@
 //! The measurements as a document.
 
 use crate::growth::Cost;
-use crate::measure::{CheckTimes, ComparisonTimes, MonitorTimes, PreparationTimes, RoundTimes, TraceTimes};
+use crate::measure::{CheckTimes, ComparisonTimes, MonitorTimes, PreparationTimes, RoundTimes, SetTimes, TraceTimes};
 use crate::program::{Timed, ROUNDS};
 use crate::workloads::TRACE_LENGTHS;
 use std::fmt::Write;
@@ -28,6 +28,7 @@ pub fn ratio(value: f64) -> String {
 
 fn seconds(value: f64) -> String {
     match value {
+        value if value < 9.95e-9 => format!("{:.1} ns", value * 1e9),
         value if value < 1e-6 => format!("{:.0} ns", value * 1e9),
         value if value < 1e-3 => format!("{} µs", ratio(value * 1e6)),
         value if value < 1.0 => format!("{} ms", ratio(value * 1e3)),
@@ -109,6 +110,21 @@ pub fn rounds(all: &[RoundTimes]) -> String {
     )
 }
 
+pub fn sets(all: &[SetTimes]) -> String {
+    table(
+        &["inputs", "proved : fast", "plain : proved", "proved, time of a set here"],
+        all.iter().map(|each| {
+            let times = each.times;
+            vec![
+                each.inputs.to_string(),
+                ratio(times.proved / times.fast),
+                ratio(times.plain / times.proved),
+                seconds(times.proved),
+            ]
+        }),
+    )
+}
+
 pub fn traces(all: &[[TraceTimes; 2]]) -> String {
     table(
         &["sheet", "rounds", "proved : fast", "plain : proved", "proved, time here"],
@@ -139,12 +155,12 @@ pub fn comparisons(times: &ComparisonTimes) -> String {
     )
 }
 
-pub fn program(timed: &Result<Timed, String>) -> String {
+pub fn program(timed: &Result<Vec<Timed>, String>) -> String {
+    let row = |&Timed { unheard, proved, fast }: &Timed| {
+        vec![format!("session, {ROUNDS} rounds"), unheard.name(), ratio(proved / fast), seconds(proved)]
+    };
     match timed {
-        Ok(timed) => table(
-            &["journal", "proved : fast", "proved, time here"],
-            [vec![format!("session, {ROUNDS} rounds"), ratio(timed.proved / timed.fast), seconds(timed.proved)]],
-        ),
+        Ok(timed) => table(&["journal", "not heard", "proved : fast", "proved, time here"], timed.iter().map(row)),
         Err(missing) => format!("Not timed: {missing}.\n"),
     }
 }
@@ -198,7 +214,7 @@ pub fn targets(
     preparations: &[PreparationTimes],
     rounds: &[RoundTimes],
     traces: &[[TraceTimes; 2]],
-    program: &Result<Timed, String>,
+    program: &Result<Vec<Timed>, String>,
 ) -> String {
     let prepared = |fewest_streams: usize, ratio: fn(MonitorTimes) -> f64| -> Vec<Found> {
         let sheets = preparations.iter().filter(|each| each.inputs + each.outputs >= fewest_streams);
@@ -212,7 +228,7 @@ pub fn targets(
     let over_fast = |times: MonitorTimes| times.proved / times.fast;
     let of_straightforward = |times: MonitorTimes| times.straightforward / times.proved;
     let longer = |[short, long]: &[TraceTimes; 2]| (long.times.proved / short.times.proved, long.name.to_string());
-    let timed = |timed: &Timed| (timed.proved / timed.fast, "session".to_string());
+    let timed = |timed: &Timed| (timed.proved / timed.fast, format!("session, {} not heard", timed.unheard.name()));
     let [short, long] = TRACE_LENGTHS;
     [
         target(
@@ -235,7 +251,7 @@ pub fn targets(
         target(
             format!("The program `journal` takes at most {MOST_OVER_PROGRAM} times as long as the unproved one."),
             |ratio| ratio <= MOST_OVER_PROGRAM,
-            &[("program", program.iter().map(timed).collect())],
+            &[("program", program.iter().flatten().map(timed).collect())],
         ),
     ]
     .concat()

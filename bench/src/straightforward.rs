@@ -25,13 +25,13 @@ impl Monitor {
         Ok(Monitor { sheet, live })
     }
 
-    /// The live pairs (b, c) reached in a round: b's letter was heard, and the equations hold at b
-    /// between some a and c, a being nothing in round 1 (`reached` is none) and later the first part of
-    /// a pair (a, b) reached in the round before.
-    fn step(&self, reached: Option<&BTreeSet<Pair>>, known: u8, value: u8) -> BTreeSet<Pair> {
+    /// The live pairs (b, c) reached in a round: b's letter is in the round's set, and the equations hold
+    /// at b between some a and c, a being nothing in round 1 (`reached` is none) and later the first part
+    /// of a pair (a, b) reached in the round before.
+    fn step(&self, reached: Option<&BTreeSet<Pair>>, letters: u64) -> BTreeSet<Pair> {
         let mut before: BTreeMap<u8, Vec<Option<u8>>> = BTreeMap::new();
         let mut hear = |a: Option<u8>, b: u8| {
-            if b & known == value {
+            if letters >> self.letter(b) & 1 == 1 {
                 before.entry(b).or_default().push(a);
             }
         };
@@ -48,6 +48,11 @@ impl Monitor {
             }
         }
         next
+    }
+
+    /// The inputs of a valuation.
+    fn letter(&self, valuation: u8) -> u8 {
+        valuation & ((1 << self.sheet.inputs) - 1)
     }
 
     /// The number of the verdict on each output over these valuations.
@@ -84,17 +89,17 @@ impl Journal<'_> {
     }
 
     /// The verdicts, or the number of the refusal.
-    pub fn round(&mut self, known: u8, value: u8) -> Result<Vec<u8>, u32> {
+    pub fn round(&mut self, letters: u64) -> Result<Vec<u8>, u32> {
         if self.closed {
             return Err(12);
         }
-        if known >> self.monitor.sheet.inputs != 0 || value & !known != 0 {
-            return Err(11);
+        if letters == 0 || letters.ilog2() >= 1 << self.monitor.sheet.inputs {
+            return Err(21);
         }
         if self.rounds == MAX_ROUNDS {
             return Err(13);
         }
-        let reached = self.monitor.step(self.reached.as_ref(), known, value);
+        let reached = self.monitor.step(self.reached.as_ref(), letters);
         let verdicts = self.monitor.verdicts(reached.iter().map(|&(a, _)| a));
         self.reached = Some(reached);
         self.rounds += 1;
@@ -195,9 +200,9 @@ mod tests {
     /// The same answer and the same record on both sides.
     fn agree(journal: &mut Journal, book: &mut Book, call: Call) -> Option<u32> {
         let (found, expected) = match call {
-            Call::Round(heard) => {
-                let found = journal.round(heard.known, heard.value).map(|verdicts| (verdicts, Vec::new()));
-                (found, book.round(heard))
+            Call::Round(letters) => {
+                let found = journal.round(letters.0).map(|verdicts| (verdicts, Vec::new()));
+                (found, book.round(letters))
             }
             _ => (journal.close(), book.close()),
         };
@@ -239,17 +244,17 @@ mod tests {
             let (mut journal, mut book) = (Journal::new(&own), Book::new(&other));
             let unknown = random.pick(&[0, 30, 100]);
             for _ in 0..random.range(0, 12) {
-                let heard = match random.below(12) {
-                    0 => random.masks(),
-                    1..4 => random.heard(book.inputs(), unknown),
-                    _ => random.heard_along(&book, unknown),
+                let letters = match random.below(12) {
+                    0 => random.any_set(book.inputs()),
+                    1..4 => random.round(book.inputs(), unknown),
+                    _ => random.round_along(&book, unknown),
                 };
-                refusals.extend(agree(&mut journal, &mut book, Call::Round(heard)));
+                refusals.extend(agree(&mut journal, &mut book, Call::Round(letters)));
             }
             refusals.extend(agree(&mut journal, &mut book, Call::Close));
             refusals.extend(agree(&mut journal, &mut book, Call::Close));
         }
-        assert!([11, 12, 14].iter().all(|number| refusals.contains(number)));
+        assert!([12, 14, 21].iter().all(|number| refusals.contains(number)));
     }
 
     #[test]
@@ -257,8 +262,9 @@ mod tests {
         let monitor = Monitor::new(&cases::plain(1, &["40"])).unwrap();
         let mut journal = Journal::new(&monitor);
         journal.rounds = MAX_ROUNDS - 1;
-        assert_eq!(journal.round(1, 1), Ok(vec![1]));
-        assert_eq!(journal.round(1, 1), Err(13));
+        assert_eq!(journal.round(0b10), Ok(vec![1]));
+        assert_eq!(journal.round(0b10), Err(13));
+        assert_eq!([0, 0b100, u64::MAX].map(|letters| journal.round(letters)), [Err(21), Err(21), Err(21)]);
         assert_eq!(journal.rounds, MAX_ROUNDS);
     }
 }

@@ -3,7 +3,8 @@
 use outside::cases::{assuming, bytes, counter, register, session_sheet};
 use outside::circular;
 use outside::journal::Book;
-use outside::monitor::{Heard, Monitor};
+use outside::letters::{Heard, LetterSet};
+use outside::monitor::Monitor;
 use outside::random::{self, Random};
 use outside::sheet::{byte_of_read, write, write_version, NO_ASSUMPTION};
 use outside::versions;
@@ -15,13 +16,16 @@ pub struct Workload {
     pub rounds: usize,
 }
 
-/// Which inputs are not heard.
-#[derive(Clone, Copy, PartialEq)]
+/// What is not heard in a journal's rounds.
+#[derive(Clone, Copy)]
 pub enum Unheard {
-    /// About so many of a hundred.
+    /// About so many of a hundred inputs.
     Share(usize),
     /// Input 0, always.
     First,
+    /// Which of several alternatives it was, in each of which about 30 of 100 inputs are not heard. No
+    /// masks make such a round.
+    Alternative,
 }
 
 impl Unheard {
@@ -29,8 +33,41 @@ impl Unheard {
         match self {
             Unheard::Share(share) => format!("{share} %"),
             Unheard::First => "input 0".to_string(),
+            Unheard::Alternative => "which alternative".to_string(),
         }
     }
+
+    /// The alternatives of a round with this letter.
+    fn alternatives(self, random: &mut Random, letter: u8, inputs: usize) -> Vec<Heard> {
+        match self {
+            Unheard::Share(share) => vec![random.heard_of(letter, inputs, share)],
+            Unheard::First => {
+                let Heard { known, value } = random.heard_of(letter, inputs, 0);
+                vec![Heard { known: known & !1, value: value & !1 }]
+            }
+            Unheard::Alternative => loop {
+                let mut several = vec![random.heard_of(letter, inputs, 30)];
+                let others = random.range(1, 3);
+                several.extend((0..others).map(|_| random.heard(inputs, 30)));
+                if !made_by_masks(union(&several, inputs)) {
+                    return several;
+                }
+            },
+        }
+    }
+}
+
+/// The set of a round with these alternatives.
+fn union(alternatives: &[Heard], inputs: usize) -> u64 {
+    alternatives.iter().fold(0, |set, heard| set | heard.set(inputs).0)
+}
+
+/// Whether some masks make this set. The narrowest masks that all its letters agree with leave open the
+/// inputs in which two of them differ.
+fn made_by_masks(set: u64) -> bool {
+    let letters = (0..64u32).filter(|letter| set >> letter & 1 == 1);
+    let (common, any) = letters.fold((63, 0), |(common, any), letter| (common & letter, any | letter));
+    set.count_ones() == 1 << (common ^ any).count_ones()
 }
 
 pub fn journals() -> Vec<Workload> {
@@ -129,32 +166,25 @@ fn live_pairs(sheet: &[u8]) -> u32 {
     Journal::prepare(Sheet::accept(sheet).expect("made to be accepted")).live_pairs
 }
 
-/// Rounds of a journal that keeps to the assumption.
-pub fn rounds(workload: &Workload, monitor: &Monitor, unheard: Unheard) -> Vec<Heard> {
+/// Rounds of a journal that keeps to the assumption, as sets of letters.
+pub fn rounds(workload: &Workload, monitor: &Monitor, unheard: Unheard) -> Vec<u64> {
     let mut random = Random::new(7);
-    let share = if let Unheard::Share(share) = unheard { share } else { 0 };
     let inputs = monitor.sheet.inputs;
-    let mut heard: Vec<Heard> = if workload.sheet == formula() {
-        let letters = (0..workload.rounds).map(|_| formula_letter(&mut random)).collect::<Vec<u8>>();
-        letters.into_iter().map(|letter| random.heard_of(letter, inputs, share)).collect()
-    } else if monitor.sheet.assumption.is_some() {
-        let mut book = Book::new(monitor);
-        let mut draw = |_| {
-            let heard = random.heard_along(&book, share);
-            book.round(heard).expect("a round of the sheet");
-            heard
+    // The formula's letters are drawn before anything else.
+    let count = if workload.sheet == formula() { workload.rounds } else { 0 };
+    let formula_letters: Vec<u8> = (0..count).map(|_| formula_letter(&mut random)).collect();
+    let mut book = Book::new(monitor);
+    let mut round = |t: usize| {
+        let letter = match formula_letters.get(t) {
+            Some(&letter) => letter,
+            None if monitor.sheet.assumption.is_some() => random.letter_along(&book),
+            None => random.below(1 << inputs) as u8,
         };
-        (0..workload.rounds).map(&mut draw).collect()
-    } else {
-        (0..workload.rounds).map(|_| random.heard(inputs, share)).collect()
+        let letters = union(&unheard.alternatives(&mut random, letter, inputs), inputs);
+        book.round(LetterSet(letters)).expect("a round of the sheet");
+        letters
     };
-    if unheard == Unheard::First {
-        heard.iter_mut().for_each(|round| {
-            round.known &= !1;
-            round.value &= !1;
-        });
-    }
-    heard
+    (0..workload.rounds).map(&mut round).collect()
 }
 
 /// As document 004 draws them: q in 66 of 100 rounds; p where q is false, and else in every second.
@@ -164,22 +194,24 @@ fn formula_letter(random: &mut Random) -> u8 {
     p as u8 | (q as u8) << 1
 }
 
-/// Lines of a journal of the session sheet that keeps to its assumption, in which 30 of 100 inputs
-/// are not heard.
-pub fn session_lines(random: &mut Random, rounds: usize) -> String {
-    let mut lines = String::new();
+/// Lines of a journal of the session sheet that keeps to its assumption.
+pub fn session_lines(random: &mut Random, rounds: usize, unheard: Unheard) -> String {
     let mut sent_before = false;
-    for _ in 0..rounds {
+    let mut line = |_| {
         let sent = random.one_in(2);
         let acknowledged = (sent || sent_before) && random.one_in(2);
-        for value in [sent, acknowledged] {
-            let sign = if value { '1' } else { '0' };
-            lines.push(if random.below(100) < 30 { '?' } else { sign });
-        }
-        lines.push('\n');
         sent_before = sent;
-    }
-    lines
+        let alternatives = unheard.alternatives(random, sent as u8 | (acknowledged as u8) << 1, 2);
+        let marks: Vec<String> = alternatives.iter().map(|heard| heard.marks(2)).collect();
+        marks.join("|") + "\n"
+    };
+    (0..rounds).map(&mut line).collect()
+}
+
+/// Masks of rounds in which about 30 of 100 inputs are not heard.
+pub fn masks(inputs: u8, rounds: usize) -> Vec<Heard> {
+    let mut random = Random::new(9);
+    (0..rounds).map(|_| random.heard(inputs as usize, 30)).collect()
 }
 
 /// Letters of a whole trace.
@@ -271,10 +303,52 @@ mod tests {
         }
     }
 
+    fn sum(numbers: impl IntoIterator<Item = u64>) -> u64 {
+        numbers.into_iter().fold(0, |sum, number| sum.wrapping_mul(31).wrapping_add(number))
+    }
+
     /// Ratios of different runs can be compared as long as these are the same sheets.
     #[test]
     fn dense_sheets_stay() {
-        let sum = |sheet: Vec<u8>| sheet.iter().fold(0u32, |sum, &byte| sum.wrapping_mul(31).wrapping_add(byte as u32));
-        assert_eq!([dense(4, 4), dense(6, 2)].map(sum), [2_672_568_262, 3_603_832_850]);
+        let low = |sheet: Vec<u8>| sum(sheet.into_iter().map(u64::from)) as u32;
+        assert_eq!([dense(4, 4), dense(6, 2)].map(low), [2_672_568_262, 3_603_832_850]);
+    }
+
+    /// And the same rounds.
+    #[test]
+    fn rounds_stay() {
+        let sums = |workload: &Workload| {
+            let monitor = Monitor::new(&workload.sheet).unwrap();
+            let heard = [Unheard::Share(0), Unheard::Share(30), Unheard::Share(100)];
+            let first = (workload.name == "formula").then_some(Unheard::First);
+            heard.into_iter().chain(first).map(|unheard| sum(rounds(workload, &monitor, unheard))).collect::<Vec<_>>()
+        };
+        assert_eq!(sum(journals().iter().flat_map(sums)), 5_535_617_213_424_295_374);
+        let lines = session_lines(&mut Random::new(3), 1_000_000, Unheard::Share(30));
+        assert_eq!(sum(lines.bytes().map(u64::from)) as u32, 583_921_052);
+    }
+
+    #[test]
+    fn sets_that_masks_make() {
+        let all: Vec<Heard> = (0..=63).map(|bits| Heard { known: bits >> 3, value: bits & 7 }).collect();
+        for inputs in 1..=3 {
+            let made: Vec<u64> = all.iter().filter_map(|heard| Some(heard.letters(inputs).ok()?.0)).collect();
+            for set in 1..1 << (1 << inputs) {
+                assert_eq!(made_by_masks(set), made.contains(&set), "{set:b}");
+            }
+        }
+        assert!(made_by_masks(u64::MAX) && made_by_masks(1 << 63) && !made_by_masks(1 << 63 | 1));
+    }
+
+    #[test]
+    fn alternatives_of_a_letter() {
+        let mut random = Random::new(914);
+        for turn in 0..3000 {
+            let inputs = 2 + turn % 5;
+            let letter = random.below(1 << inputs) as u8;
+            let alternatives = Unheard::Alternative.alternatives(&mut random, letter, inputs);
+            let set = union(&alternatives, inputs);
+            assert!((2..=4).contains(&alternatives.len()) && set >> letter & 1 == 1 && !made_by_masks(set));
+        }
     }
 }

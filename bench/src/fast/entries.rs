@@ -1,6 +1,7 @@
 //! The entries, in two ways: with the sheet's bytes at each call, as the library takes them, and with
 //! a sheet that was read once.
 
+use super::letters::{all_letters, of_masks};
 use super::sets::{clear_rows, count, ends, find_live, step, verdicts, Set};
 use super::sheet::Sheet;
 
@@ -13,12 +14,24 @@ pub fn prepare(bytes: &[u8], storage: &mut [u64], record: &mut [u32], answer: &m
     number(try_prepare(bytes, storage, record, answer))
 }
 
-pub fn round(bytes: &[u8], storage: &mut [u64], record: &mut [u32], known: u8, value: u8, answer: &mut [u32]) -> u32 {
-    number(try_round(bytes, storage, record, known, value, answer))
+pub fn round(bytes: &[u8], storage: &mut [u64], record: &mut [u32], letters: u64, answer: &mut [u32]) -> u32 {
+    number(try_round(bytes, storage, record, letters, answer))
 }
 
 pub fn close(bytes: &[u8], storage: &[u64], record: &mut [u32], answer: &mut [u32]) -> u32 {
     number(try_close(bytes, storage, record, answer))
+}
+
+/// Writes the set that the masks make.
+pub fn letters(inputs: u8, known: u8, value: u8, letters: &mut u64) -> u32 {
+    if !(1..=6).contains(&inputs) {
+        return 4;
+    }
+    if known >> inputs != 0 || value & !known != 0 {
+        return 11;
+    }
+    *letters = of_masks(inputs, known, value);
+    0
 }
 
 fn number(outcome: Result<(), u32>) -> u32 {
@@ -42,18 +55,17 @@ fn try_round(
     bytes: &[u8],
     storage: &mut [u64],
     record: &mut [u32],
-    known: u8,
-    value: u8,
+    letters: u64,
     answer: &mut [u32],
 ) -> Result<(), u32> {
     check_lengths(record, answer)?;
     let sheet = Sheet::accept(bytes)?;
     let [live, reached, scratch] = sets(storage)?;
     check_record(&sheet, record)?;
-    check_round(&sheet, record, known, value)?;
+    check_round(&sheet, record, letters)?;
     // Nothing is known of what was found.
     clear_rows(scratch, sheet.size());
-    let firsts = step(&sheet, live, reached, scratch, record[0] == 0, letters(known, value));
+    let firsts = step(&sheet, live, reached, scratch, record[0] == 0, letters);
     let found = verdicts(&sheet, firsts);
     tally(record, &found[..sheet.outputs]);
     (0..sheet.outputs).for_each(|k| answer[k] = found[k] as u32);
@@ -100,13 +112,13 @@ impl<'a> Journal<'a> {
     }
 
     /// The verdicts by their numbers, or the number of the refusal.
-    pub fn round(&mut self, known: u8, value: u8) -> Result<[u8; 7], u32> {
+    pub fn round(&mut self, letters: u64) -> Result<[u8; 7], u32> {
         if self.record[1] == 1 {
             return Err(12);
         }
-        check_round(&self.sheet, &self.record, known, value)?;
+        check_round(&self.sheet, &self.record, letters)?;
         let [live, reached, scratch] = &mut *self.sets;
-        let firsts = step(&self.sheet, live, reached, scratch, self.record[0] == 0, letters(known, value));
+        let firsts = step(&self.sheet, live, reached, scratch, self.record[0] == 0, letters);
         let found = verdicts(&self.sheet, firsts);
         tally(&mut self.record, &found[..self.sheet.outputs]);
         Ok(found)
@@ -154,10 +166,10 @@ fn check_record(sheet: &Sheet, record: &[u32]) -> Result<(), u32> {
     Ok(())
 }
 
-/// Rules 11 and 13.
-fn check_round(sheet: &Sheet, record: &[u32], known: u8, value: u8) -> Result<(), u32> {
-    if known >> sheet.inputs != 0 || value & !known != 0 {
-        return Err(11);
+/// Rules 21 and 13.
+fn check_round(sheet: &Sheet, record: &[u32], letters: u64) -> Result<(), u32> {
+    if letters == 0 || letters > all_letters(sheet.inputs) {
+        return Err(21);
     }
     if record[0] == MAX_ROUNDS {
         return Err(13);
@@ -171,25 +183,6 @@ fn check_closing(record: &[u32]) -> Result<(), u32> {
         return Err(14);
     }
     Ok(())
-}
-
-/// The letters that match the masks, as bits of a word.
-fn letters(known: u8, value: u8) -> u64 {
-    const INPUTS: [u64; 6] = [
-        0xAAAA_AAAA_AAAA_AAAA,
-        0xCCCC_CCCC_CCCC_CCCC,
-        0xF0F0_F0F0_F0F0_F0F0,
-        0xFF00_FF00_FF00_FF00,
-        0xFFFF_0000_FFFF_0000,
-        0xFFFF_FFFF_0000_0000,
-    ];
-    let mut set = u64::MAX;
-    for (input, &lanes) in INPUTS.iter().enumerate() {
-        if known >> input & 1 == 1 {
-            set &= if value >> input & 1 == 1 { lanes } else { !lanes };
-        }
-    }
-    set
 }
 
 /// Counts a round and its verdicts; the counts of an output stand in the order true, false, open,

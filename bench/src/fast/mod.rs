@@ -5,6 +5,7 @@
 pub mod circular;
 pub mod entries;
 pub mod lanes;
+pub mod letters;
 pub mod sets;
 pub mod sheet;
 pub mod trace;

@@ -1,6 +1,7 @@
 //! Sets of pairs in the layout of the storage, and the two searches on them.
 
 use super::lanes::{below, equations, reads, stream, EARLIER, LATER, NOW};
+use super::letters::repeated;
 use super::sheet::Sheet;
 use std::array::from_fn;
 
@@ -120,8 +121,8 @@ pub fn count(set: &Set) -> u32 {
     set.iter().map(|word| word.count_ones()).sum()
 }
 
-/// One round: replaces the reached set, and returns the first parts of its pairs. `letters` has a
-/// bit for each letter that may have been heard. The scratch set is empty before and after.
+/// One round: replaces the reached set, and returns the first parts of its pairs. `letters` is the
+/// round's set. The scratch set is empty before and after.
 pub fn step(sheet: &Sheet, live: &Set, reached: &mut Set, scratch: &mut Set, first: bool, letters: u64) -> [u64; 4] {
     match sheet.size() {
         256 => step_in::<4>(sheet, live, reached, scratch, first, letters),
@@ -139,7 +140,7 @@ fn step_in<const W: usize>(
     letters: u64,
 ) -> [u64; 4] {
     let size = sheet.size();
-    let heard = and(heard::<W>(sheet.inputs, letters), below(size));
+    let heard = and([repeated(sheet.inputs, letters); W], below(size));
     if first {
         clear_rows(reached, size);
         let earlier = reads(0, None, None);
@@ -175,13 +176,6 @@ fn step_in<const W: usize>(
         firsts[b / 64] |= (any as u64) << (b % 64);
     });
     firsts
-}
-
-/// The valuations whose letter may have been heard.
-fn heard<const W: usize>(inputs: usize, letters: u64) -> [u64; W] {
-    let mut word = if inputs < 6 { letters & ((1 << (1 << inputs)) - 1) } else { letters };
-    (inputs..6).for_each(|bit| word |= word << (1 << bit));
-    [word; W]
 }
 
 /// The reached set gains what is live and may follow the valuations of a row, `earlier` being the

@@ -1,10 +1,12 @@
 //! The fast monitor against the one written from the definitions.
 
 use super::entries::{self, Journal, STORAGE_WORDS};
+use super::letters::repeated;
 use super::{trace, Sheet};
 use crate::workloads;
 use outside::cases::{self, bytes};
 use outside::journal::{self, Call, Held, MAX_ROUNDS};
+use outside::letters::{Heard, LetterSet};
 use outside::monitor::Monitor;
 use outside::random::{self, Random};
 use outside::sheet::{byte_of_read, write_version, NO_ASSUMPTION};
@@ -21,7 +23,7 @@ fn call(sheet: &[u8], held: &mut Held, call: Call) -> u32 {
     let Held { storage, record, answer } = held;
     match call {
         Call::Prepare => entries::prepare(sheet, storage, record, answer),
-        Call::Round(heard) => entries::round(sheet, storage, record, heard.known, heard.value, answer),
+        Call::Round(LetterSet(letters)) => entries::round(sheet, storage, record, letters, answer),
         Call::Close => entries::close(sheet, storage, record, answer),
     }
 }
@@ -124,9 +126,9 @@ fn play(random: &mut Random, sheet: &[u8]) {
     assert_eq!(kept.reach, monitor.as_ref().unwrap().reach);
     let unknown = random.pick(&[0, 30, 100]);
     for _ in 0..random.range(1, 12) {
-        let heard = if random.one_in(12) { random.masks() } else { random.heard(inputs, unknown) };
-        let number = agree(sheet, &monitor, &mut held, Call::Round(heard));
-        match kept.round(heard.known, heard.value) {
+        let letters = if random.one_in(12) { random.any_set(inputs) } else { random.round(inputs, unknown) };
+        let number = agree(sheet, &monitor, &mut held, Call::Round(letters));
+        match kept.round(letters.0) {
             Ok(verdicts) => {
                 assert!((0..sheet[6] as usize).all(|k| verdicts[k] as u32 == held.answer[k]));
                 assert_eq!(number, 0);
@@ -164,10 +166,36 @@ fn random_calls() {
             let closed = random.pick(&[0, 0, 0, 0, 0, 1, 2]);
             let four = [rounds / 2, 0, rounds - rounds / 2, random.one_in(12) as u32];
             held.forge(rounds, closed, &vec![four; outputs]);
-            let heard = if random.one_in(6) { random.masks() } else { random.heard(inputs, 40) };
-            let made = random.pick(&[Call::Prepare, Call::Close, Call::Round(heard), Call::Round(heard)]);
+            let letters = if random.one_in(6) { random.any_set(inputs) } else { random.round(inputs, 40) };
+            let made = random.pick(&[Call::Prepare, Call::Close, Call::Round(letters), Call::Round(letters)]);
             agree(&sheet, &monitor, &mut held, made);
         }
+    }
+}
+
+/// Any masks of any number of inputs; a refusal leaves the set.
+#[test]
+fn sets_from_masks() {
+    for inputs in (0..=9).chain([64, 255]) {
+        for masks in 0..=u16::MAX {
+            let [known, value] = masks.to_le_bytes();
+            let mut made = 5;
+            let number = entries::letters(inputs, known, value, &mut made);
+            let found = if number == 0 { Ok(LetterSet(made)) } else { Err(number) };
+            assert_eq!(found, Heard { known, value }.letters(inputs as usize), "{inputs} inputs, {known}, {value}");
+            assert!(number == 0 || made == 5);
+        }
+    }
+}
+
+#[test]
+fn sets_in_all_lanes() {
+    let mut random = Random::new(908);
+    for turn in 0..600 {
+        let inputs = 1 + turn % 6;
+        let letters = random.round(inputs, 50);
+        let lanes = LetterSet(repeated(inputs, letters.0));
+        assert!((0..64).all(|lane| lanes.has(lane) == letters.has(lane % (1 << inputs))), "{inputs} {letters:?}");
     }
 }
 
@@ -225,7 +253,7 @@ fn comparisons_written_out() {
     let mut random = Random::new(906);
     for unknown in [0, 30, 100] {
         let mut calls = vec![Call::Prepare];
-        calls.extend((0..20).map(|_| Call::Round(random.heard(4, unknown))));
+        calls.extend((0..20).map(|_| Call::Round(random.round(4, unknown))));
         calls.push(Call::Close);
         let mut held = [Held::fresh(), Held::fresh()];
         for made in calls {

@@ -9,7 +9,6 @@ use Rattle.outcomes.specs.declared.Outcome.the-variants.{Accepted}
 use Rattle.outcomes.proofs.Decisions.{all-passed}
 use Rattle.record.specs.Record.{maxRounds, recordOk}
 use Rattle.record.specs.declared.JournalRecord.{JournalRecord}
-use Rattle.letters.specs.Sets.{badSet}
 use Rattle.pairs.specs.Storage.{storageWords}
 use Rattle.checks.specs.JournalChecks.{tooShort, roundRules, closingRules}
 
@@ -25,21 +24,17 @@ pub enough : (lent : ℕ) → Decided (tooShort lent ∷ []) Accepted → storag
 enough lent d = omega (arith, all-passed (tooShort lent ∷ []) d .0)
 
 -- what an accepted round may take for granted
-pub record RoundReady (m n lent : ℕ) (r : JournalRecord) (letters : ℕ) : Type 0 where
+pub record RoundReady (n lent : ℕ) (r : JournalRecord) : Type 0 where
   pub long : storageWords ≤ lent
   pub right : recordOk n r ≡ true
-  pub shut : r .closed ≡ false
-  pub good : badSet m letters ≡ false
   pub rounds-left : r .rounds < maxRounds
 
-pub round-ready : (m n lent : ℕ) (r : JournalRecord) (letters : ℕ) → Decided (roundRules m n lent r letters) Accepted → RoundReady m n lent r letters
+pub round-ready : (m n lent : ℕ) (r : JournalRecord) (letters : ℕ) → Decided (roundRules m n lent r letters) Accepted → RoundReady n lent r
 round-ready m n lent r letters d =
     let p = all-passed (roundRules m n lent r letters) d in
     record {
       long = omega (arith, p .0);
       right = is-true (recordOk n r) (p .1 .0);
-      shut = is-false (r .closed) (p .1 .1 .0);
-      good = is-false (badSet m letters) (p .1 .1 .1 .0);
       rounds-left = omega (arith, p .1 .1 .1 .1 .0);
     }
 

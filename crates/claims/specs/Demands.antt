@@ -30,8 +30,9 @@ pub record OneOutcome (cs : List Check) : Type 0 where
   pub decided : Decided cs outcome
   pub only : (o : Outcome) → Decided cs o → o ≡ outcome
 
--- The first demand (01, "What is turned down"; 02, W4), for each entry on structs and all that it can be handed: one outcome is decided, no other, and with
--- a refusal everything lent or handed in is what it was. What an accepted call gives is in the definitions of the calls.
+-- The first demand (01, "What is turned down"; 02, W4), for each entry on structs and all that it can be handed: one outcome is decided, no other, and
+-- with a refusal everything lent or handed in is what it was; a set from masks, which is lent nothing, then has no letter. What an accepted call gives is
+-- in the definitions of the calls.
 pub record FirstDemand : Type 0 where
   pub check : (bs : List ℕ) → OneOutcome (sheetChecks bs)
   pub evaluation : (bs ls old : List ℕ) → OneOutcome (evaluationChecks bs ls (length old))

@@ -59,10 +59,6 @@ module _ (m : ℕ) (part : List ℕ) (q : Alternatives) (h : Marked m part q) wh
       read-bad m part (h .some) (h .no-dot) (rw parts (bad-behind m (p .done) (p .last ∷ []) short))
 
 module _ (m : ℕ) (part : List ℕ) where
-  pub blank-line : part ≡ [] → readLine m part ≡ blank
-  unfolding readLine
-  blank-line h = rw h refl
-
   pub dot-closing : part ≡ 46 ∷ [] → readLine m part ≡ calls closing
   unfolding readLine
   dot-closing h = rw h refl

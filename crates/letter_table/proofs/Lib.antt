@@ -1,0 +1,2 @@
+pub mod EachEntry
+pub mod TextLaws

@@ -6,6 +6,7 @@ use Prim.Native.Nat.{ℕ, _-_, _≤_}
 use lib.ListN.{length, take, drop}
 use Rattle.sheet.specs.declared.Sheet.{Sheet}
 use Rattle.circular.specs.Accepted.{IsAccepted}
+use Rattle.line_scan.specs.Scan.{InTable}
 use Rattle.line_end.specs.Printed.{Printed}
 use Rattle.protocol.specs.Machine.{Stands}
 use Rattle.dialogue.specs.History.{Event, went, allCame, allWent, atEnd, answerable, Prompt}
@@ -42,9 +43,9 @@ Steps x d t out e d₁ t₁ out₁ = (sheet : List ℕ) (h : List Event) → Tal
 abbrev pub Told : Dialogue → ℕ → Dialogue → Type 0
 Told d n d₁ = (x : Sheet) (t out : List ℕ) → Steps x d t out (went (take n (drop (d .from) out))) d₁ t out
 
--- the sheet of a talk that wants more is accepted, and what is pending lies in the buffer
+-- the sheet of a talk that wants more is accepted, what is kept of its line lies in the table, and what is pending lies in the buffer
 abbrev pub Wants : Sheet → Dialogue → Type 0
-Wants x d = d .more ≡ true → IsAccepted x
+Wants x d = (d .more ≡ true → IsAccepted x) × InTable (d .state .pending)
 
 abbrev pub Within : Dialogue → List ℕ → Type 0
 Within d out = (d .from ≤ d .to) × (d .to ≤ length out)

@@ -6,6 +6,8 @@ ghost use mathlib.Core.List.{[]};
 ghost use lib.ListN.{length};
 ghost use Rattle.circular.specs.Accepted.{IsAccepted};
 ghost use Rattle.pairs.specs.Storage.{storageWords};
+ghost use Rattle.letter_table.specs.Entry.{Sets};
+ghost use Rattle.line_scan.specs.Scan.{InTable};
 ghost use Rattle.dialogue.specs.History.{replied, came};
 ghost use Rattle.dialogue.specs.Talks.{Talks, Steps, Told, Wants, Within};
 use outcomes::Outcome;
@@ -95,14 +97,22 @@ pub fn open(sheet: &[u8], storage: &mut [u64], out: &mut [u8]) -> Opened
 }
 
 // A read brought these bytes, none at the end of the input: what they earn is in `out`, to be written.
-pub fn heard(x: Sheet, d: Dialogue, storage: &mut [u64], chunk: &[u8], out: &mut [u8]) -> Dialogue
-    requires { ⌜ IsAccepted x × (8 * length (now chunk) + 470 ≤ length (now out)) × (d .more ≡ true) × (d .to ≤ d .from) ⌝ }
+pub fn heard(
+    x: Sheet,
+    table: &[u64],
+    d: Dialogue,
+    storage: &mut [u64],
+    chunk: &[u8],
+    out: &mut [u8],
+) -> Dialogue
+    requires { ⌜ IsAccepted x × (8 * length (now chunk) + 470 ≤ length (now out)) × (d .more ≡ true) × (d .to ≤ d .from) × Sets (now table) × InTable (d .state .pending) ⌝ }
     ensures steps { λ r. ⌜ Steps x d (now (storage .entry)) (now (out .entry)) (came (now (chunk .entry))) r (now (storage .exit)) (now (out .exit)) ⌝ }
     ensures within { λ r. ⌜ Within r (now (out .exit)) ⌝ }
+    ensures in_table { λ r. ⌜ InTable (r .state .pending) ⌝ }
 {
     let s = d.state;
     if chunk.len() == 0 {
-        let to = protocol::finish(x, s, storage, out);
+        let to = protocol::finish(x, table, s, storage, out);
         return Dialogue {
             state: s,
             more: false,
@@ -110,7 +120,7 @@ pub fn heard(x: Sheet, d: Dialogue, storage: &mut [u64], chunk: &[u8], out: &mut
             to,
         };
     }
-    let fed = protocol::feed(x, s, storage, chunk, out);
+    let fed = protocol::feed(x, table, s, storage, chunk, out);
     let state = fed.state;
     let over = state.over;
     Dialogue {
@@ -125,7 +135,7 @@ pub fn heard(x: Sheet, d: Dialogue, storage: &mut [u64], chunk: &[u8], out: &mut
 pub fn told(d: Dialogue, n: usize) -> Dialogue
     requires { ⌜ d .from + n ≤ d .to ⌝ }
     ensures told { λ r. ⌜ Told d n r ⌝ }
-    ensures left { λ r. ⌜ (r .more ≡ d .more) × (r .from ≡ d .from + n) × (r .to ≡ d .to) ⌝ }
+    ensures left { λ r. ⌜ (r .state ≡ d .state) × (r .more ≡ d .more) × (r .from ≡ d .from + n) × (r .to ≡ d .to) ⌝ }
 {
     let state = d.state;
     Dialogue {

@@ -3,6 +3,8 @@ ghost use Prim.Native.Nat.{_+_, _*_, _≤_};
 ghost use mathlib.Core.Path.{_≡_};
 ghost use mathlib.Core.Bool.{true};
 ghost use lib.ListN.{length};
+ghost use Rattle.letter_table.specs.Entry.{Sets};
+ghost use Rattle.line_scan.specs.Scan.{InTable};
 ghost use Rattle.dialogue.specs.History.{Served};
 ghost use Rattle.dialogue.specs.Talks.{Wants, Within};
 ghost use Rattle.journal.specs.Turns.{Wrote, Read, goesOn, Goes, Serves, Added, Gave};
@@ -55,7 +57,7 @@ struct Reading {
 fn write(d: Dialogue, out: &[u8]) -> Called
     requires { ⌜ Within d (now out) ⌝ }
     ensures wrote { λ r. ⌜ Wrote d (now (out .entry)) (r .reply) (r .dialogue) ⌝ }
-    ensures within { λ r. ⌜ Within (r .dialogue) (now (out .entry)) × (r .dialogue .more ≡ d .more) ⌝ }
+    ensures within { λ r. ⌜ Within (r .dialogue) (now (out .entry)) × (r .dialogue .more ≡ d .more) × (r .dialogue .state ≡ d .state) ⌝ }
 {
     let from = d.from;
     let to = d.to;
@@ -80,16 +82,23 @@ fn write(d: Dialogue, out: &[u8]) -> Called
 }
 
 // Reads once, and has what came answered in `out`.
-fn read(x: Sheet, d: Dialogue, storage: &mut [u64], buf: &mut [u8], out: &mut [u8]) -> Called
-    requires { ⌜ Wants x d × (8 * length (now buf) + 470 ≤ length (now out)) × Within d (now out) × (d .more ≡ true) × (d .to ≤ d .from) ⌝ }
+fn read(
+    x: Sheet,
+    table: &[u64],
+    d: Dialogue,
+    storage: &mut [u64],
+    buf: &mut [u8],
+    out: &mut [u8],
+) -> Called
+    requires { ⌜ Wants x d × (8 * length (now buf) + 470 ≤ length (now out)) × Within d (now out) × (d .more ≡ true) × (d .to ≤ d .from) × Sets (now table) ⌝ }
     ensures read { λ r. ⌜ Read x d (now (storage .entry)) (now (out .entry)) (now (buf .exit)) (r .reply) (r .dialogue) (now (storage .exit)) (now (out .exit)) ⌝ }
-    ensures within { λ r. ⌜ Within (r .dialogue) (now (out .exit)) ⌝ }
+    ensures within { λ r. ⌜ Within (r .dialogue) (now (out .exit)) × InTable (r .dialogue .state .pending) ⌝ }
 {
     let got = libc::read(STDIN_FILENO, buf);
     let reply = Reply::of(got, os::errno());
     match reply {
         Reply::Moved(n) => {
-            let heard = dialogue::heard(x, d, storage, &buf[..n], out);
+            let heard = dialogue::heard(x, table, d, storage, &buf[..n], out);
             Called {
                 reply,
                 dialogue: heard,
@@ -115,8 +124,15 @@ fn wait(reply: Reply) -> bool
 }
 
 // Makes the call that is due, if one is.
-fn turn(x: Sheet, d: Dialogue, storage: &mut [u64], buf: &mut [u8], out: &mut [u8]) -> Turned
-    requires { ⌜ Wants x d × (8 * length (now buf) + 470 ≤ length (now out)) × Within d (now out) ⌝ }
+fn turn(
+    x: Sheet,
+    table: &[u64],
+    d: Dialogue,
+    storage: &mut [u64],
+    buf: &mut [u8],
+    out: &mut [u8],
+) -> Turned
+    requires { ⌜ Wants x d × (8 * length (now buf) + 470 ≤ length (now out)) × Within d (now out) × Sets (now table) ⌝ }
     ensures turned { λ r. ⌜ Goes x d (now (storage .entry)) (now (out .entry)) (now (buf .exit)) r (now (storage .exit)) (now (out .exit)) (r .going) ⌝ }
     ensures within { λ r. ⌜ Wants x (r .dialogue) × Within (r .dialogue) (now (out .exit)) ⌝ }
 {
@@ -133,7 +149,7 @@ fn turn(x: Sheet, d: Dialogue, storage: &mut [u64], buf: &mut [u8], out: &mut [u
         };
     }
     if d.more {
-        let called = read(x, d, storage, buf, out);
+        let called = read(x, table, d, storage, buf, out);
         let dialogue = called.dialogue;
         let reply = called.reply;
         let going = wait(reply);
@@ -157,11 +173,12 @@ fn run(x: Sheet, start: Dialogue, storage: &mut [u64], out: &mut [u8]) -> Ended
     requires { ⌜ Wants x start × (64470 ≤ length (now out)) × Within start (now out) ⌝ }
     ensures { λ r. ⌜ Serves x start (now (storage .entry)) (now (out .entry)) r (now (storage .exit)) (now (out .exit)) ⌝ }
 {
+    let table = letter_table::sets();
     let mut buf = [0u8; 8000];
     let mut d = start;
     let mut calls = 0u64;
     while calls < u64::MAX {
-        let turned = turn(x, d, storage, &mut buf, out);
+        let turned = turn(x, &table, d, storage, &mut buf, out);
         d = turned.dialogue;
         if !turned.going {
             let end = turned.end;

@@ -81,7 +81,7 @@ module _ (known val l : ℕ) (ok : Valid known val) where
       go (no n) = differs (matches known val 6 l) refl n ∙ sym (ne-eqb (bitAnd l known) val n)
 
 -- masks that rule 11 lets pass
-known-small : (m known val : ℕ) → badMasks m known val ≡ false → known < 2 ^ m
+pub known-small : (m known val : ℕ) → badMasks m known val ≡ false → known < 2 ^ m
 unfolding badMasks
 known-small m known val e = leb-false (2 ^ m) known (or-none (leb (2 ^ m) known) (not (eqb (bitAnd val known) val)) e .0)
 

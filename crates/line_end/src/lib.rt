@@ -13,13 +13,12 @@ ghost use Rattle.claims.specs.Book.{Book, round, closing};
 ghost use Rattle.claims.specs.Session.{held, roundSays, closingSays};
 ghost use Rattle.text.specs.Text.{lineRefusal};
 ghost use Rattle.line_scan.specs.Lines.{calls, readLine};
-ghost use Rattle.line_scan.specs.Scan.{Marked, Scanned};
+ghost use Rattle.line_scan.specs.Meaning.{lineOf};
 ghost use Rattle.line_end.specs.Printed.{nextLine};
 ghost use Rattle.line_end.specs.LineEnd.{Serves, Answered, LineEnded, mostBytes, due};
 use effects::ClosingAnswer;
 use effects::RoundAnswer;
-use line_scan::Alternatives;
-use line_scan::Pending;
+use line_scan::Meaning;
 use outcomes::Outcome;
 use outcomes::Refusal;
 use record::JournalRecord;
@@ -145,50 +144,29 @@ fn malformed_line(line: u64, rec: JournalRecord, out: &mut [u8], at: usize) -> E
     refused_line(Refusal::Line, line, rec, out, at)
 }
 
-// A line of alternatives: a round, or too short for one behind its last bar.
-fn marks_line(
-    x: Sheet,
-    line: u64,
-    rec: JournalRecord,
-    marks: Alternatives,
-    storage: &mut [u64],
-    out: &mut [u8],
-    at: usize,
-) -> Ended
-    requires { ⌜ IsAccepted x × (at + mostBytes (rec .closed) + 8 ≤ length (now out)) ⌝ }
-    ensures ended { λ r. ⌜ ((sheet : List ℕ) (b : Book) (part : List ℕ) → AcceptedSheet sheet x → Serves sheet (ruleSheet x) b (held (now (storage .entry)) rec) → Marked (x .inputs) part marks → LineEnded sheet (ruleSheet x) b line part (now (out .entry)) at (now (out .exit)) (now (storage .exit)) r) ⌝ }
-    ensures bound { λ r. ⌜ r .at + due (r .over) (r .record .closed) ≤ at + mostBytes (rec .closed) + 8 ⌝ }
-{
-    if marks.count != x.inputs {
-        return malformed_line(line, rec, out, at);
-    }
-    let letters = marks.line_set(x.inputs);
-    round_line(x, line, rec, letters, storage, out, at)
-}
-
-// The line that has come is at its end.
+// A line is at its end.
 pub fn line_end(
     x: Sheet,
     line: u64,
     rec: JournalRecord,
-    pending: Pending,
+    meaning: Meaning,
     storage: &mut [u64],
     out: &mut [u8],
     at: usize,
 ) -> Ended
     requires { ⌜ IsAccepted x × (at + mostBytes (rec .closed) + 8 ≤ length (now out)) ⌝ }
-    ensures ended { λ r. ⌜ ((sheet : List ℕ) (b : Book) (part : List ℕ) → AcceptedSheet sheet x → Serves sheet (ruleSheet x) b (held (now (storage .entry)) rec) → Scanned (x .inputs) part pending → LineEnded sheet (ruleSheet x) b line part (now (out .entry)) at (now (out .exit)) (now (storage .exit)) r) ⌝ }
+    ensures ended { λ r. ⌜ ((sheet : List ℕ) (b : Book) (part : List ℕ) → AcceptedSheet sheet x → Serves sheet (ruleSheet x) b (held (now (storage .entry)) rec) → readLine (x .inputs) part ≡ lineOf meaning → LineEnded sheet (ruleSheet x) b line part (now (out .entry)) at (now (out .exit)) (now (storage .exit)) r) ⌝ }
     ensures bound { λ r. ⌜ r .at + due (r .over) (r .record .closed) ≤ at + mostBytes (rec .closed) + 8 ⌝ }
 {
-    match pending {
-        Pending::Blank => Ended {
+    match meaning {
+        Meaning::Blank => Ended {
             over: false,
             line: next_line(line),
             record: rec,
             at,
         },
-        Pending::Marks(marks) => marks_line(x, line, rec, marks, storage, out, at),
-        Pending::Dot => closing_line(x, line, rec, storage, out, at),
-        Pending::Malformed => malformed_line(line, rec, out, at),
+        Meaning::Round(letters) => round_line(x, line, rec, letters, storage, out, at),
+        Meaning::Closing => closing_line(x, line, rec, storage, out, at),
+        Meaning::Malformed => malformed_line(line, rec, out, at),
     }
 }

@@ -1,6 +1,6 @@
 -- Which letters fit marks and alternatives.
 use mathlib.Core.Path.{_≡_, refl, sym, ap, ap₂, _∙_, subst}
-use mathlib.Core.Bool.{Bool, true, false, cond, _&&_, _||_, Bool·beq, and-true, and-assoc, or-comm, or-assoc, false≢true}
+use mathlib.Core.Bool.{Bool, true, false, cond, _&&_, _||_, or-comm, or-assoc, false≢true}
 use mathlib.Core.List.{List, [], _∷_, _++_}
 use Prim.Native.Nat.{ℕ, suc, _+_, _*_, _/_, _%_, _^_, _<_}
 use native.Mathlib.Omega.{arith}
@@ -8,10 +8,8 @@ use native.Mathlib.Nat.{pow-suc}
 use lib.Dec.{eqb}
 use lib.ListN.{length}
 use borrow.Author.Tests.{eqb-true}
-use Rattle.words.specs.Bits.{digit, bit}
 use Rattle.words.specs.Below.{one}
 use Rattle.words.proofs.Bools.{and-split}
-use Rattle.words.proofs.BitLaws.{digit-zero, digit-suc, digit-of}
 use Rattle.words.proofs.CountLaws.{one-le-one}
 use Rattle.line_scan.specs.Lines.{isMark, allMarks, alternativesFrom, whole, allWhole, fits, fitsOne}
 
@@ -19,16 +17,8 @@ use Rattle.line_scan.specs.Lines.{isMark, allMarks, alternativesFrom, wh
 abbrev pub suits : ℕ → ℕ → Bool
 suits b d = eqb b 63 || eqb b (48 + d)
 
--- one mark more asks for one bit more
-pub fits-more : (p : List ℕ) (b l : ℕ) → fits (p ++ b ∷ []) l ≡ (fits p l && suits b (digit (length p) l))
-unfolding fits
-fits-more [] b l = and-true (suits b (l % 2)) ∙ ap (suits b) (sym (digit-zero l))
-fits-more (a ∷ p) b l =
-    ap (λ (t : Bool). suits a (l % 2) && t) (fits-more p b (l / 2) ∙ ap (λ (d : ℕ). fits p (l / 2) && suits b d) (sym (digit-suc (length p) l)))
-    ∙ sym (and-assoc (suits a (l % 2)) (fits p (l / 2)) (suits b (digit (suc (length p)) l)))
-
 -- a mark is `1`, `0` or `?`
-mark-cases : (b : ℕ) (P : ℕ → Type 0) → P 48 → P 49 → P 63 → isMark b ≡ true → P b
+pub mark-cases : (b : ℕ) (P : ℕ → Type 0) → P 48 → P 49 → P 63 → isMark b ≡ true → P b
 mark-cases b P p q r e = go (eqb b 48) (eqb b 49) (eqb b 63) refl refl refl e
   where
     go : (t u v : Bool) → eqb b 48 ≡ t → eqb b 49 ≡ u → eqb b 63 ≡ v → (t || (u || v)) ≡ true → P b
@@ -36,14 +26,6 @@ mark-cases b P p q r e = go (eqb b 48) (eqb b 49) (eqb b 63) refl refl refl e
     go false true v h i j e = subst P (sym (eqb-true b 49 i)) q
     go false false true h i j e = subst P (sym (eqb-true b 63 j)) r
     go false false false h i j e = absurd (false≢true e)
-
--- it says of a bit that it is 1, that it is 0, or nothing
-told : (b : ℕ) → isMark b ≡ true → (t : Bool) → suits b (one t) ≡ (Bool·beq t (eqb b 49) || eqb b 63)
-told b e true = mark-cases b (λ b. suits b 1 ≡ (Bool·beq true (eqb b 49) || eqb b 63)) refl refl refl e
-told b e false = mark-cases b (λ b. suits b 0 ≡ (Bool·beq false (eqb b 49) || eqb b 63)) refl refl refl e
-
-pub mark-fits : (b k l : ℕ) → isMark b ≡ true → suits b (digit k l) ≡ (Bool·beq (bit k l) (eqb b 49) || eqb b 63)
-mark-fits b k l e = ap (suits b) (digit-of k l) ∙ told b e (bit k l)
 
 -- one alternative more
 pub one-more-fits : (as′ : List (List ℕ)) (a : List ℕ) (l : ℕ) → fitsOne (as′ ++ a ∷ []) l ≡ (fitsOne as′ l || fits a l)

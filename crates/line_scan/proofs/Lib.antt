@@ -1,3 +1,5 @@
 pub mod Fitting
+pub mod Indexing
+pub mod Masks
 pub mod Scanning
 pub mod Standing

@@ -1,21 +1,26 @@
 -- Reading a line byte by byte.
 use mathlib.Core.Path.{_≡_, refl, sym, ap, ap₂, _∙_}
-use mathlib.Core.Bool.{Bool, true, false, cond, _&&_, _||_, Bool·beq, and-false, true≢false}
+use mathlib.Core.Bool.{Bool, true, false, cond, _&&_, and-false, true≢false}
 use mathlib.Core.List.{List, [], _∷_, _++_, append-assoc}
-use Prim.Native.Nat.{ℕ, _+_, _≤_, _<_}
+use Prim.Native.Nat.{ℕ, _+_, _*_, _^_, _≤_, _<_}
 use native.Mathlib.Omega.{arith}
 use lib.Bits.{bitOr}
-use lib.Dec.{eqb}
+use lib.Dec.{eqb, ltb}
 use lib.ListN.{length, length-append}
+use lib.Pow.{pow-pos}
 use lib.Seq.{append-snoc}
 use borrow.Author.Tests.{eq-eqb, ne-eqb}
-use Rattle.words.specs.Bits.{digit, bit}
+use Rattle.words.specs.Bits.{fromBits}
 use Rattle.words.proofs.Bools.{and-split}
-use Rattle.words.proofs.BitLaws.{bit-or, bit-none, bit-all}
+use Rattle.words.proofs.BitLaws.{bit-none}
+use Rattle.words.proofs.FromBits.{from-or, from-word}
+use Rattle.letter_table.specs.Entry.{entryOf}
 use Rattle.line_scan.specs.Lines.{isMark, allMarks, alternativesFrom, alternatives, whole, allWhole, fits, fitsOne, isDot, malformed, readLine}
-use Rattle.line_scan.specs.Scan.{Parted, Marked, Spoiled}
+use Rattle.line_scan.specs.Index.{markDigit, indexOf}
+use Rattle.line_scan.specs.Scan.{noMarks, joined, Parted, Marked, Spoiled}
 use Rattle.line_scan.specs.declared.Alternatives.{Alternatives}
-use Rattle.line_scan.proofs.Fitting.{suits, fits-more, mark-fits, one-more-fits}
+use Rattle.line_scan.proofs.Fitting.{one-more-fits}
+use Rattle.line_scan.proofs.Indexing.{index-more, entry-of-marks}
 
 -- ---- lines that are no dot
 
@@ -107,17 +112,18 @@ unfolding allWhole
 all-whole m [] a h e f = rw (eq-eqb (length a) m e, f) refl
 all-whole m (c ∷ as′) a h e f = let z = and-split (whole m c) (allWhole m as′) h in ap₂ _&&_ (z .0) (all-whole m as′ a (z .1) e f)
 
+-- none has come
+no-letters : (m : ℕ) → 0 ≡ fromBits (2 ^ m) (fitsOne [])
+unfolding fitsOne
+no-letters m = from-word (2 ^ m) (2 ^ m) 0 (fitsOne []) (omega arith) (pow-pos (2 ^ m)) (λ l h. bit-none l ∙ sym (and-false (ltb l (2 ^ m))))
+
 -- no mark has come
 none-marked : allMarks [] ≡ true
 unfolding allMarks
 none-marked = refl
 
-all-fit : (l : ℕ) → l < 64 → bit l 18446744073709551615 ≡ fits [] l
-unfolding fits
-all-fit l h = bit-all 64 l h
-
-pub none-parted : (m : ℕ) → Parted m [] (record { set = 0; count = 0; letters = 18446744073709551615 })
-unfolding allWhole fitsOne
+pub none-parted : (m : ℕ) → Parted m [] (noMarks 0)
+unfolding allWhole fitsOne indexOf
 none-parted m = record {
   done = [];
   last = [];
@@ -125,10 +131,18 @@ none-parted m = record {
   whole = refl;
   marks = none-marked;
   few = omega arith;
-  set = λ l h. bit-none l;
+  set = no-letters m;
   count = refl;
-  letters = all-fit;
+  index = refl;
 }
+
+-- the set of all of them, if the last is whole too
+pub joined-set : (m : ℕ) (part : List ℕ) (q : Alternatives) (h : Parted m part q) → m ≤ 6 → q .count ≡ m → joined q ≡ fromBits (2 ^ m) (fitsOne (h .done ++ h .last ∷ []))
+joined-set m part q h low n =
+    let size : length (h .last) ≡ m = sym (h .count) ∙ n in
+    let entry : entryOf (q .index) ≡ fromBits (2 ^ m) (fits (h .last)) =
+    ap entryOf (h .index) ∙ entry-of-marks (h .last) (omega arith) (h .marks) .1 ∙ ap (λ (k : ℕ). fromBits (2 ^ k) (fits (h .last))) size in
+    ap₂ bitOr (h .set) entry ∙ from-or (2 ^ m) (fitsOne (h .done)) (fits (h .last)) (fitsOne (h .done ++ h .last ∷ [])) (one-more-fits (h .done) (h .last))
 
 -- ---- one byte more
 
@@ -161,8 +175,9 @@ module _ (m : ℕ) (part : List ℕ) (b : ℕ) where
     marked r p = record { some = omega (arith, long part b []); no-dot = not-dot part b [] dot; parted = p }
 
     -- a bar behind m marks
-    pub bar : b ≡ 124 → q .count ≡ m → Marked m (part ++ b ∷ []) (record { set = bitOr (q .set) (q .letters); count = 0; letters = 18446744073709551615 })
-    bar e n = marked _ (record {
+    pub bar : m ≤ 6 → b ≡ 124 → q .count ≡ m → Marked m (part ++ b ∷ []) (noMarks (joined q))
+    unfolding indexOf
+    bar low e n = marked _ (record {
       done = h .done ++ h .last ∷ [];
       last = [];
       splits = λ rest.
@@ -171,26 +186,24 @@ module _ (m : ℕ) (part : List ℕ) (b : ℕ) where
       whole = all-whole m (h .done) (h .last) (h .whole) (sym (h .count) ∙ n) (h .marks);
       marks = none-marked;
       few = omega arith;
-      set = λ l g. bit-or l (q .set) (q .letters) ∙ ap₂ _||_ (h .set l g) (h .letters l g) ∙ sym (one-more-fits (h .done) (h .last) l);
+      set = joined-set m part q h low n;
       count = refl;
-      letters = all-fit;
+      index = refl;
     })
 
     -- a mark
-    pub one-mark-more : (letters : ℕ) → (b ≡ 124 → ⊥) → q .count < m → isMark b ≡ true
-        → ((l : ℕ) → l < 64 → bit l letters ≡ (bit l (q .letters) && (Bool·beq (bit (q .count) l) (eqb b 49) || eqb b 63)))
-        → Marked m (part ++ b ∷ []) (record { set = q .set; count = q .count + 1; letters = letters })
-    one-mark-more letters n low e f = marked _ (record {
+    pub one-mark-more : (r : Alternatives) → (b ≡ 124 → ⊥) → q .count < m → isMark b ≡ true → r .set ≡ q .set → r .count ≡ q .count + 1 → r .index ≡ q .index + markDigit b * 3 ^ q .count
+        → Marked m (part ++ b ∷ []) r
+    one-mark-more r n low e same count index = marked r (record {
       done = h .done;
       last = h .last ++ b ∷ [];
       splits = λ rest. ap (alternativesFrom []) (append-snoc part b rest) ∙ h .splits (b ∷ rest) ∙ ap (λ (z : List (List ℕ)). h .done ++ z) (from-other (h .last) rest b n);
       whole = h .whole;
       marks = all-more (h .last) b (h .marks) e;
       few = omega (arith, h .count, length-append (h .last) (b ∷ []));
-      set = h .set;
-      count = omega (arith, h .count, length-append (h .last) (b ∷ []));
-      letters = λ l g.
-          f l g ∙ ap₂ _&&_ (h .letters l g) (sym (mark-fits b (q .count) l e) ∙ ap (λ (k : ℕ). suits b (digit k l)) (h .count)) ∙ sym (fits-more (h .last) b l);
+      set = same ∙ h .set;
+      count = omega (arith, count, h .count, length-append (h .last) (b ∷ []));
+      index = index ∙ ap₂ (λ (i k : ℕ). i + markDigit b * 3 ^ k) (h .index) (h .count) ∙ sym (index-more (h .last) b);
     })
 
 -- ---- the first byte, and a dot

@@ -1,24 +1,22 @@
 -- What a line stands for, by what was kept of it.
 use mathlib.Core.Path.{_≡_, refl, sym, ap, ap₂, _∙_}
-use mathlib.Core.Bool.{Bool, true, false, cond, _&&_, _||_, and-comm, true≢false}
+use mathlib.Core.Bool.{Bool, true, false, cond, _&&_, true≢false}
 use mathlib.Core.List.{List, [], _∷_, _++_, append-nil}
 use Prim.Native.Nat.{ℕ, _+_, _^_, _≤_, _<_}
 use native.Mathlib.Omega.{arith}
-use lib.Dec.{ltb}
 use lib.ListN.{length}
-use lib.Pow.{pow-mono}
 use borrow.Author.Tests.{ne-eqb, lt-ltb}
 use Rattle.words.specs.Bits.{bit, fromBits}
 use Rattle.words.proofs.BitLaws.{bit-none}
-use Rattle.words.proofs.FromBits.{from-bit, from-lt, from-word}
+use Rattle.words.proofs.FromBits.{from-bit, from-lt}
 use Rattle.letters.specs.Sets.{badSet}
 use Rattle.letters.proofs.SetLaws.{bad-within}
 use Rattle.claims.specs.Book.{round, closing}
 use Rattle.line_scan.specs.Lines.{alternativesFrom, alternatives, allWhole, fitsOne, lineSet, isDot, blank, calls, malformed, readLine}
-use Rattle.line_scan.specs.Scan.{Parted, Marked, Spoiled}
+use Rattle.line_scan.specs.Scan.{joined, Parted, Marked, Spoiled}
 use Rattle.line_scan.specs.declared.Alternatives.{Alternatives}
-use Rattle.line_scan.proofs.Fitting.{one-more-fits, some-alternative, some-letter}
-use Rattle.line_scan.proofs.Scanning.{read-bad, bad-behind, all-whole}
+use Rattle.line_scan.proofs.Fitting.{some-alternative, some-letter}
+use Rattle.line_scan.proofs.Scanning.{read-bad, bad-behind, all-whole, joined-set}
 
 round-line : (m : ℕ) (l : List ℕ) → 0 < length l → isDot l ≡ false → allWhole m (alternatives l) ≡ true → readLine m l ≡ calls (round (lineSet m l))
 unfolding readLine
@@ -40,16 +38,12 @@ module _ (m : ℕ) (part : List ℕ) (q : Alternatives) (h : Marked m part q) wh
   marked-some e = let z : length part ≡ 0 = ap length e in omega (arith, h .some)
 
   -- a line that ends with a whole alternative, and its set
-  pub marked-round : (w : ℕ) → m ≤ 6 → w < 2 ^ 64 → ((l : ℕ) → l < 64 → bit l w ≡ ((bit l (q .set) || bit l (q .letters)) && ltb l (2 ^ m)))
-      → q .count ≡ m → readLine m part ≡ calls (round w)
+  pub marked-round : m ≤ 6 → q .count ≡ m → readLine m part ≡ calls (round (joined q))
   unfolding lineSet
-  marked-round w few small f e =
-      let fit : 2 ^ m ≤ 2 ^ 6 = pow-mono few in
+  marked-round low e =
       let whole : allWhole m (alternatives part) ≡ true = rw parts (all-whole m (p .done) (p .last) (p .whole) (sym (p .count) ∙ e) (p .marks)) in
-      let same : (l : ℕ) → l < 64 → bit l w ≡ (ltb l (2 ^ m) && fitsOne (alternatives part) l) =
-      λ l g. f l g ∙ and-comm (bit l (q .set) || bit l (q .letters)) (ltb l (2 ^ m))
-      ∙ ap (λ (t : Bool). ltb l (2 ^ m) && t) (ap₂ _||_ (p .set l g) (p .letters l g) ∙ sym (one-more-fits (p .done) (p .last) l) ∙ ap (λ (z : List (List ℕ)). fitsOne z l) (sym parts)) in
-      round-line m part (h .some) (h .no-dot) whole ∙ ap (λ (z : ℕ). calls (round z)) (sym (from-word 64 (2 ^ m) w (fitsOne (alternatives part)) fit small same))
+      let set : lineSet m part ≡ joined q = ap (λ (z : List (List ℕ)). fromBits (2 ^ m) (fitsOne z)) parts ∙ sym (joined-set m part q p low e) in
+      round-line m part (h .some) (h .no-dot) whole ∙ ap (λ (z : ℕ). calls (round z)) set
 
   -- too few marks behind the last bar
   pub marked-short : (q .count ≡ m → ⊥) → readLine m part ≡ malformed
@@ -66,12 +60,27 @@ module _ (m : ℕ) (part : List ℕ) where
   pub spoiled-malformed : Spoiled m part → readLine m part ≡ malformed
   spoiled-malformed h = rw append-nil at (h [])
 
+  pub empty-blank : part ≡ [] → readLine m part ≡ blank
+  unfolding readLine
+  empty-blank h = rw h refl
+
   pub dot-some : part ≡ 46 ∷ [] → part ≡ [] → ⊥
   dot-some h e = let z : _≡_ {A = ℕ} 0 1 = ap length (sym e ∙ h) in omega arith
 
   pub spoiled-some : Spoiled m part → part ≡ [] → ⊥
   unfolding readLine
   spoiled-some h e = let z : blank ≡ malformed = rw e at (h []) in true≢false cc
+
+-- only the empty line is blank
+pub blank-empty : (m : ℕ) (part : List ℕ) → readLine m part ≡ blank → part ≡ []
+unfolding readLine
+blank-empty m [] e = refl
+blank-empty m (b ∷ bs) e = go (isDot (b ∷ bs)) (allWhole m (alternatives (b ∷ bs))) e
+  where
+    go : (d a : Bool) → cond d (calls closing) (cond a (calls (round (lineSet m (b ∷ bs)))) malformed) ≡ blank → b ∷ bs ≡ []
+    go true a e = absurd (true≢false cc)
+    go false true e = absurd (true≢false cc)
+    go false false e = absurd (true≢false cc)
 
 -- ---- no line stands for a set that rule 21 refuses
 

@@ -1,2 +1,4 @@
 pub mod Lines
+pub mod Index
 pub mod Scan
+pub mod Meaning

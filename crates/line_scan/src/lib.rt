@@ -4,16 +4,19 @@ ghost use mathlib.Core.Bool.{true, false};
 ghost use mathlib.Core.List.{List, [], _∷_, _++_};
 ghost use Prim.Native.Nat.{ℕ, _≤_, _<_};
 ghost use lib.ListN.{length};
-ghost use Rattle.claims.specs.Book.{round};
-ghost use Rattle.line_scan.specs.Lines.{isMark, calls, readLine};
-ghost use Rattle.line_scan.specs.Scan.{Parted, Marked, Scanned};
+ghost use Rattle.letter_table.specs.Entry.{Sets};
+ghost use Rattle.line_scan.specs.Lines.{isMark, readLine};
+ghost use Rattle.line_scan.specs.Index.{markDigit};
+ghost use Rattle.line_scan.specs.Scan.{Indexed, InTable, noMarks, joined, Parted, Marked, Scanned};
+ghost use Rattle.line_scan.specs.Meaning.{lineOf};
 
-// The letters that fit one of the alternatives that a bar ended; the number of marks of the one at hand, and the letters that fit these. Bit l of
-// a word is letter l, up to 63, whatever the number of inputs.
+// The letters that fit one of the alternatives that a bar ended. Of the one at hand: how many marks it has, their index in the table of letter
+// sets, and what a digit of the next mark counts there, 3 to the number of marks.
 pub struct Alternatives {
     pub set: u64,
     pub count: u8,
-    pub letters: u64,
+    pub index: u16,
+    pub place: u16,
 }
 
 // What the bytes of a line are: none; marks and bars; a lone dot; or the beginning of no line that is well formed.
@@ -21,6 +24,14 @@ pub enum Pending {
     Blank,
     Marks(Alternatives),
     Dot,
+    Malformed,
+}
+
+// What a whole line stands for: nothing, a round with its set of letters, the closing, or no call at all.
+pub enum Meaning {
+    Blank,
+    Round(u64),
+    Closing,
     Malformed,
 }
 
@@ -35,50 +46,60 @@ fn is_mark(b: u8) -> bool
     }
 }
 
+// The digit of a mark. There is no branch, since a processor can't foresee marks.
+fn mark_digit(b: u8) -> u16
+    ensures { λ r. ⌜ r ≡ markDigit b ⌝ }
+{
+    match b {
+        b'?' => 2,
+        b'1' => 1,
+        _ => 0,
+    }
+}
+
 impl Alternatives {
-    fn none() -> Alternatives
-        ensures { λ r. ⌜ ((m : ℕ) → Parted m [] r) ⌝ }
+    // No byte of an alternative has come; of the alternatives before it, this is the set.
+    fn after(set: u64) -> Alternatives
+        ensures fields { λ r. ⌜ r ≡ noMarks set ⌝ }
+        ensures indexed { λ r. ⌜ Indexed r ⌝ }
     {
         Alternatives {
-            set: 0,
+            set,
             count: 0,
-            letters: 0xffff_ffff_ffff_ffff,
+            index: 0,
+            place: 1,
         }
     }
 
-    // One mark more: of the letters, those stay that fit it. Marks are told apart without a branch, since a processor can't foresee them.
+    // One mark more.
     fn mark(self, b: u8) -> Pending
-        requires { ⌜ self .count < 6 ⌝ }
-        ensures { λ r. ⌜ ((m : ℕ) (part : List ℕ) → self .count < m → (b ≡ 124 → ⊥) → (length part ≡ 0 → b ≡ 46 → ⊥) → Parted m part self → Scanned m (part ++ b ∷ []) r) ⌝ }
+        requires { ⌜ Indexed self × (self .count < 6) ⌝ }
+        ensures scanned { λ r. ⌜ ((m : ℕ) (part : List ℕ) → self .count < m → (b ≡ 124 → ⊥) → (length part ≡ 0 → b ≡ 46 → ⊥) → Parted m part self → Scanned m (part ++ b ∷ []) r) ⌝ }
+        ensures in_table { λ r. ⌜ InTable r ⌝ }
     {
         if !is_mark(b) {
             return Pending::Malformed;
         }
-        let input = words::stream_word(self.count as usize, 0);
-        let known = words::agree(input, b == b'1');
-        let either = words::spread(b == b'?');
-        let count = self.count + 1;
+        let index = self.index + mark_digit(b) * self.place;
         Pending::Marks(Alternatives {
             set: self.set,
-            count,
-            letters: self.letters & (known | either),
+            count: self.count + 1,
+            index,
+            place: 3 * self.place,
         })
     }
 
     // One byte more, of a line of m inputs.
-    fn byte(self, m: u8, b: u8) -> Pending
-        requires { ⌜ m ≤ 6 ⌝ }
-        ensures { λ r. ⌜ ((part : List ℕ) → (length part ≡ 0 → b ≡ 46 → ⊥) → Parted m part self → Scanned m (part ++ b ∷ []) r) ⌝ }
+    fn byte(self, table: &[u64], m: u8, b: u8) -> Pending
+        requires { ⌜ Sets (now table) × Indexed self × (m ≤ 6) ⌝ }
+        ensures scanned { λ r. ⌜ ((part : List ℕ) → (length part ≡ 0 → b ≡ 46 → ⊥) → Parted m part self → Scanned m (part ++ b ∷ []) r) ⌝ }
+        ensures in_table { λ r. ⌜ InTable r ⌝ }
     {
         if b == b'|' {
             if self.count != m {
                 return Pending::Malformed;
             }
-            return Pending::Marks(Alternatives {
-                set: self.set | self.letters,
-                count: 0,
-                letters: 0xffff_ffff_ffff_ffff,
-            });
+            return Pending::Marks(Alternatives::after(self.line_set(table)));
         }
         if m <= self.count {
             return Pending::Malformed;
@@ -86,19 +107,30 @@ impl Alternatives {
         self.mark(b)
     }
 
-    // The set of a line that ends with a whole alternative.
-    pub fn line_set(self, m: u8) -> u64
-        requires { ⌜ m ≤ 6 ⌝ }
-        ensures { λ r. ⌜ ((part : List ℕ) → Marked m part self → self .count ≡ m → readLine m part ≡ calls (round r)) ⌝ }
+    // The set of all alternatives so far, that of the one at hand being looked up.
+    fn line_set(self, table: &[u64]) -> u64
+        requires { ⌜ Sets (now table) × Indexed self ⌝ }
+        ensures { λ r. ⌜ r ≡ joined self ⌝ }
     {
-        let size: usize = 1 << m;
-        (self.set | self.letters) & words::lanes_below(size, 0)
+        self.set | letter_table::entry(table, self.index as usize)
+    }
+
+    // The line ends here: it stands for a round, or is too short for one behind its last bar.
+    fn ended(self, table: &[u64], m: u8) -> Meaning
+        requires { ⌜ Sets (now table) × Indexed self × (m ≤ 6) ⌝ }
+        ensures { λ r. ⌜ ((part : List ℕ) → Marked m part self → readLine m part ≡ lineOf r) ⌝ }
+    {
+        if self.count != m {
+            return Meaning::Malformed;
+        }
+        Meaning::Round(self.line_set(table))
     }
 }
 
 impl Pending {
     pub fn empty() -> Pending
-        ensures { λ r. ⌜ ((m : ℕ) → Scanned m [] r) ⌝ }
+        ensures scanned { λ r. ⌜ ((m : ℕ) → Scanned m [] r) ⌝ }
+        ensures in_table { λ r. ⌜ InTable r ⌝ }
     {
         Pending::Blank
     }
@@ -117,20 +149,34 @@ impl Pending {
     }
 
     // One byte more, of a line of m inputs.
-    pub fn scan(self, m: u8, b: u8) -> Pending
-        requires { ⌜ m ≤ 6 ⌝ }
-        ensures { λ r. ⌜ ((part : List ℕ) → Scanned m part self → Scanned m (part ++ b ∷ []) r) ⌝ }
+    pub fn scan(self, table: &[u64], m: u8, b: u8) -> Pending
+        requires { ⌜ Sets (now table) × InTable self × (m ≤ 6) ⌝ }
+        ensures scanned { λ r. ⌜ ((part : List ℕ) → Scanned m part self → Scanned m (part ++ b ∷ []) r) ⌝ }
+        ensures in_table { λ r. ⌜ InTable r ⌝ }
     {
         match self {
             Pending::Blank => {
                 if b == b'.' {
                     return Pending::Dot;
                 }
-                Alternatives::none().byte(m, b)
+                Alternatives::after(0).byte(table, m, b)
             }
-            Pending::Marks(q) => q.byte(m, b),
+            Pending::Marks(q) => q.byte(table, m, b),
             Pending::Dot => Pending::Malformed,
             Pending::Malformed => Pending::Malformed,
+        }
+    }
+
+    // The line, of m inputs, ends here.
+    pub fn ended(self, table: &[u64], m: u8) -> Meaning
+        requires { ⌜ Sets (now table) × InTable self × (m ≤ 6) ⌝ }
+        ensures { λ r. ⌜ ((part : List ℕ) → Scanned m part self → readLine m part ≡ lineOf r) ⌝ }
+    {
+        match self {
+            Pending::Blank => Meaning::Blank,
+            Pending::Marks(q) => q.ended(table, m),
+            Pending::Dot => Meaning::Closing,
+            Pending::Malformed => Meaning::Malformed,
         }
     }
 }

@@ -3,6 +3,8 @@ ghost use Prim.Native.Nat.{_+_, _*_, _≤_};
 ghost use lib.ListN.{length, take};
 ghost use Rattle.circular.specs.Accepted.{IsAccepted};
 ghost use Rattle.pairs.specs.Storage.{storageWords};
+ghost use Rattle.letter_table.specs.Entry.{Sets};
+ghost use Rattle.line_scan.specs.Scan.{InTable};
 ghost use Rattle.protocol.specs.Machine.{Begun, Goes, Finishes};
 use line_scan::Pending;
 use outcomes::Outcome;
@@ -36,6 +38,7 @@ pub fn start(sheet: &[u8], storage: &mut [u64], out: &mut [u8]) -> Started
     requires { ⌜ (storageWords ≤ length (now storage)) × (40 ≤ length (now out)) ⌝ }
     ensures begun { λ r. ⌜ Begun (now (sheet .entry)) r (now (storage .exit)) (take (r .at) (now (out .exit))) (r .outcome) ⌝ }
     ensures bound { λ r. ⌜ r .at ≤ length (now (out .exit)) ⌝ }
+    ensures in_table { λ r. ⌜ InTable (r .state .pending) ⌝ }
 {
     let got = circular::accept_sheet(sheet);
     let outcome = got.outcome;
@@ -78,10 +81,18 @@ pub fn start(sheet: &[u8], storage: &mut [u64], out: &mut [u8]) -> Started
 }
 
 // Takes a chunk of the input in, and puts what is to be written for it into `out`.
-pub fn feed(x: Sheet, s: Progress, storage: &mut [u64], chunk: &[u8], out: &mut [u8]) -> Fed
-    requires { ⌜ IsAccepted x × (8 * length (now chunk) + 462 ≤ length (now out)) ⌝ }
+pub fn feed(
+    x: Sheet,
+    table: &[u64],
+    s: Progress,
+    storage: &mut [u64],
+    chunk: &[u8],
+    out: &mut [u8],
+) -> Fed
+    requires { ⌜ IsAccepted x × (8 * length (now chunk) + 462 ≤ length (now out)) × Sets (now table) × InTable (s .pending) ⌝ }
     ensures goes { λ r. ⌜ Goes x s (now (storage .entry)) (now (chunk .entry)) (r .state) (now (storage .exit)) (take (r .at) (now (out .exit))) ⌝ }
     ensures bound { λ r. ⌜ r .at ≤ length (now (out .exit)) ⌝ }
+    ensures in_table { λ r. ⌜ InTable (r .state .pending) ⌝ }
 {
     let m = x.inputs;
     let mut line = s.line;
@@ -96,10 +107,11 @@ pub fn feed(x: Sheet, s: Progress, storage: &mut [u64], chunk: &[u8], out: &mut 
         let b = chunk[i];
         i += 1;
         if b != b'\n' {
-            pending = pending.scan(m, b);
+            pending = pending.scan(table, m, b);
             continue;
         }
-        let e = line_end::line_end(x, line, record, pending, storage, out, at);
+        let meaning = pending.ended(table, m);
+        let e = line_end::line_end(x, line, record, meaning, storage, out, at);
         line = e.line;
         record = e.record;
         pending = Pending::empty();
@@ -124,8 +136,8 @@ pub fn feed(x: Sheet, s: Progress, storage: &mut [u64], chunk: &[u8], out: &mut 
 }
 
 // The input is at its end: a last line may lack its line feed.
-pub fn finish(x: Sheet, s: Progress, storage: &mut [u64], out: &mut [u8]) -> usize
-    requires { ⌜ IsAccepted x × (470 ≤ length (now out)) ⌝ }
+pub fn finish(x: Sheet, table: &[u64], s: Progress, storage: &mut [u64], out: &mut [u8]) -> usize
+    requires { ⌜ IsAccepted x × (470 ≤ length (now out)) × Sets (now table) × InTable (s .pending) ⌝ }
     ensures finishes { λ r. ⌜ Finishes x s (now (storage .entry)) (take r (now (out .exit))) ⌝ }
     ensures bound { λ r. ⌜ r ≤ length (now (out .exit)) ⌝ }
 {
@@ -138,6 +150,7 @@ pub fn finish(x: Sheet, s: Progress, storage: &mut [u64], out: &mut [u8]) -> usi
     if pending.is_blank() {
         return 0;
     }
-    let e = line_end::line_end(x, line, record, pending, storage, out, 0);
+    let meaning = pending.ended(table, x.inputs);
+    let e = line_end::line_end(x, line, record, meaning, storage, out, 0);
     e.at
 }

@@ -7,6 +7,8 @@ ghost use Prim.Native.Nat.{_+_, _≤_, _<_};
 ghost use lib.ListN.{length};
 ghost use Rattle.circular.specs.Accepted.{IsAccepted};
 ghost use Rattle.pairs.specs.Storage.{storageWords};
+ghost use Rattle.letter_table.specs.Entry.{Sets};
+ghost use Rattle.line_scan.specs.Scan.{InTable};
 use libc::STDIN_FILENO;
 use libc::STDOUT_FILENO;
 use outcomes::Outcome;
@@ -77,27 +79,27 @@ fn chunk_size(at: usize, left: usize) -> usize
 }
 
 // Feeds a session in small chunks. A run that is over is fed on and writes nothing more.
-fn play(x: Sheet, s: Progress, storage: &mut [u64], session: &[u8], out: &mut [u8])
-    requires { ⌜ IsAccepted x × (600 ≤ length (now out)) ⌝ }
+fn play(x: Sheet, table: &[u64], s: Progress, storage: &mut [u64], session: &[u8], out: &mut [u8])
+    requires { ⌜ IsAccepted x × (600 ≤ length (now out)) × Sets (now table) × InTable (s .pending) ⌝ }
 {
     let mut state = s;
     let mut at = 0;
     while at < session.len() {
         let n = chunk_size(at, session.len() - at);
         let next = at + n;
-        let fed = protocol::feed(x, state, storage, &session[at..next], out);
+        let fed = protocol::feed(x, table, state, storage, &session[at..next], out);
         let to = fed.at;
         state = fed.state;
         io::write_all(STDOUT_FILENO, &out[..to]);
         at = next;
     }
-    let to = protocol::finish(x, state, storage, out);
+    let to = protocol::finish(x, table, state, storage, out);
     io::write_all(STDOUT_FILENO, &out[..to]);
 }
 
 // What the journal program writes for a sheet's file and a session. The storage is as the case before left it.
-fn answer(sheet: &[u8], session: &[u8], storage: &mut [u64], out: &mut [u8])
-    requires { ⌜ (storageWords ≤ length (now storage)) × (600 ≤ length (now out)) ⌝ }
+fn answer(table: &[u64], sheet: &[u8], session: &[u8], storage: &mut [u64], out: &mut [u8])
+    requires { ⌜ (storageWords ≤ length (now storage)) × (600 ≤ length (now out)) × Sets (now table) ⌝ }
 {
     let begun = protocol::start(sheet, storage, out);
     let outcome = begun.outcome;
@@ -109,14 +111,20 @@ fn answer(sheet: &[u8], session: &[u8], storage: &mut [u64], out: &mut [u8])
         Outcome::Accepted => {
             let x = begun.sheet;
             let state = begun.state;
-            play(x, state, storage, session, out);
+            play(x, table, state, storage, session, out);
         }
     }
 }
 
 // Reads a case and answers it, or tells that there is none.
-fn case(sheet: &mut [u8], session: &mut [u8], storage: &mut [u64], out: &mut [u8]) -> bool
-    requires { ⌜ (storageWords ≤ length (now storage)) × (600 ≤ length (now out)) ⌝ }
+fn case(
+    table: &[u64],
+    sheet: &mut [u8],
+    session: &mut [u8],
+    storage: &mut [u64],
+    out: &mut [u8],
+) -> bool
+    requires { ⌜ (storageWords ≤ length (now storage)) × (600 ≤ length (now out)) × Sets (now table) ⌝ }
 {
     let first = read_sheet(sheet);
     if !first.whole {
@@ -128,12 +136,13 @@ fn case(sheet: &mut [u8], session: &mut [u8], storage: &mut [u64], out: &mut [u8
     }
     let m = first.n;
     let n = second.n;
-    answer(&sheet[..m], &session[..n], storage, out);
+    answer(table, &sheet[..m], &session[..n], storage, out);
     io::write_all(STDOUT_FILENO, b"--\n")
 }
 
 // All cases. A proved loop has to end, and nothing says that the input does, so the cases are counted down.
 fn main() {
+    let table = letter_table::sets();
     let mut sheet = [0u8; 464];
     let mut session = io::large_buffer();
     let mut storage = [0u64; JournalRecord::STORAGE_WORDS];
@@ -141,7 +150,7 @@ fn main() {
     let mut go = true;
     let mut cases = u64::MAX;
     while cases > 0 && go {
-        go = case(&mut sheet, &mut session, &mut storage, &mut out);
+        go = case(&table, &mut sheet, &mut session, &mut storage, &mut out);
         cases -= 1;
     }
 }

@@ -1,16 +1,17 @@
 -- The number with given bits.
-use mathlib.Core.Path.{_≡_, refl, sym, ap, _∙_}
-use mathlib.Core.Bool.{Bool, true, false, _&&_}
+use mathlib.Core.Path.{_≡_, refl, sym, ap, ap₂, _∙_}
+use mathlib.Core.Bool.{Bool, true, false, _&&_, _||_}
 use Prim.Native.Nat.{ℕ, zero, suc, _+_, _-_, _*_, _^_, _≤_, _<_}
 use native.Mathlib.Omega.{arith}
 use native.Mathlib.Decide.{ℕ-discrete, decLt}
 use native.Mathlib.Nat.{pow-suc}
+use lib.Bits.{bitOr, or-lt}
 use lib.Dec.{ltb}
 use lib.Pow.{pow-mono}
 use borrow.Author.Tests.{lt-ltb, le-ltb}
 use Rattle.words.specs.Bits.{digit, bit, fromBits}
 use Rattle.words.specs.Below.{one}
-use Rattle.words.proofs.BitLaws.{bit-none, bit-high, bits-ext}
+use Rattle.words.proofs.BitLaws.{bit-or, bit-none, bit-high, bits-ext}
 use Rattle.words.proofs.CountLaws.{one-le-one}
 use Rattle.words.proofs.JoinLaws.{bit-low, bit-high-part}
 
@@ -50,3 +51,17 @@ pub from-word : (n k w : ℕ) (f : ℕ → Bool) → k ≤ n → w < 2 ^ n → (
 from-word n k w f h g same =
     let small : 2 ^ k ≤ 2 ^ n = pow-mono h in
     bits-ext n w (fromBits k f) g (omega (arith, from-lt k f)) (λ l b. same l b ∙ sym (from-bit k f l))
+
+-- one that has the bits of either
+pub from-or : (k : ℕ) (f g h : ℕ → Bool) → ((l : ℕ) → h l ≡ (f l || g l)) → bitOr (fromBits k f) (fromBits k g) ≡ fromBits k h
+from-or k f g h same =
+    from-word k k (bitOr (fromBits k f) (fromBits k g)) h (omega arith) (or-lt k (fromBits k f) (fromBits k g) (from-lt k f) (from-lt k g)) bits
+  where
+    both : (t a b : Bool) → ((t && a) || (t && b)) ≡ (t && (a || b))
+    both true a b = refl
+    both false a b = refl
+
+    bits : (l : ℕ) → l < k → bit l (bitOr (fromBits k f) (fromBits k g)) ≡ (ltb l k && h l)
+    bits l b =
+        bit-or l (fromBits k f) (fromBits k g) ∙ ap₂ _||_ (from-bit k f l) (from-bit k g l) ∙ both (ltb l k) (f l) (g l)
+        ∙ ap (λ (t : Bool). ltb l k && t) (sym (same l))

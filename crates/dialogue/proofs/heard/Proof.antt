@@ -16,9 +16,9 @@ same-length-2 c = search needs
 
 returns : tie.Need-returns
 returns c =
-    let start = c .before .before .before .before .before .before .before .before .before .before .before .before in
+    let start = c .before .before .before .before .before .before .before .before .before .before .before .before .before in
     let f = c .before .before .before .before .finish in
-    ((λ sheet h talks. heard-end sheet _ _ _ _ h talks (start .pre .2) (start .pre .3) (f .result) _ _ _ (c .before .before .before .before .before .before .before .if1 .taken) (f .ensures .0)), (omega arith, f .ensures .1))
+    ((λ sheet h talks. heard-end sheet _ _ _ _ h talks (start .pre .2) (start .pre .3) (f .result) _ _ _ (c .before .before .before .before .before .before .before .if1 .taken) (f .ensures .0)), ((omega arith, f .ensures .1), start .pre .5))
 
 feed-requires : tie.Need-feed-requires
 feed-requires c κs = search needs
@@ -31,9 +31,9 @@ same-length-4 c = search needs
 
 returns-2 : tie.Need-returns-2
 returns-2 c =
-    let start = c .before .before .before .before .before .before .before .before .before .before .before .before .before in
+    let start = c .before .before .before .before .before .before .before .before .before .before .before .before .before .before in
     let f = c .before .before .before .before .before .feed in
-    ((λ sheet h talks. heard-more sheet _ _ _ _ h talks (start .pre .2) (start .pre .3) (f .result .state) (f .result .at) _ _ _ (c .before .before .before .before .before .before .before .before .if1 .left) (f .ensures .0)), (omega arith, f .ensures .1))
+    ((λ sheet h talks. heard-more sheet _ _ _ _ h talks (start .pre .2) (start .pre .3) (f .result .state) (f .result .at) _ _ _ (c .before .before .before .before .before .before .before .before .if1 .left) (f .ensures .0)), ((omega arith, f .ensures .1 .0), f .ensures .1 .1))
 
 pub heard-spec : {M : Type 1} → statement M
 heard-spec =

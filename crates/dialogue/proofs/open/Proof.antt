@@ -26,7 +26,7 @@ returns : tie.Need-returns
 returns c =
     let s = c .before .before .before .before .before .before .before .before .before .start in
     let begun = rw (c .before .enum-told .given .1) at (s .ensures .0) in
-    (opened _ _ _ _ _ _ (begun .1) (begun .2), ((λ e. begun .0), (omega arith, s .ensures .1)))
+    (opened _ _ _ _ _ _ (begun .1) (begun .2), (((λ e. begun .0), s .ensures .1 .1), (omega arith, s .ensures .1 .0)))
 
 same-length-3 : tie.Need-same-length-3
 same-length-3 c = search needs
@@ -38,7 +38,7 @@ returns-2 : tie.Need-returns-2
 returns-2 c =
     let s = c .before .before .before .before .before .before .before .before .start in
     let begun = rw (c .enum-told2 .given .1) at (s .ensures .0) in
-    (turned-down _ _ _ _ _ _ begun, ((λ e. absurd (true≢false (sym e))), (omega arith, s .ensures .1)))
+    (turned-down _ _ _ _ _ _ begun, (((λ e. absurd (true≢false (sym e))), s .ensures .1 .1), (omega arith, s .ensures .1 .0)))
 
 pub open-spec : {M : Type 1} → statement M
 open-spec =

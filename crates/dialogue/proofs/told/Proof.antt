@@ -9,7 +9,7 @@ add-t4 : tie.Need-add-t4
 add-t4 c = search needs
 
 returns : tie.Need-returns
-returns c = ((λ x t out sheet h talks. told-more sheet x _ t out h _ (c .before .before .pre) talks), (refl, refl, refl))
+returns c = ((λ x t out sheet h talks. told-more sheet x _ t out h _ (c .before .before .pre) talks), (refl, refl, refl, refl))
 
 pub told-spec : {M : Type 1} → statement M
 told-spec = tie.close (tie.spec add-t4 returns)

@@ -28,8 +28,8 @@ slice-aggregate-heard c = sym (length-take-le _ _ (omega (arith, read-within (c 
 
 heard-requires : tie.Need-heard-requires
 heard-requires c κs =
-    let start = c .before .before .before .before .before .before .before .before .before .before .before .before .before .before .before in
-    (start .pre .0 (start .pre .3), room (c .before .before .before .before .reply .given .0 .0) (c .before .before .before .before .before .before .before .before .before .before .read .last .1 .0) _ _ (c .before .before .before .before .before .before .before .before .before .before .read .kept .1 .0) (start .pre .1), start .pre .3, start .pre .4)
+    let start = c .before .before .before .before .before .before .before .before .before .before .before .before .before .before .before .before in
+    (start .pre .0 .0 (start .pre .3), room (c .before .before .before .before .reply .given .0 .0) (c .before .before .before .before .before .before .before .before .before .before .read .last .1 .0) _ _ (c .before .before .before .before .before .before .before .before .before .before .read .kept .1 .0) (start .pre .1), start .pre .3, start .pre .4, start .pre .5, start .pre .0 .1)
 
 same-length : tie.Need-same-length
 same-length c = search needs
@@ -41,13 +41,13 @@ same-length-3 : tie.Need-same-length-3
 same-length-3 c = search needs
 
 returns : tie.Need-returns
-returns c = search needs
+returns c = let h = c .before .before .before .before .heard .ensures in (h .0, (h .1 .0, h .1 .1))
 
 same-length-4 : tie.Need-same-length-4
 same-length-4 c = search needs
 
 returns-2 : tie.Need-returns-2
-returns-2 c = let start = c .before .before .before .before .before .before .before .before .before .before in (unmoved-read (start .args .x) (start .args .d) (now (start .args .storage)) (now (start .args .out)) _ (c .before .of .result) (c .match .keys2), start .pre .2)
+returns-2 c = let start = c .before .before .before .before .before .before .before .before .before .before .before in (unmoved-read (start .args .x) (start .args .d) (now (start .args .storage)) (now (start .args .out)) _ (c .before .of .result) (c .match .keys2), (start .pre .2, start .pre .0 .1))
 
 pub read-spec : {M : Type 1} → statement M
 read-spec =

@@ -30,7 +30,7 @@ enum-known-reply : tie.Need-enum-known-reply
 enum-known-reply c = search needs
 
 returns : tie.Need-returns
-returns c = let start = c .before .before .before .before .before .before .before .before .before in ((λ x t sheet h talks. asked-again sheet x (start .args .d) t (now (start .args .out)) h talks), (start .pre, refl))
+returns c = let start = c .before .before .before .before .before .before .before .before .before in ((λ x t sheet h talks. asked-again sheet x (start .args .d) t (now (start .args .out)) h talks), (start .pre, refl, refl))
 
 told-requires : tie.Need-told-requires
 told-requires c κs =
@@ -44,10 +44,10 @@ returns-2 c =
     let w = c .before .before .before .before .before .before .before .write in
     let t = c .told .ensures in
     let most = write-within (start .args .d) (now (start .args .out)) (w .result) _ _ _ _ (start .pre) (same-number (w .result) (w .ok)) (w .ensures) (c .before .before .before .reply .given .1) (c .before .before .before .before .before .of .ensures) in
-    ((λ x u. t .0 x u (now (start .args .out))), ((omega (arith, t .1 .1, t .1 .2, most), omega (arith, t .1 .2, start .pre .1)), t .1 .0))
+    ((λ x u. t .0 x u (now (start .args .out))), ((omega (arith, t .1 .2, t .1 .3, most), omega (arith, t .1 .3, start .pre .1)), t .1 .1, t .1 .0))
 
 returns-3 : tie.Need-returns-3
-returns-3 c = let start = c .before .before .before .before .before .before in (unmoved-write (start .args .d) (now (start .args .out)) (c .before .of .result) (c .match .keys2), (start .pre, refl))
+returns-3 c = let start = c .before .before .before .before .before .before in (unmoved-write (start .args .d) (now (start .args .out)) (c .before .of .result) (c .match .keys2), (start .pre, refl, refl))
 
 pub write-spec : {M : Type 1} → statement M
 write-spec =

@@ -2,7 +2,7 @@
 use mathlib.Core.Path.{refl}
 use native.Mathlib.Omega.{arith}
 use Rattle.buffer.proofs.WroteLaws.{wrote-none}
-use Rattle.line_scan.proofs.Standing.{dot-closing, spoiled-malformed}
+use Rattle.line_scan.proofs.Standing.{blank-empty}
 use Rattle.line_end.proofs.LineEnds.{malformed-ends, blank-ends, bytes-least, over-bound}
 use borrow.Author.Needs.{needs}
 use Rattle.line_end.proofs.line_end.Statement.{statement}
@@ -14,11 +14,11 @@ enum-told c = search needs
 next-line-requires : tie.Need-next-line-requires
 next-line-requires c κs = search needs
 
-enum-known-pending : tie.Need-enum-known-pending
-enum-known-pending c = search needs
+enum-known-meaning : tie.Need-enum-known-meaning
+enum-known-meaning c = search needs
 
-marks-line-requires : tie.Need-marks-line-requires
-marks-line-requires c κs = search needs
+round-line-requires : tie.Need-round-line-requires
+round-line-requires c κs = search needs
 
 enum-told-2 : tie.Need-enum-told-2
 enum-told-2 c = search needs
@@ -34,7 +34,7 @@ malformed-line-requires c κs = omega (arith, bytes-least (c .before .before .be
 
 returns : tie.Need-returns
 returns c = (
-  λ sheet b part o sv h. blank-ends sheet _ b _ part _ _ _ _ _ refl (c .next-line .ensures) (rw (c .before .enum-told .given .1) at h) sv (wrote-none _ _),
+  λ sheet b part o sv h. blank-ends sheet _ b _ part _ _ _ _ _ refl (c .next-line .ensures) (blank-empty _ part (rw (c .before .enum-told .given .1) at h)) sv (wrote-none _ _),
   omega arith,
 )
 
@@ -46,9 +46,9 @@ same-length-2 c = search needs
 
 returns-2 : tie.Need-returns-2
 returns-2 c =
-    let told = c .before .before .before .before .before .before .before .before .pending .given .1 in
-    let after-marks-line = c .before .before .before .before in
-    (λ sheet b part o sv h. after-marks-line .marks-line .ensures .0 sheet b part o sv (rw told at h), after-marks-line .marks-line .ensures .1)
+    let told = c .before .before .before .before .before .before .before .before .meaning .given .1 in
+    let after-round-line = c .before .before .before .before in
+    (λ sheet b part o sv h. after-round-line .round-line .ensures .0 sheet b part o sv (rw told at h), after-round-line .round-line .ensures .1)
 
 same-length-3 : tie.Need-same-length-3
 same-length-3 c = search needs
@@ -60,7 +60,7 @@ returns-3 : tie.Need-returns-3
 returns-3 c =
     let told = c .before .before .before .before .before .enum-told2 .given .1 in
     let after-closing-line = c .before .before in
-    (λ sheet b part o sv h. after-closing-line .closing-line .ensures .0 sheet b part o sv (dot-closing _ part (rw told at h)), after-closing-line .closing-line .ensures .1)
+    (λ sheet b part o sv h. after-closing-line .closing-line .ensures .0 sheet b part o sv (rw told at h), after-closing-line .closing-line .ensures .1)
 
 same-length-5 : tie.Need-same-length-5
 same-length-5 c = search needs
@@ -71,7 +71,7 @@ returns-4 c =
     let r = c .before .before .malformed-line .result in
     let a = c .before .before .before .before .before .before .before .before .args in
     let f = c .before .before .malformed-line .ensures in (
-      λ sheet b part o sv h. malformed-ends sheet _ b _ part _ _ _ _ _ _ _ sv (spoiled-malformed _ part (rw told at h)) (f .0) (f .2),
+      λ sheet b part o sv h. malformed-ends sheet _ b _ part _ _ _ _ _ _ _ sv (rw told at h) (f .0) (f .2),
       over-bound (r .over) (r .record .closed) (a .rec .closed) (a .at) (r .at) (f .0) (f .1),
     )
 
@@ -81,8 +81,8 @@ line-end-spec =
     (tie.spec
     enum-told
     next-line-requires
-    enum-known-pending
-    marks-line-requires
+    enum-known-meaning
+    round-line-requires
     enum-told-2
     closing-line-requires
     enum-told-3

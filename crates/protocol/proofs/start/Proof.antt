@@ -38,7 +38,7 @@ returns c =
     let start = after-accept-sheet .before .before .before .before in
     let e = c .before .before .before .before .before .before .outcome .given .1 in
     let w = c .before .before .before .sheet-refusal .ensures in
-    ((λ input. refused-start _ input _ _ _ _ (rw e at (after-accept-sheet .accept-sheet .ensures .0)) (w .0)), omega (arith, w .0 .size, w .1, start .pre .1))
+    ((λ input. refused-start _ input _ _ _ _ (rw e at (after-accept-sheet .accept-sheet .ensures .0)) (w .0)), (omega (arith, w .0 .size, w .1, start .pre .1), c .before .before .before .before .before .before .before .before .empty .ensures .1))
 
 same-length-2 : tie.Need-same-length-2
 same-length-2 c = search needs
@@ -53,7 +53,7 @@ returns-2 c =
     let bs = now (start .args .sheet) in
     let x = after-accept-sheet .accept-sheet .result .sheet in
     let p = c .before .before .before .prepare-on in
-    (rw e ((bs, acc), refl, record { accepts = acc; stage = midway-start bs x _ _ acc (serves-prepared bs x acc _ _ (p .result) (start .pre .0) (p .ensures bs acc)) (after-empty .empty .ensures _) }), omega arith)
+    (rw e ((bs, acc), refl, record { accepts = acc; stage = midway-start bs x _ _ acc (serves-prepared bs x acc _ _ (p .result) (start .pre .0) (p .ensures bs acc)) (after-empty .empty .ensures .0 _) }), (omega arith, after-empty .empty .ensures .1))
 
 pub start-spec : {M : Type 1} → statement M
 start-spec =

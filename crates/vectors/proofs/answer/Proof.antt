@@ -16,7 +16,7 @@ slice-reshare-prefix-write-all : tie.Need-slice-reshare-prefix-write-all
 slice-reshare-prefix-write-all c = search needs
 
 slice-aggregate-write-all : tie.Need-slice-aggregate-write-all
-slice-aggregate-write-all c = sym (length-take-le _ _ (c .before .before .before .before .before .before .before .start .ensures .1))
+slice-aggregate-write-all c = sym (length-take-le _ _ (c .before .before .before .before .before .before .before .start .ensures .1 .0))
 
 write-all-requires : tie.Need-write-all-requires
 write-all-requires c κs = search needs
@@ -28,7 +28,7 @@ play-requires : tie.Need-play-requires
 play-requires c κs =
     let after-enum-told2 = c .before .before .before .before in
     let after-start = after-enum-told2 .before .before .before .before .before .before in
-    ((rw (after-enum-told2 .enum-told2 .given .1) at (after-start .start .ensures .0)) .0, omega arith)
+    ((rw (after-enum-told2 .enum-told2 .given .1) at (after-start .start .ensures .0)) .0, omega arith, after-start .before .before .before .before .before .before .before .before .pre .2, after-start .start .ensures .1 .1)
 
 same-length : tie.Need-same-length
 same-length c = search needs

@@ -7,10 +7,13 @@ use Rattle.vectors.proofs.main.Statement.{statement}
 use Rattle.vectors.proofs.main.Tie as tie
 
 abbrev Inv-loop : tie.InvT-loop
-Inv-loop sheet₀ session₀ storage₀ out₀ go₀ cases₀ sheet session storage out go cases = (length sheet ≡ 464) × (length session ≡ 65536) × (length storage ≡ storageWords) × (length out ≡ 4096)
+Inv-loop table sheet₀ session₀ storage₀ out₀ go₀ cases₀ sheet session storage out go cases = (length sheet ≡ 464) × (length session ≡ 65536) × (length storage ≡ storageWords) × (length out ≡ 4096)
 
 abbrev μ-loop : tie.MeasureT-loop
-μ-loop sheet₀ session₀ storage₀ out₀ go₀ cases₀ sheet session storage out go cases = cases
+μ-loop table sheet₀ session₀ storage₀ out₀ go₀ cases₀ sheet session storage out go cases = cases
+
+sets-requires : tie.Need-sets-requires Inv-loop μ-loop
+sets-requires c κs = search needs
 
 large-buffer-requires : tie.Need-large-buffer-requires Inv-loop μ-loop
 large-buffer-requires c κs = search needs
@@ -32,6 +35,9 @@ slice-aggregate-case-3 c = search needs
 
 slice-aggregate-case-4 : tie.Need-slice-aggregate-case-4 Inv-loop μ-loop
 slice-aggregate-case-4 c = search needs
+
+slice-aggregate-case-5 : tie.Need-slice-aggregate-case-5 Inv-loop μ-loop
+slice-aggregate-case-5 c = search needs
 
 case-requires : tie.Need-case-requires Inv-loop μ-loop
 case-requires c κs = search needs
@@ -57,6 +63,7 @@ main-spec =
     (tie.spec
     Inv-loop
     μ-loop
+    sets-requires
     large-buffer-requires
     buffer-requires
     loop-holds
@@ -64,6 +71,7 @@ main-spec =
     slice-aggregate-case-2
     slice-aggregate-case-3
     slice-aggregate-case-4
+    slice-aggregate-case-5
     case-requires
     sub-cases
     loop-less

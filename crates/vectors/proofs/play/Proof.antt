@@ -4,14 +4,15 @@ use Prim.Native.Nat.{_≤_, _-_}
 use lib.ListN.{length}
 use lib.Seq.{length-take-le}
 use borrow.Author.Needs.{needs}
+use Rattle.line_scan.specs.Scan.{InTable}
 use Rattle.vectors.proofs.play.Statement.{statement}
 use Rattle.vectors.proofs.play.Tie as tie
 
 abbrev Inv-loop : tie.InvT-loop
-Inv-loop x storage₀ session out₀ state₀ at₀ storage out state at = (at ≤ length session) × (length storage ≡ length storage₀) × (length out ≡ length out₀)
+Inv-loop x table storage₀ session out₀ state₀ at₀ storage out state at = (at ≤ length session) × (length storage ≡ length storage₀) × (length out ≡ length out₀) × InTable (state .pending)
 
 abbrev μ-loop : tie.MeasureT-loop
-μ-loop x storage₀ session out₀ state₀ at₀ storage out state at = length session - at
+μ-loop x table storage₀ session out₀ state₀ at₀ storage out state at = length session - at
 
 loop-holds : tie.Need-loop-holds Inv-loop μ-loop
 loop-holds c = search needs
@@ -41,7 +42,7 @@ slice-reshare-prefix-write-all : tie.Need-slice-reshare-prefix-write-all Inv-loo
 slice-reshare-prefix-write-all c = search needs
 
 slice-aggregate-write-all : tie.Need-slice-aggregate-write-all Inv-loop μ-loop
-slice-aggregate-write-all c = sym (length-take-le _ _ (c .before .before .before .before .before .before .feed .ensures .1))
+slice-aggregate-write-all c = sym (length-take-le _ _ (c .before .before .before .before .before .before .feed .ensures .1 .0))
 
 write-all-requires : tie.Need-write-all-requires Inv-loop μ-loop
 write-all-requires c κs = search needs
@@ -50,7 +51,7 @@ loop-less : tie.Need-loop-less Inv-loop μ-loop
 loop-less c = search needs
 
 loop-again : tie.Need-loop-again Inv-loop μ-loop
-loop-again c = search needs
+loop-again c = (search needs, search needs, search needs, c .before .before .before .before .before .before .before .feed .ensures .1 .1)
 
 finish-requires : tie.Need-finish-requires Inv-loop μ-loop
 finish-requires c κs = search needs

@@ -4,7 +4,7 @@ use Rattle.line_scan.proofs.Pending.empty.Statement.{statement}
 use Rattle.line_scan.proofs.Pending.empty.Tie as tie
 
 returns : tie.Need-returns
-returns c = λ m. refl
+returns c = ((λ m. refl), tt)
 
 pub empty-spec : {M : Type 1} → statement M
 empty-spec = tie.close (tie.spec returns)

@@ -797,6 +797,13 @@ pub fn register() -> Vec<u8> {
     write(6, 1, &[feed, moves])
 }
 
+/// An expression that is true for one letter alone.
+pub fn only(inputs: usize, letter: usize) -> String {
+    let read = |input: usize| format!("4{input}{}", if letter >> input & 1 == 1 { "" } else { " 02" });
+    let reads: Vec<String> = (0..inputs).map(read).collect();
+    reads.join(" ") + &" 03".repeat(inputs - 1)
+}
+
 /// Exclusive or of two expressions.
 fn differs(left: &[u8], right: &[u8]) -> Vec<u8> {
     [left, right, &[0x02, 0x03], left, &[0x02], right, &[0x03, 0x04]].concat()

@@ -1,5 +1,5 @@
-//! Runs of the program `journal` where it has been built, each in a folder of its own and none
-//! without end.
+//! Runs of the programs `journal` and `letter_sets` where they have been built, each in a folder of its
+//! own and none without end.
 
 use std::env;
 use std::fs::{self, File};
@@ -14,28 +14,32 @@ use std::time::{Duration, Instant};
 /// A run that takes longer is killed, and its test fails.
 const LIMIT: Duration = Duration::from_secs(60);
 
-/// A folder for the program to run in, with an input and perhaps a sheet.
+/// A folder for a program to run in, with an input and perhaps a sheet.
 pub struct Folder {
     pub program: PathBuf,
     pub path: PathBuf,
 }
 
 impl Folder {
-    /// None where the program is missing, which is told even where the output of tests is held back.
+    /// One for the journal program.
     pub fn new(name: &str) -> Option<Folder> {
-        let program = Path::new(env!("CARGO_MANIFEST_DIR")).join("../target/bin/journal");
-        let Ok(program) = program.canonicalize() else {
-            let told =
-                writeln!(io::stderr(), "skipped {name}: target/bin/journal is missing, `rt check journal` builds it");
-            told.expect("standard error");
-            return None;
-        };
-        let path = env::temp_dir().join(format!("journal-{}-{name}", process::id()));
-        fs::create_dir_all(&path).expect("a new folder");
-        Some(Folder { program, path })
+        Folder::of("journal", name)
     }
 
-    /// The same with a sheet.
+    /// None where the program is missing, which is told even where the output of tests is held back.
+    pub fn of(program: &str, name: &str) -> Option<Folder> {
+        let built = Path::new(env!("CARGO_MANIFEST_DIR")).join("../target/bin").join(program);
+        let Ok(built) = built.canonicalize() else {
+            let missing = format!("target/bin/{program} is missing, `rt check {program}` builds it");
+            writeln!(io::stderr(), "skipped {name}: {missing}").expect("standard error");
+            return None;
+        };
+        let path = env::temp_dir().join(format!("{program}-{}-{name}", process::id()));
+        fs::create_dir_all(&path).expect("a new folder");
+        Some(Folder { program: built, path })
+    }
+
+    /// One for the journal program, with a sheet.
     pub fn with_sheet(name: &str, sheet: &[u8]) -> Option<Folder> {
         let folder = Folder::new(name)?;
         folder.put_sheet(sheet);

@@ -1,13 +1,14 @@
 //! The program `journal` under faults of the system, made for real: reads and writes that are
-//! interrupted, not ready, short or fail, and files that are missing, closed, full or can't be read.
-//! The last test draws faults at random, by functions in C that are loaded before the C library's.
+//! interrupted, not ready, short or fail, and files that are missing, closed, full or can't be read. Then
+//! the program `letter_sets` under those of its output. The last test of each draws faults at random, by
+//! functions in C that are loaded before the C library's.
 
 use outside::cases::{longest, plain, session_sheet};
 use outside::monitor::Monitor;
-use outside::program::{Folder, Run};
+use outside::program::{Ended, Folder, Run};
 use outside::random::Random;
 use outside::vectors::{self, Case};
-use outside::{hex, session};
+use outside::{expect_same, hex, letter_table, session};
 use std::ffi::c_int;
 use std::fs::{self, File, OpenOptions, Permissions};
 use std::io::{self, Read, Seek, Write};
@@ -28,6 +29,11 @@ const OUTPUT: &str = "write standard output";
 /// The line on standard error.
 fn cannot(action: &str, reason: &str) -> String {
     format!("journal: cannot {action}: {reason}\n")
+}
+
+/// The only one of `letter_sets`.
+fn cannot_print(reason: &str) -> String {
+    format!("letter_sets: cannot {OUTPUT}: {reason}\n")
 }
 
 /// Sheets and journals, most of them random.
@@ -52,13 +58,6 @@ fn long_case() -> (Vec<u8>, Vec<u8>, String) {
         answers += &(sign.repeat(7) + "\n");
     }
     (plain(1, &["40"; 7]), input, answers)
-}
-
-/// `assert_eq!` would print all of a long text.
-fn same(found: &[u8], expected: &str) {
-    let place = found.iter().zip(expected.as_bytes()).position(|(left, right)| left != right);
-    let lengths = (found.len(), expected.len());
-    assert!(place.is_none() && lengths.0 == lengths.1, "first difference at {place:?}, lengths {lengths:?}");
 }
 
 /// The program's end of a pipe or of sockets, then the test's.
@@ -241,7 +240,7 @@ fn interrupted_writes() {
     }
     from.read_to_end(&mut found).expect("answers");
     run.end().expect("", "");
-    same(&found, &answers);
+    expect_same("the output", &found, answers.as_bytes());
 }
 
 #[test]
@@ -255,7 +254,20 @@ fn output_that_is_not_ready() {
         let mut found = Vec::new();
         from.read_to_end(&mut found).expect("answers");
         run.end().expect("", "");
-        same(&found, &answers);
+        expect_same("the output", &found, answers.as_bytes());
+    }
+}
+
+/// All there is to read, so much at a time.
+fn read_slowly(from: &mut File, most: usize) -> Vec<u8> {
+    let (mut found, mut part) = (Vec::new(), vec![0; most]);
+    loop {
+        let length = from.read(&mut part).expect("output");
+        if length == 0 {
+            return found;
+        }
+        found.extend(&part[..length]);
+        pause(3);
     }
 }
 
@@ -265,17 +277,9 @@ fn slow_readers() {
     let Some(folder) = Folder::with_sheet("slow_readers", &sheet) else { return };
     for (output, mut from) in hasty_outputs().into_iter().chain([output_pipe(), sockets()]) {
         let run = connect(&folder, folder.input(&input), output);
-        let (mut found, mut part) = (Vec::new(), vec![0; 20_000]);
-        loop {
-            let length = from.read(&mut part).expect("answers");
-            if length == 0 {
-                break;
-            }
-            found.extend(&part[..length]);
-            pause(3);
-        }
+        let found = read_slowly(&mut from, 20_000);
         run.end().expect("", "");
-        same(&found, &answers);
+        expect_same("the output", &found, answers.as_bytes());
     }
 }
 
@@ -584,6 +588,18 @@ impl Told {
     }
 }
 
+/// Runs the program with this input under a schedule of faults.
+fn run_with_faults(folder: &Folder, faults: &Path, seed: usize, input: &[u8]) -> (Ended, Told) {
+    let log = folder.path.join("log");
+    let mut command = folder.command();
+    command.stdin(folder.input(input)).env("LD_PRELOAD", faults);
+    command.env("FAULTS_SEED", seed.to_string()).env("FAULTS_LOG", &log);
+    let ended = folder.end(command);
+    let told = Told::of(&fs::read_to_string(&log).expect("the functions were loaded"));
+    fs::remove_file(&log).expect("a file");
+    (ended, told)
+}
+
 /// The system's text for an error.
 fn reason(number: i32) -> String {
     let text = io::Error::from_raw_os_error(number).to_string();
@@ -593,15 +609,10 @@ fn reason(number: i32) -> String {
 #[test]
 fn random_faults() {
     let Some(folder) = Folder::new("random_faults") else { return };
-    let (faults, log) = (faults(&folder), folder.path.join("log"));
-    let mut seen = [0; 4];
+    let (faults, mut seen) = (faults(&folder), [0; 4]);
     for (seed, case) in cases().iter().enumerate().step_by(3) {
         folder.put_sheet(&case.sheet);
-        let mut command = folder.command();
-        command.stdin(folder.input(&case.session)).env("LD_PRELOAD", &faults);
-        command.env("FAULTS_SEED", seed.to_string()).env("FAULTS_LOG", &log);
-        let ended = folder.end(command);
-        let told = Told::of(&fs::read_to_string(&log).expect("the functions were loaded"));
+        let (ended, told) = run_with_faults(&folder, &faults, seed, &case.session);
         told.expect_answers_first(case);
         let whole = session::run(&case.sheet, &case.session);
         let (place, error) = told.fault.unwrap_or_default();
@@ -617,7 +628,82 @@ fn random_faults() {
         let errors = if kind == 0 { String::new() } else { cannot(action, &reason(error)) };
         ended.expect(&output, &errors);
         seen[kind] += 1;
-        fs::remove_file(&log).expect("a file");
     }
     assert!(seen.iter().all(|&times| times >= 30), "{seen:?}");
+}
+
+#[test]
+fn a_table_that_is_not_taken() {
+    let Some(folder) = Folder::of("letter_sets", "a_table_that_is_not_taken") else { return };
+    let ended = |words: &str| folder.end(folder.shell(&format!("exec \"$0\" {words}")));
+    let (full, closed) = (cannot_print("No space left on device"), cannot_print("Bad file descriptor"));
+    for input in ["", "<&-"] {
+        ended(&format!("{input} >/dev/full")).expect("", &full);
+        ended(&format!("{input} >&-")).expect("", &closed);
+        ended(&format!("{input} >/dev/full 2>&-")).expect("", "");
+        ended(&format!("{input} >&- 2>&-")).expect("", "");
+        ended(&format!("{input} 2>&-")).expect(&letter_table::text(), "");
+    }
+    ended(">/dev/full 2>/dev/full").expect("", "");
+    // Open, but not for writing.
+    ended(">&0").expect("", &closed);
+}
+
+#[test]
+fn a_table_in_a_file_that_is_full() {
+    let Some(folder) = Folder::of("letter_sets", "a_table_in_a_file_that_is_full") else { return };
+    let ended = folder.end(folder.shell("ulimit -f 3; trap '' XFSZ; exec \"$0\""));
+    assert!(!ended.output.is_empty());
+    ended.expect(&letter_table::text()[..ended.output.len()], &cannot_print("File too large"));
+}
+
+#[test]
+fn a_table_that_nobody_reads() {
+    const SIGPIPE: i32 = 13;
+    let Some(folder) = Folder::of("letter_sets", "a_table_that_nobody_reads") else { return };
+    for ends in [output_pipe, sockets] {
+        let ended = connect(&folder, Stdio::null(), unread(ends)).end();
+        assert_eq!((ended.status.signal(), &*ended.errors), (Some(SIGPIPE), ""));
+        let mut command = folder.shell("trap '' PIPE; exec \"$0\"");
+        command.stdout(unread(ends));
+        folder.end(command).expect("", &cannot_print("Broken pipe"));
+    }
+}
+
+/// The pipe has no room for all of the table, as there is something in it before.
+#[test]
+fn a_table_that_is_read_slowly() {
+    let Some(folder) = Folder::of("letter_sets", "a_table_that_is_read_slowly") else { return };
+    let (mut output, mut from) = output_pipe();
+    let before = "-".repeat(64_000);
+    output.write_all(before.as_bytes()).expect("a pipe holds 65,536 bytes");
+    let run = connect(&folder, Stdio::null(), output);
+    run.until("a wait", Run::is_waiting);
+    let found = read_slowly(&mut from, 300);
+    run.end().expect("", "");
+    expect_same("the output", &found, (before + &letter_table::text()).as_bytes());
+}
+
+/// Where nothing is said the whole table was written, and else a beginning of it. A write that was interrupted or
+/// not ready may be made again, or given up as a failure.
+#[test]
+fn random_faults_of_letter_sets() {
+    const EINTR: i32 = 4;
+    const EAGAIN: i32 = 11;
+    let Some(folder) = Folder::of("letter_sets", "random_faults_of_letter_sets") else { return };
+    let (faults, text, mut failed) = (faults(&folder), letter_table::text(), 0);
+    for seed in 0..400 {
+        let (ended, told) = run_with_faults(&folder, &faults, seed, b"??????\n");
+        assert!(told.reads.is_empty(), "a read of standard input");
+        if told.fault.is_none() && ended.errors.is_empty() {
+            ended.expect(&text, "");
+            continue;
+        }
+        let passing = [EINTR, EAGAIN].into_iter().find(|&error| ended.errors == cannot_print(&reason(error)));
+        let (place, error) = told.fault.unwrap_or_else(|| ("output".to_string(), passing.unwrap_or_default()));
+        assert_eq!(place, "output");
+        ended.expect(&text[..ended.output.len().min(text.len())], &cannot_print(&reason(error)));
+        failed += 1;
+    }
+    assert!(failed >= 30, "{failed} runs with a failure");
 }

@@ -1,10 +1,10 @@
 //! The library's sets of letters: those that it makes from masks, and those that its rounds refuse.
 
-use outside::cases::plain;
+use outside::cases::{only, plain};
 use outside::journal::{Held, STORAGE_WORDS};
 use outside::letters::{Heard, LetterSet};
-use outside::library;
 use outside::random::Random;
+use outside::{letter_table, library};
 
 /// Makes a set where a number lies between two others, which stay as they were. Returns the number of the
 /// refusal, and what is there afterwards.
@@ -40,6 +40,17 @@ fn every_pair_of_masks() {
     }
     // Each input was heard as 0, as 1, or not.
     assert_eq!(sets, [0, 3, 9, 27, 81, 243, 729]);
+}
+
+/// The set of masks is the table's entry whose digits say what was heard.
+#[test]
+fn entries_of_the_table() {
+    for inputs in 1..=6u8 {
+        for heard in every_masks().filter(|heard| heard.letters(inputs as usize).is_ok()) {
+            let entry = letter_table::entry(letter_table::index(&heard.marks(inputs as usize)));
+            assert_eq!(letters(inputs, heard, 0), (0, entry), "{inputs} inputs, {heard:?}");
+        }
+    }
 }
 
 /// What was there before plays no part.
@@ -130,13 +141,6 @@ fn verdict_on_first_input(set: LetterSet) -> u32 {
         (_, false) => 1,
         _ => 2,
     }
-}
-
-/// An expression that is true for one letter alone.
-fn only(inputs: usize, letter: usize) -> String {
-    let read = |input: usize| format!("4{input}{}", if letter >> input & 1 == 1 { "" } else { " 02" });
-    let reads: Vec<String> = (0..inputs).map(read).collect();
-    reads.join(" ") + &" 03".repeat(inputs - 1)
 }
 
 /// Every set of one, two and three inputs, letter by letter: false if the set lacks it, true if it has no

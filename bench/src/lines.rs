@@ -136,17 +136,34 @@ fn line_set(inputs: usize, line: &[u8]) -> Option<u64> {
     }
 }
 
-/// The letters that fit marks `0`, `1` and `?`, input 0 first. Marks can't be foretold, so there is no
-/// branch on them.
+/// The letters that fit marks `0`, `1` and `?`, looked up by the marks' digits in base 3, input 0's the
+/// lowest. Marks can't be foretold, so there is no branch on them.
 fn alternative_set(marks: &[u8]) -> Option<u64> {
-    let (mut set, mut good) = (1, true);
-    for (input, &mark) in marks.iter().enumerate() {
-        let lower = if mark == b'1' { 0 } else { set };
-        let higher = if mark == b'0' { 0 } else { set << (1 << input) };
+    let (mut index, mut good) = (0, true);
+    for &mark in marks.iter().rev() {
+        let digit = usize::from(mark == b'1') + 2 * usize::from(mark == b'?');
         good &= matches!(mark, b'0' | b'1' | b'?');
-        set = lower | higher;
+        index = 3 * index + digit;
     }
-    good.then_some(set)
+    good.then(|| LETTER_SETS[index])
+}
+
+/// The letters that match six digits in base 3: 0 and 1 are an input's value, 2 is either.
+static LETTER_SETS: [u64; 729] = letter_sets();
+
+const fn letter_sets() -> [u64; 729] {
+    let (mut sets, mut size, mut input) = ([1; 729], 1, 0);
+    while input < 6 {
+        let mut index = 0;
+        while index < size {
+            sets[size + index] = sets[index] << (1 << input);
+            sets[2 * size + index] = sets[index] | sets[size + index];
+            index += 1;
+        }
+        size *= 3;
+        input += 1;
+    }
+    sets
 }
 
 #[cfg(test)]

@@ -1,4 +1,4 @@
-// The end of a line: the call that it stands for, and what is written for it.
+// The end of a line: the call that it stands for is answered, and the answer written.
 ghost use mathlib.Core.Path.{_≡_};
 ghost use mathlib.Core.Bool.{true, false, cond};
 ghost use mathlib.Core.List.{List};

@@ -1,4 +1,4 @@
-// The line that is being read: what its bytes so far come to.
+// The line that is being read: what its bytes so far come to, and what it stands for once it is whole.
 ghost use mathlib.Core.Path.{_≡_};
 ghost use mathlib.Core.Bool.{true, false};
 ghost use mathlib.Core.List.{List, [], _∷_, _++_};
@@ -46,7 +46,7 @@ fn is_mark(b: u8) -> bool
     }
 }
 
-// The digit of a mark. There is no branch, since a processor can't foresee marks.
+// The digit of a mark. The compiler makes no branch of these cases; a processor couldn't foresee it.
 fn mark_digit(b: u8) -> u16
     ensures { λ r. ⌜ r ≡ markDigit b ⌝ }
 {

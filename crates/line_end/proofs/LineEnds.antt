@@ -18,7 +18,9 @@ use Rattle.text.specs.Text.{verdictLine, tallyLines, closingText, lineRefusal}
 use Rattle.text.proofs.TallyLaws.{tally-lines-same}
 use Rattle.claims.specs.Book.{Call, closing, refused, verdicts, closed, Book, counted}
 use Rattle.claims.specs.Session.{Held, held}
-use Rattle.line_scan.specs.Lines.{calls, malformed, readLine}
+use Rattle.line_scan.specs.Lines.{blank, calls, malformed, readLine, asked, asks}
+use Rattle.line_scan.specs.Meaning.{lineOf}
+use Rattle.line_scan.specs.declared.Meaning.{Meaning}
 use Rattle.line_end.specs.Printed.{nextLine, malformedRule, passed, rounded, shut, turnedDown, unread}
 use Rattle.line_end.specs.LineEnd.{Serves, Answered, LineEnded, mostBytes, due}
 use Rattle.line_end.specs.declared.Ended.{Ended}
@@ -26,13 +28,18 @@ use Rattle.line_end.proofs.Serving.{serves-matches}
 
 -- ---- the end of a line
 
+-- what the line asks of the record's journal, it asks of the book's
+pub asks-told : (sheet : List ℕ) (x : RuleSheet) (b : Book) (j : JournalRecord) (s part : List ℕ) (m v : Meaning) → Serves sheet x b (held s j)
+    → asked (x .inputs) (j .closed) (readLine (x .inputs) part) ≡ lineOf m → m ≡ v → asks x b part ≡ lineOf v
+asks-told sheet x b j s part m v sv l e = rw (← serves-matches sheet x b (held s j) sv .shut) (l ∙ ap lineOf e)
+
 module _ (sheet : List ℕ) (x : RuleSheet) (b : Book) (line : ℕ) (part d : List ℕ) (at : ℕ) (e t : List ℕ) (r : Ended) where
   -- the run is over
-  pub refused-ends : (c : Call) (q : Refusal) (h : Held) → readLine (x .inputs) part ≡ calls c → Answered sheet x b c (refused q) h
+  pub refused-ends : (c : Call) (q : Refusal) (h : Held) → asks x b part ≡ calls c → Answered sheet x b c (refused q) h
       → r .over ≡ true → Placed d at (lineRefusal q line) e (r .at) → LineEnded sheet x b line part d at e t r
   refused-ends c q h l a o w = record { text = lineRefusal q line; wrote = placed-wrote w; ends = rw o (λ ls. turnedDown l (a .step)) }
 
-  pub malformed-ends : (j : JournalRecord) (s : List ℕ) → Serves sheet x b (held s j) → readLine (x .inputs) part ≡ malformed
+  pub malformed-ends : (j : JournalRecord) (s : List ℕ) → Serves sheet x b (held s j) → asks x b part ≡ malformed
       → r .over ≡ true → Placed d at (lineRefusal (cond (j .closed) Closed Line) line) e (r .at) → LineEnded sheet x b line part d at e t r
   malformed-ends j s sv l o w =
       let m = serves-matches sheet x b (held s j) sv in
@@ -40,14 +47,14 @@ module _ (sheet : List ℕ) (x : RuleSheet) (b : Book) (line : ℕ) (part d : Li
 
   -- it goes on
   module _ (o : r .over ≡ false) (n : r .line ≡ nextLine line) where
-    pub blank-ends : part ≡ [] → Serves sheet x b (held t (r .record)) → Wrote d at [] e (r .at) → LineEnded sheet x b line part d at e t r
-    blank-ends p sv w = record { text = []; wrote = w; ends = rw (o, n, p) (record { book = b; serves = sv; onward = λ ls u f. passed f }) }
+    pub blank-ends : asks x b part ≡ blank → Serves sheet x b (held t (r .record)) → Wrote d at [] e (r .at) → LineEnded sheet x b line part d at e t r
+    blank-ends l sv w = record { text = []; wrote = w; ends = rw (o, n) (record { book = b; serves = sv; onward = λ ls u f. passed l f }) }
 
-    pub round-ends : (c : Call) (vs : List Verdict) → readLine (x .inputs) part ≡ calls c → Answered sheet x b c (verdicts vs) (held t (r .record))
+    pub round-ends : (c : Call) (vs : List Verdict) → asks x b part ≡ calls c → Answered sheet x b c (verdicts vs) (held t (r .record))
         → Placed d at (verdictLine vs) e (r .at) → LineEnded sheet x b line part d at e t r
     round-ends c vs l a w = record { text = verdictLine vs; wrote = placed-wrote w; ends = rw (o, n) (record { book = a .book; serves = a .serves; onward = λ ls u f. rounded l (a .step) f }) }
 
-    pub closing-ends : (m : ℕ) (vs : List Verdict) (counts shares : List ℕ) → outputs x ≡ m → counts ≡ r .record .counts → readLine (x .inputs) part ≡ calls closing
+    pub closing-ends : (m : ℕ) (vs : List Verdict) (counts shares : List ℕ) → outputs x ≡ m → counts ≡ r .record .counts → asks x b part ≡ calls closing
         → Answered sheet x b closing (closed vs (take m shares)) (held t (r .record))
         → Placed d at (closingText m vs (countAt counts) shares) e (r .at) → LineEnded sheet x b line part d at e t r
     closing-ends m vs counts shares f g l a w =

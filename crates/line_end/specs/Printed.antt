@@ -1,4 +1,4 @@
--- What the program writes, said by the book (01, "The journal program").
+-- What the program writes, said by the book (01, "The journal program"; 02, W3).
 -- Manual: "The program".
 use mathlib.Core.Path.{_≡_}
 use mathlib.Core.Bool.{cond}
@@ -14,7 +14,7 @@ use Rattle.sheet.specs.RuleSheet.{RuleSheet, outputs, accepted, readSheet}
 use Rattle.circular.specs.SheetChecks.{sheetChecks}
 use Rattle.text.specs.Text.{verdictLine, closingText, lineRefusal, sheetRefusal}
 use Rattle.claims.specs.Book.{Call, refused, verdicts, closed, Book, emptyBook, counted, BookStep}
-use Rattle.line_scan.specs.Lines.{calls, malformed, readLine, linesOf}
+use Rattle.line_scan.specs.Lines.{blank, calls, malformed, asks, linesOf}
 
 -- the number of the line after line l: a number of 64 bits, which stays at its largest
 abbrev pub nextLine : ℕ → ℕ
@@ -24,17 +24,18 @@ nextLine l = cond (ltb l 18446744073709551615) (l + 1) l
 abbrev pub malformedRule : Book → Refusal
 malformedRule b = cond (b .shut) Closed Line
 
--- The lines from number l on, with the book before them, and what is written. Blank lines are passed over, and the first refusal ends it.
+-- The lines from number l on, with the book before them, and what is written. A blank line is a round before the closing and is passed over
+-- after it, and the first refusal ends it.
 pub data Written (x : RuleSheet) : Book → ℕ → List (List ℕ) → List ℕ → Type 0 where
   ended : {b : Book} {l : ℕ} → Written x b l [] []
-  passed : {b : Book} {l : ℕ} {ls : List (List ℕ)} {t : List ℕ} → Written x b (nextLine l) ls t → Written x b l ([] ∷ ls) t
-  rounded : {b b₁ : Book} {l : ℕ} {line : List ℕ} {ls : List (List ℕ)} {c : Call} {vs : List Verdict} {t : List ℕ} → readLine (x .inputs) line ≡ calls c
+  passed : {b : Book} {l : ℕ} {line : List ℕ} {ls : List (List ℕ)} {t : List ℕ} → asks x b line ≡ blank → Written x b (nextLine l) ls t → Written x b l (line ∷ ls) t
+  rounded : {b b₁ : Book} {l : ℕ} {line : List ℕ} {ls : List (List ℕ)} {c : Call} {vs : List Verdict} {t : List ℕ} → asks x b line ≡ calls c
       → BookStep x b c (verdicts vs) b₁ → Written x b₁ (nextLine l) ls t → Written x b l (line ∷ ls) (verdictLine vs ++ t)
-  shut : {b b₁ : Book} {l : ℕ} {line : List ℕ} {ls : List (List ℕ)} {c : Call} {vs : List Verdict} {xs t : List ℕ} → readLine (x .inputs) line ≡ calls c
+  shut : {b b₁ : Book} {l : ℕ} {line : List ℕ} {ls : List (List ℕ)} {c : Call} {vs : List Verdict} {xs t : List ℕ} → asks x b line ≡ calls c
       → BookStep x b c (closed vs xs) b₁ → Written x b₁ (nextLine l) ls t → Written x b l (line ∷ ls) (closingText (outputs x) vs (counted (b₁ .told)) xs ++ t)
-  turnedDown : {b b₁ : Book} {l : ℕ} {line : List ℕ} {ls : List (List ℕ)} {c : Call} {r : Refusal} → readLine (x .inputs) line ≡ calls c
+  turnedDown : {b b₁ : Book} {l : ℕ} {line : List ℕ} {ls : List (List ℕ)} {c : Call} {r : Refusal} → asks x b line ≡ calls c
       → BookStep x b c (refused r) b₁ → Written x b l (line ∷ ls) (lineRefusal r l)
-  unread : {b : Book} {l : ℕ} {line : List ℕ} {ls : List (List ℕ)} → readLine (x .inputs) line ≡ malformed → Written x b l (line ∷ ls) (lineRefusal (malformedRule b) l)
+  unread : {b : Book} {l : ℕ} {line : List ℕ} {ls : List (List ℕ)} → asks x b line ≡ malformed → Written x b l (line ∷ ls) (lineRefusal (malformedRule b) l)
 
 -- What is written for the bytes of a sheet and all bytes of standard input.
 pub data Printed (sheet input : List ℕ) : List ℕ → Type 0 where

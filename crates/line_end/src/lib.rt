@@ -12,7 +12,7 @@ ghost use Rattle.circular.specs.Accepted.{IsAccepted};
 ghost use Rattle.claims.specs.Book.{Book, round, closing};
 ghost use Rattle.claims.specs.Session.{held, roundSays, closingSays};
 ghost use Rattle.text.specs.Text.{lineRefusal};
-ghost use Rattle.line_scan.specs.Lines.{calls, readLine};
+ghost use Rattle.line_scan.specs.Lines.{calls, readLine, asked, asks};
 ghost use Rattle.line_scan.specs.Meaning.{lineOf};
 ghost use Rattle.line_end.specs.Printed.{nextLine};
 ghost use Rattle.line_end.specs.LineEnd.{Serves, Answered, LineEnded, mostBytes, due};
@@ -79,7 +79,7 @@ fn round_line(
     at: usize,
 ) -> Ended
     requires { ⌜ IsAccepted x × (at + mostBytes (rec .closed) + 8 ≤ length (now out)) ⌝ }
-    ensures ended { λ r. ⌜ ((sheet : List ℕ) (b : Book) (part : List ℕ) → AcceptedSheet sheet x → Serves sheet (ruleSheet x) b (held (now (storage .entry)) rec) → readLine (x .inputs) part ≡ calls (round letters) → LineEnded sheet (ruleSheet x) b line part (now (out .entry)) at (now (out .exit)) (now (storage .exit)) r) ⌝ }
+    ensures ended { λ r. ⌜ ((sheet : List ℕ) (b : Book) (part : List ℕ) → AcceptedSheet sheet x → Serves sheet (ruleSheet x) b (held (now (storage .entry)) rec) → asks (ruleSheet x) b part ≡ calls (round letters) → LineEnded sheet (ruleSheet x) b line part (now (out .entry)) at (now (out .exit)) (now (storage .exit)) r) ⌝ }
     ensures bound { λ r. ⌜ r .at + due (r .over) (r .record .closed) ≤ at + mostBytes (rec .closed) + 8 ⌝ }
 {
     let a = answer_round(x, storage, rec, letters);
@@ -110,7 +110,7 @@ fn closing_line(
     at: usize,
 ) -> Ended
     requires { ⌜ IsAccepted x × (at + mostBytes (rec .closed) + 8 ≤ length (now out)) ⌝ }
-    ensures ended { λ r. ⌜ ((sheet : List ℕ) (b : Book) (part : List ℕ) → AcceptedSheet sheet x → Serves sheet (ruleSheet x) b (held (now (storage .entry)) rec) → readLine (x .inputs) part ≡ calls closing → LineEnded sheet (ruleSheet x) b line part (now (out .entry)) at (now (out .exit)) (now (storage .entry)) r) ⌝ }
+    ensures ended { λ r. ⌜ ((sheet : List ℕ) (b : Book) (part : List ℕ) → AcceptedSheet sheet x → Serves sheet (ruleSheet x) b (held (now (storage .entry)) rec) → asks (ruleSheet x) b part ≡ calls closing → LineEnded sheet (ruleSheet x) b line part (now (out .entry)) at (now (out .exit)) (now (storage .entry)) r) ⌝ }
     ensures bound { λ r. ⌜ r .at + due (r .over) (r .record .closed) ≤ at + mostBytes (rec .closed) + 8 ⌝ }
 {
     let a = answer_closing(x, storage, rec);
@@ -144,7 +144,7 @@ fn malformed_line(line: u64, rec: JournalRecord, out: &mut [u8], at: usize) -> E
     refused_line(Refusal::Line, line, rec, out, at)
 }
 
-// A line is at its end.
+// A line is at its end, and this is what it asks for.
 pub fn line_end(
     x: Sheet,
     line: u64,
@@ -155,7 +155,7 @@ pub fn line_end(
     at: usize,
 ) -> Ended
     requires { ⌜ IsAccepted x × (at + mostBytes (rec .closed) + 8 ≤ length (now out)) ⌝ }
-    ensures ended { λ r. ⌜ ((sheet : List ℕ) (b : Book) (part : List ℕ) → AcceptedSheet sheet x → Serves sheet (ruleSheet x) b (held (now (storage .entry)) rec) → readLine (x .inputs) part ≡ lineOf meaning → LineEnded sheet (ruleSheet x) b line part (now (out .entry)) at (now (out .exit)) (now (storage .exit)) r) ⌝ }
+    ensures ended { λ r. ⌜ ((sheet : List ℕ) (b : Book) (part : List ℕ) → AcceptedSheet sheet x → Serves sheet (ruleSheet x) b (held (now (storage .entry)) rec) → asked (x .inputs) (rec .closed) (readLine (x .inputs) part) ≡ lineOf meaning → LineEnded sheet (ruleSheet x) b line part (now (out .entry)) at (now (out .exit)) (now (storage .exit)) r) ⌝ }
     ensures bound { λ r. ⌜ r .at + due (r .over) (r .record .closed) ≤ at + mostBytes (rec .closed) + 8 ⌝ }
 {
     match meaning {

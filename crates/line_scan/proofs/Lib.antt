@@ -1,3 +1,4 @@
+pub mod Blanks
 pub mod Fitting
 pub mod Indexing
 pub mod Masks

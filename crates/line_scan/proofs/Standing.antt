@@ -18,7 +18,7 @@ use Rattle.line_scan.specs.declared.Alternatives.{Alternatives}
 use Rattle.line_scan.proofs.Fitting.{some-alternative, some-letter}
 use Rattle.line_scan.proofs.Scanning.{read-bad, bad-behind, all-whole, joined-set}
 
-round-line : (m : ℕ) (l : List ℕ) → 0 < length l → isDot l ≡ false → allWhole m (alternatives l) ≡ true → readLine m l ≡ calls (round (lineSet m l))
+pub round-line : (m : ℕ) (l : List ℕ) → 0 < length l → isDot l ≡ false → allWhole m (alternatives l) ≡ true → readLine m l ≡ calls (round (lineSet m l))
 unfolding readLine
 round-line m [] h d e = absurd (omega arith)
 round-line m (b ∷ bs) h d e = simp (d, e)
@@ -70,17 +70,6 @@ module _ (m : ℕ) (part : List ℕ) where
   pub spoiled-some : Spoiled m part → part ≡ [] → ⊥
   unfolding readLine
   spoiled-some h e = let z : blank ≡ malformed = rw e at (h []) in true≢false cc
-
--- only the empty line is blank
-pub blank-empty : (m : ℕ) (part : List ℕ) → readLine m part ≡ blank → part ≡ []
-unfolding readLine
-blank-empty m [] e = refl
-blank-empty m (b ∷ bs) e = go (isDot (b ∷ bs)) (allWhole m (alternatives (b ∷ bs))) e
-  where
-    go : (d a : Bool) → cond d (calls closing) (cond a (calls (round (lineSet m (b ∷ bs)))) malformed) ≡ blank → b ∷ bs ≡ []
-    go true a e = absurd (true≢false cc)
-    go false true e = absurd (true≢false cc)
-    go false false e = absurd (true≢false cc)
 
 -- ---- no line stands for a set that rule 21 refuses
 

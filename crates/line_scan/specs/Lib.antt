@@ -1,4 +1,5 @@
 pub mod Lines
+pub mod Blank
 pub mod Index
 pub mod Scan
 pub mod Meaning

@@ -1,4 +1,4 @@
--- The lines of the program's standard input and what each stands for (01, "The journal program"; 02, W4).
+-- The lines of the program's standard input and what each stands for (01, "The journal program"; 02, W3 and W4).
 -- Manual: "The program".
 use mathlib.Core.Bool.{Bool, true, false, cond, _&&_, _||_}
 use mathlib.Core.List.{List, [], _∷_, _++_}
@@ -6,7 +6,8 @@ use Prim.Native.Nat.{ℕ, _+_, _/_, _%_, _^_}
 use lib.Dec.{eqb}
 use lib.ListN.{length}
 use Rattle.words.specs.Bits.{fromBits}
-use Rattle.claims.specs.Book.{Call, round, closing}
+use Rattle.sheet.specs.RuleSheet.{RuleSheet}
+use Rattle.claims.specs.Book.{Call, round, closing, Book}
 
 -- the lines from here on, when `part` is what has come of the first: a last line may lack its line feed, and the empty end after a last line
 -- feed isn't a line
@@ -86,3 +87,19 @@ nonblank m l = cond (isDot l) (calls closing) (cond (allWhole m (alternatives l)
 unfoldable pub readLine : ℕ → List ℕ → Line
 readLine m [] = blank
 readLine m (b ∷ bs) = nonblank m (b ∷ bs)
+
+-- all letters of m inputs
+unfoldable pub allLetters : ℕ → ℕ
+allLetters m = fromBits (2 ^ m) (λ l. true)
+
+-- what a line asks of a journal that is closed or not (02, W3): a blank one asks for a round with every signal unknown, and after the closing
+-- for nothing
+abbrev pub asked : ℕ → Bool → Line → Line
+asked m false blank = calls (round (allLetters m))
+asked m true blank = blank
+asked m shut (calls c) = calls c
+asked m shut malformed = malformed
+
+-- and of the journal that a book is of
+abbrev pub asks : RuleSheet → Book → List ℕ → Line
+asks x b line = asked (x .inputs) (b .shut) (readLine (x .inputs) line)

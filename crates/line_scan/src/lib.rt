@@ -5,7 +5,7 @@ ghost use mathlib.Core.List.{List, [], _∷_, _++_};
 ghost use Prim.Native.Nat.{ℕ, _≤_, _<_};
 ghost use lib.ListN.{length};
 ghost use Rattle.letter_table.specs.Entry.{Sets};
-ghost use Rattle.line_scan.specs.Lines.{isMark, readLine};
+ghost use Rattle.line_scan.specs.Lines.{isMark, readLine, allLetters, asked};
 ghost use Rattle.line_scan.specs.Index.{markDigit};
 ghost use Rattle.line_scan.specs.Scan.{Indexed, InTable, noMarks, joined, Parted, Marked, Scanned};
 ghost use Rattle.line_scan.specs.Meaning.{lineOf};
@@ -27,7 +27,7 @@ pub enum Pending {
     Malformed,
 }
 
-// What a whole line stands for: nothing, a round with its set of letters, the closing, or no call at all.
+// What a whole line is: blank, a round with its set of letters, the closing, or no call at all.
 pub enum Meaning {
     Blank,
     Round(u64),
@@ -127,6 +127,34 @@ impl Alternatives {
     }
 }
 
+// All letters of m inputs.
+fn all_letters(m: u8) -> u64
+    requires { ⌜ m ≤ 6 ⌝ }
+    ensures { λ r. ⌜ r ≡ allLetters m ⌝ }
+{
+    words::lanes_below(1 << m, 0)
+}
+
+impl Meaning {
+    // What the line asks of a journal of m inputs: a blank one asks for a round of which nothing was heard, and for nothing once it is closed.
+    fn asked(self, m: u8, closed: bool) -> Meaning
+        requires { ⌜ m ≤ 6 ⌝ }
+        ensures { λ r. ⌜ asked m closed (lineOf self) ≡ lineOf r ⌝ }
+    {
+        match self {
+            Meaning::Blank => {
+                if closed {
+                    return Meaning::Blank;
+                }
+                Meaning::Round(all_letters(m))
+            }
+            Meaning::Round(letters) => Meaning::Round(letters),
+            Meaning::Closing => Meaning::Closing,
+            Meaning::Malformed => Meaning::Malformed,
+        }
+    }
+}
+
 impl Pending {
     pub fn empty() -> Pending
         ensures scanned { λ r. ⌜ ((m : ℕ) → Scanned m [] r) ⌝ }
@@ -168,7 +196,7 @@ impl Pending {
     }
 
     // The line, of m inputs, ends here.
-    pub fn ended(self, table: &[u64], m: u8) -> Meaning
+    fn ended(self, table: &[u64], m: u8) -> Meaning
         requires { ⌜ Sets (now table) × InTable self × (m ≤ 6) ⌝ }
         ensures { λ r. ⌜ ((part : List ℕ) → Scanned m part self → readLine m part ≡ lineOf r) ⌝ }
     {
@@ -178,5 +206,13 @@ impl Pending {
             Pending::Dot => Meaning::Closing,
             Pending::Malformed => Meaning::Malformed,
         }
+    }
+
+    // What the line, of m inputs, asks of a journal that is closed or not if it ends here.
+    pub fn asked(self, table: &[u64], m: u8, closed: bool) -> Meaning
+        requires { ⌜ Sets (now table) × InTable self × (m ≤ 6) ⌝ }
+        ensures { λ r. ⌜ ((part : List ℕ) → Scanned m part self → asked m closed (readLine m part) ≡ lineOf r) ⌝ }
+    {
+        self.ended(table, m).asked(m, closed)
     }
 }

@@ -26,8 +26,9 @@ use Rattle.circular.specs.SheetChecks.{sheetChecks}
 use Rattle.record.specs.Record.{maxRounds}
 use Rattle.text.specs.Text.{verdictLine, tallyLine, tallyLines, closingText, refusedWord, lineRefusal, sheetRefusal}
 use Rattle.claims.specs.Book.{Call, round, closing, refused, Book, counted, refusal, BookStep, refuse}
-use Rattle.line_scan.specs.Lines.{calls, readLine}
+use Rattle.line_scan.specs.Lines.{calls, asks}
 use Rattle.line_scan.proofs.Standing.{good-line}
+use Rattle.line_scan.proofs.Blanks.{good-asked}
 use Rattle.line_end.specs.Printed.{malformedRule, Written, ended, passed, rounded, shut, turnedDown, unread, Printed, refusedSheet, journal}
 use Rattle.protocol.specs.NeverWritten.{NoBadLine, NeverWritten}
 
@@ -74,23 +75,23 @@ unfolding readingChecks others
 sheet-other bs r d = by-others (sheetChecks bs) r (others-both (readingChecks bs) _ (others-both (outputChecks bs 0 (outputsOf bs)) _ (outputs-other bs 0 (outputsOf bs)) refl) refl) d
 
 -- that of a line's call
-call-other : (x : RuleSheet) (t : ℕ) (shut : Bool) (c : Call) (r : Refusal) (line : List ℕ) → readLine (x .inputs) line ≡ calls c → refusal x t shut c ≡ some r → other r ≡ true
+call-other : (x : RuleSheet) (b : Book) (t : ℕ) (shut : Bool) (c : Call) (r : Refusal) (line : List ℕ) → asks x b line ≡ calls c → refusal x t shut c ≡ some r → other r ≡ true
 unfolding refusal
-call-other x t true (round w) r line l e = ap other (sym (same-some e))
-call-other x t false (round w) r line l e = go (leb maxRounds t) (rw (good-line (x .inputs) line w l) at e)
+call-other x b t true (round w) r line l e = ap other (sym (same-some e))
+call-other x b t false (round w) r line l e = go (leb maxRounds t) (rw (good-asked x b line w l) at e)
   where
     go : (b : Bool) → cond b (some Full) none ≡ some r → other r ≡ true
     go true e = ap other (sym (same-some e))
     go false e = absurd (nothing e)
-call-other x t true closing r line l e = ap other (sym (same-some e))
-call-other x t false closing r line l e = go (eqb t 0) e
+call-other x b t true closing r line l e = ap other (sym (same-some e))
+call-other x b t false closing r line l e = go (eqb t 0) e
   where
     go : (b : Bool) → cond b (some NoRound) none ≡ some r → other r ≡ true
     go true e = ap other (sym (same-some e))
     go false e = absurd (nothing e)
 
-step-other : (x : RuleSheet) {b b₁ : Book} {c : Call} {r : Refusal} (line : List ℕ) → readLine (x .inputs) line ≡ calls c → BookStep x b c (refused r) b₁ → other r ≡ true
-step-other x {b = b} {c = c} {r = r} line l (refuse e) = call-other x _ (b .shut) c r line l e
+step-other : (x : RuleSheet) {b b₁ : Book} {c : Call} {r : Refusal} (line : List ℕ) → asks x b line ≡ calls c → BookStep x b c (refused r) b₁ → other r ≡ true
+step-other x {b = b} {c = c} {r = r} line l (refuse e) = call-other x b _ (b .shut) c r line l e
 
 malformed-other : (shut : Bool) → other (cond shut Closed Line) ≡ true
 malformed-other true = refl
@@ -193,7 +194,7 @@ sheet-refusing r o = refusing-word r (115 ∷ 104 ∷ 101 ∷ 101 ∷ 116 ∷ 10
 written-refusing : (x : RuleSheet) {b : Book} {l : ℕ} {ls : List (List ℕ)} {t : List ℕ} → Written x b l ls t → Refusing t
 unfolding plain
 written-refusing x ended = λ before tail e. absurd (nowhere [] before tail refl e)
-written-refusing x (passed p) = written-refusing x p
+written-refusing x (passed l p) = written-refusing x p
 written-refusing x (rounded {vs = vs} {t = t} l s p) = refusing-behind (verdictLine vs) t (verdicts-plain vs) (written-refusing x p)
 written-refusing x (shut {b₁ = b₁} {vs = vs} {xs = xs} {t = t} l s p) =
     refusing-behind (closingText (outputs x) vs (counted (b₁ .told)) xs) t (closing-plain (outputs x) vs (counted (b₁ .told)) xs) (written-refusing x p)

@@ -16,22 +16,18 @@ use Rattle.circular.specs.SheetChecks.{sheetChecks}
 use Rattle.text.specs.Text.{verdictLine, closingText, lineRefusal, sheetRefusal}
 use Rattle.claims.specs.Book.{Call, Answer, refused, verdicts, closed, Book, emptyBook, counted, BookStep}
 use Rattle.claims.proofs.BookLaws.{step-unique}
-use Rattle.line_scan.specs.Lines.{Line, blank, calls, malformed, readLine, linesFrom, linesOf, hasFeed, wholeLines}
+use Rattle.line_scan.specs.Lines.{Line, blank, calls, malformed, linesFrom, linesOf, hasFeed, wholeLines}
 use Rattle.line_end.specs.Printed.{nextLine, Written, ended, passed, rounded, shut, turnedDown, unread, refusedSheet, journal}
 use Rattle.protocol.specs.Chunks.{Beginning, OneText}
 use Rattle.protocol.proofs.WholeLines.{no-whole, last-feed, lines-split}
 
--- ---- what a line stands for
+-- ---- what a line asks for
 
-blank-line : (m : ℕ) → readLine m [] ≡ blank
-unfolding readLine
-blank-line m = refl
+no-call : {y : Line} {c : Call} → y ≡ blank → y ≡ calls c → ⊥
+no-call {c = c} e f = let z : blank ≡ calls c = sym e ∙ f in true≢false cc
 
-no-call : (m : ℕ) {c : Call} → readLine m [] ≡ calls c → ⊥
-no-call m {c} e = let z : blank ≡ calls c = sym (blank-line m) ∙ e in true≢false cc
-
-not-malformed : (m : ℕ) → readLine m [] ≡ malformed → ⊥
-not-malformed m e = let z : blank ≡ malformed = sym (blank-line m) ∙ e in true≢false cc
+not-malformed : {y : Line} → y ≡ blank → y ≡ malformed → ⊥
+not-malformed e f = let z : blank ≡ malformed = sym e ∙ f in true≢false cc
 
 one-reading : {y : Line} {c : Call} → y ≡ calls c → y ≡ malformed → ⊥
 one-reading {y} {c} e f = let z : calls c ≡ malformed = sym e ∙ f in true≢false cc
@@ -80,19 +76,19 @@ closeText x vs xs b = closingText (outputs x) vs (counted (b .told)) xs
 written-begins : (x : RuleSheet) {b : Book} {l : ℕ} {ls : List (List ℕ)} (ms : List (List ℕ)) {t u : List ℕ} → Written x b l ls t → Written x b l (ls ++ ms) u → Begins t u
 unfolding closeText
 written-begins x ms {u = u} ended q = (u, refl)
-written-begins x ms (passed p) (passed q) = written-begins x ms p q
-written-begins x ms (passed p) (rounded e s q) = absurd (no-call (x .inputs) e)
-written-begins x ms (passed p) (shut e s q) = absurd (no-call (x .inputs) e)
-written-begins x ms (passed p) (turnedDown e s) = absurd (no-call (x .inputs) e)
-written-begins x ms (passed p) (unread e) = absurd (not-malformed (x .inputs) e)
-written-begins x ms (rounded e s p) (passed q) = absurd (no-call (x .inputs) e)
+written-begins x ms (passed e p) (passed f q) = written-begins x ms p q
+written-begins x ms (passed e p) (rounded f s q) = absurd (no-call e f)
+written-begins x ms (passed e p) (shut f s q) = absurd (no-call e f)
+written-begins x ms (passed e p) (turnedDown f s) = absurd (no-call e f)
+written-begins x ms (passed e p) (unread f) = absurd (not-malformed e f)
+written-begins x ms (rounded e s p) (passed f q) = absurd (no-call f e)
 written-begins x ms (rounded {b₁ = b₁} {l = l} {ls = ls} {vs = vs} {t = t} e s p) (rounded {b₁ = b₂} {vs = ws} {t = u} f r q) =
     let g = same-step x e f s r in
     begins-behind (verdictLine vs) t (sym (ap verdictLine (same-verdicts (g .0)))) (written-begins x ms p (subst (λ (k : Book). Written x k (nextLine l) (ls ++ ms) u) (sym (g .1)) q))
 written-begins x ms (rounded e s p) (shut f r q) = absurd (no-close (same-step x e f s r .0))
 written-begins x ms (rounded e s p) (turnedDown f r) = absurd (no-refusal (same-step x e f s r .0))
 written-begins x ms (rounded e s p) (unread f) = absurd (one-reading e f)
-written-begins x ms (shut e s p) (passed q) = absurd (no-call (x .inputs) e)
+written-begins x ms (shut e s p) (passed f q) = absurd (no-call f e)
 written-begins x ms (shut e s p) (rounded f r q) = absurd (no-close (sym (same-step x e f s r .0)))
 written-begins x ms (shut {b₁ = b₁} {l = l} {ls = ls} {vs = vs} {xs = xs} {t = t} e s p) (shut {b₁ = b₂} {vs = ws} {xs = ys} {t = u} f r q) =
     let g = same-step x e f s r in
@@ -100,12 +96,12 @@ written-begins x ms (shut {b₁ = b₁} {l = l} {ls = ls} {vs = vs} {xs = xs} {t
     begins-behind (closeText x vs xs b₁) t (sym (λ i. closeText x (k .0 i) (k .1 i) (g .1 i))) (written-begins x ms p (subst (λ (k : Book). Written x k (nextLine l) (ls ++ ms) u) (sym (g .1)) q))
 written-begins x ms (shut e s p) (turnedDown f r) = absurd (closed-not-refused (same-step x e f s r .0))
 written-begins x ms (shut e s p) (unread f) = absurd (one-reading e f)
-written-begins x ms (turnedDown e s) (passed q) = absurd (no-call (x .inputs) e)
+written-begins x ms (turnedDown e s) (passed f q) = absurd (no-call f e)
 written-begins x ms (turnedDown e s) (rounded f r q) = absurd (no-refusal (sym (same-step x e f s r .0)))
 written-begins x ms (turnedDown e s) (shut f r q) = absurd (closed-not-refused (sym (same-step x e f s r .0)))
 written-begins x ms (turnedDown {l = l} e s) (turnedDown f r) = begins-same (sym (ap (λ (q : Refusal). lineRefusal q l) (same-refused (same-step x e f s r .0))))
 written-begins x ms (turnedDown e s) (unread f) = absurd (one-reading e f)
-written-begins x ms (unread e) (passed q) = absurd (not-malformed (x .inputs) e)
+written-begins x ms (unread e) (passed f q) = absurd (not-malformed f e)
 written-begins x ms (unread e) (rounded f r q) = absurd (one-reading f e)
 written-begins x ms (unread e) (shut f r q) = absurd (one-reading f e)
 written-begins x ms (unread e) (turnedDown f r) = absurd (one-reading f e)

@@ -110,7 +110,7 @@ pub fn feed(
             pending = pending.scan(table, m, b);
             continue;
         }
-        let meaning = pending.ended(table, m);
+        let meaning = pending.asked(table, m, record.closed);
         let e = line_end::line_end(x, line, record, meaning, storage, out, at);
         line = e.line;
         record = e.record;
@@ -150,7 +150,7 @@ pub fn finish(x: Sheet, table: &[u64], s: Progress, storage: &mut [u64], out: &m
     if pending.is_blank() {
         return 0;
     }
-    let meaning = pending.ended(table, x.inputs);
+    let meaning = pending.asked(table, x.inputs, record.closed);
     let e = line_end::line_end(x, line, record, meaning, storage, out, 0);
     e.at
 }

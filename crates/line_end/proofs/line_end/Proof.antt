@@ -2,8 +2,7 @@
 use mathlib.Core.Path.{refl}
 use native.Mathlib.Omega.{arith}
 use Rattle.buffer.proofs.WroteLaws.{wrote-none}
-use Rattle.line_scan.proofs.Standing.{blank-empty}
-use Rattle.line_end.proofs.LineEnds.{malformed-ends, blank-ends, bytes-least, over-bound}
+use Rattle.line_end.proofs.LineEnds.{asks-told, malformed-ends, blank-ends, bytes-least, over-bound}
 use borrow.Author.Needs.{needs}
 use Rattle.line_end.proofs.line_end.Statement.{statement}
 use Rattle.line_end.proofs.line_end.Tie as tie
@@ -34,7 +33,7 @@ malformed-line-requires c κs = omega (arith, bytes-least (c .before .before .be
 
 returns : tie.Need-returns
 returns c = (
-  λ sheet b part o sv h. blank-ends sheet _ b _ part _ _ _ _ _ refl (c .next-line .ensures) (blank-empty _ part (rw (c .before .enum-told .given .1) at h)) sv (wrote-none _ _),
+  λ sheet b part o sv h. blank-ends sheet _ b _ part _ _ _ _ _ refl (c .next-line .ensures) (asks-told sheet _ b _ _ part _ _ sv h (c .before .enum-told .given .1)) sv (wrote-none _ _),
   omega arith,
 )
 
@@ -48,7 +47,7 @@ returns-2 : tie.Need-returns-2
 returns-2 c =
     let told = c .before .before .before .before .before .before .before .before .meaning .given .1 in
     let after-round-line = c .before .before .before .before in
-    (λ sheet b part o sv h. after-round-line .round-line .ensures .0 sheet b part o sv (rw told at h), after-round-line .round-line .ensures .1)
+    (λ sheet b part o sv h. after-round-line .round-line .ensures .0 sheet b part o sv (asks-told sheet _ b _ _ part _ _ sv h told), after-round-line .round-line .ensures .1)
 
 same-length-3 : tie.Need-same-length-3
 same-length-3 c = search needs
@@ -60,7 +59,7 @@ returns-3 : tie.Need-returns-3
 returns-3 c =
     let told = c .before .before .before .before .before .enum-told2 .given .1 in
     let after-closing-line = c .before .before in
-    (λ sheet b part o sv h. after-closing-line .closing-line .ensures .0 sheet b part o sv (rw told at h), after-closing-line .closing-line .ensures .1)
+    (λ sheet b part o sv h. after-closing-line .closing-line .ensures .0 sheet b part o sv (asks-told sheet _ b _ _ part _ _ sv h told), after-closing-line .closing-line .ensures .1)
 
 same-length-5 : tie.Need-same-length-5
 same-length-5 c = search needs
@@ -71,7 +70,7 @@ returns-4 c =
     let r = c .before .before .malformed-line .result in
     let a = c .before .before .before .before .before .before .before .before .args in
     let f = c .before .before .malformed-line .ensures in (
-      λ sheet b part o sv h. malformed-ends sheet _ b _ part _ _ _ _ _ _ _ sv (rw told at h) (f .0) (f .2),
+      λ sheet b part o sv h. malformed-ends sheet _ b _ part _ _ _ _ _ _ _ sv (asks-told sheet _ b _ _ part _ _ sv h told) (f .0) (f .2),
       over-bound (r .over) (r .record .closed) (a .rec .closed) (a .at) (r .at) (f .0) (f .1),
     )
 

@@ -60,8 +60,8 @@ loop-again c =
       c .scan .ensures .1,
     )
 
-ended-requires : tie.Need-ended-requires Inv-loop μ-loop
-ended-requires c κs =
+asked-requires : tie.Need-asked-requires Inv-loop μ-loop
+asked-requires c κs =
     let start = c .before .before .before .before .before .before .before .before .before .before in
     let l = c .before .before .before .loop in
     (start .pre .2, l .inv .6, omega (arith, l .inv .1, start .pre .0 .1 .usable .ranges .inputs))
@@ -91,7 +91,7 @@ returns-2 c =
     let e = c .before .before .before .before .before .before .before .line-end in (
       λ sheet seen wrote st.
           let m = l .inv .5 sheet seen wrote (st .accepts) (stands-midway sheet _ _ _ seen wrote st (after-if1 .if1 .left)) in
-          let le = e .ensures .0 sheet (m .book) (m .part) (st .accepts) (m .serves) (rw (l .inv .1) at (c .before .before .before .before .before .before .before .before .before .before .ended .ensures) (m .part) (m .scanned)) in
+          let le = e .ensures .0 sheet (m .book) (m .part) (st .accepts) (m .serves) (rw (l .inv .1) at (c .before .before .before .before .before .before .before .before .before .before .asked .ensures) (m .part) (m .scanned)) in
           record {
             accepts = st .accepts;
             stage = rw (wrote-more wrote _ _ (le .text) _ _ (le .wrote))
@@ -118,7 +118,7 @@ loop-again-2 c =
       search needs,
       λ sheet seen wrote o k.
           let m = l .inv .5 sheet seen wrote o k in
-          let le = e .ensures .0 sheet (m .book) (m .part) o (m .serves) (rw (l .inv .1) at (c .before .before .before .before .before .before .before .before .before .before .ended .ensures) (m .part) (m .scanned)) in
+          let le = e .ensures .0 sheet (m .book) (m .part) o (m .serves) (rw (l .inv .1) at (c .before .before .before .before .before .before .before .before .before .before .asked .ensures) (m .part) (m .scanned)) in
           rw (seen-more seen (now (start .args .chunk)) (l .i) (tested .loop-test .taken), wrote-more wrote _ _ (le .text) _ _ (le .wrote))
           (line-more sheet _ _ _ _ _ _ m _ _ _ _ _ le _ _ (after-if2 .if2 .left) (c .if3 .left) (c .before .empty .ensures .0 _)),
       c .before .empty .ensures .1,
@@ -155,7 +155,7 @@ feed-spec =
     scan-requires
     loop-less
     loop-again
-    ended-requires
+    asked-requires
     line-end-requires
     empty-requires
     same-length

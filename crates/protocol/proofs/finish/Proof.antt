@@ -23,8 +23,8 @@ returns-2 c = (
   omega arith,
 )
 
-ended-requires : tie.Need-ended-requires
-ended-requires c κs =
+asked-requires : tie.Need-asked-requires
+asked-requires c κs =
     let start = c .before .before .before .before .before .before .before in
     (start .pre .2, start .pre .3, start .pre .0 .1 .usable .ranges .inputs)
 
@@ -41,15 +41,15 @@ same-length-2 c = search needs
 
 returns-3 : tie.Need-returns-3
 returns-3 c =
-    let after-ended = c .before .before .before .before .before .before .before in
-    let after-if2 = after-ended .before in
+    let after-asked = c .before .before .before .before .before .before .before in
+    let after-if2 = after-asked .before in
     let after-is-blank = after-if2 .before in
     let after-if1 = after-is-blank .before .before in
     let start = after-if1 .before .before .before .before in
     let e = c .before .before .before .before .line-end in (
       λ sheet seen wrote st.
           let m = stands-midway sheet _ _ _ seen wrote st (after-if1 .if1 .left) in
-          let le = e .ensures .0 sheet (m .book) (m .part) (st .accepts) (m .serves) (after-ended .ended .ensures (m .part) (m .scanned)) in
+          let le = e .ensures .0 sheet (m .book) (m .part) (st .accepts) (m .serves) (after-asked .asked .ensures (m .part) (m .scanned)) in
           subst (λ (z : List ℕ). Printed sheet seen (wrote ++ z)) (sym (le .wrote .text)) (line-last sheet _ _ _ _ seen wrote m _ _ _ _ _ le (after-is-blank .is-blank .ensures .1 (after-if2 .if2 .left) _ (m .part) (m .scanned))),
       omega (arith, e .ensures .1, bytes-most (start .args .s .record .closed), start .pre .1),
     )
@@ -61,7 +61,7 @@ finish-spec =
     returns
     is-blank-requires
     returns-2
-    ended-requires
+    asked-requires
     line-end-requires
     same-length
     same-length-2

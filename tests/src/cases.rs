@@ -35,6 +35,13 @@ pub struct JournalCase {
     pub calls: Vec<(&'static str, &'static str)>,
 }
 
+/// A whole input of the journal program, and what is written for it.
+pub struct SessionCase {
+    pub sheet: Vec<u8>,
+    pub input: &'static str,
+    pub written: &'static str,
+}
+
 pub struct LiveCount {
     pub name: &'static str,
     pub sheet: Vec<u8>,
@@ -66,12 +73,12 @@ pub fn shop_sheet() -> Vec<u8> {
     bytes("53 4C 52 02 00 02 03 02 01 40 01 41 03 40 41 05")
 }
 
-/// A sheet without an assumption, its expressions in hex.
 /// Inputs 0 and 1 say which of two labels show the new price; outputs are these, and that they are alike.
 pub fn labels() -> Vec<u8> {
     version_2(plain(2, &["40", "41", "40 41 05"]))
 }
 
+/// A sheet without an assumption, its expressions in hex.
 pub fn plain(inputs: u8, expressions: &[&str]) -> Vec<u8> {
     assuming(inputs, NO_ASSUMPTION, expressions)
 }
@@ -822,6 +829,59 @@ pub fn malformed_alternatives() -> Vec<&'static str> {
         "00|11|!!",
     ];
     [&empty[..], &lengths, &dots, &blanks, &returns, &others].concat()
+}
+
+/// Inputs with blank lines: first, last, alone, doubled, before and after a closing, with a last line feed
+/// and without, and beside lines that only look blank.
+pub fn blank_lines() -> Vec<SessionCase> {
+    let one = plain(1, &["40"]);
+    let mut cases = vec![
+        (&one, "", ""),
+        (&one, "\n", "?\n"),
+        (&one, "\n\n", "?\n?\n"),
+        (&one, "\n1", "?\n1\n"),
+        (&one, "1\n\n", "1\n?\n"),
+        (&one, "1\n\n\n0\n", "1\n?\n?\n0\n"),
+        (&one, "\n.", "?\n=?\n# 0 0 0 1 0 0\n"),
+        (&one, "\n.\n\n\n", "?\n=?\n# 0 0 0 1 0 0\n"),
+        (&one, "\n\n.\n", "?\n?\n=?\n# 0 0 0 2 0 0\n"),
+        (&one, "1\n\n.\n\n", "1\n?\n=?\n# 0 1 0 1 0 500\n"),
+        (&one, "\n1\n.\n\n\n1\n", "?\n1\n=1\n# 0 1 0 1 0 500\nrefused 12 line 6\n"),
+        (&one, "\n.\n\n.", "?\n=?\n# 0 0 0 1 0 0\nrefused 12 line 4\n"),
+        (&one, "\n.\n\r\n", "?\n=?\n# 0 0 0 1 0 0\nrefused 12 line 3\n"),
+        (&one, ".\n\n", "refused 14 line 1\n"),
+        (&one, "\n\nx\n", "?\n?\nrefused 17 line 3\n"),
+        (&one, "\n\r\n", "?\nrefused 17 line 2\n"),
+        (&one, "\r\n\n", "refused 17 line 1\n"),
+        (&one, " \n", "refused 17 line 1\n"),
+        (&one, "\n|\n", "?\nrefused 17 line 2\n"),
+        (&one, "\n0|\n", "?\nrefused 17 line 2\n"),
+    ];
+    // Whatever the inputs are: input 0 or not, input 0 and not.
+    let settled = plain(1, &["40 40 02 04", "40 40 02 03", "40"]);
+    cases.push((&settled, "\n\n", "10?\n10?\n"));
+    let six = plain(6, &["45", "40 41 42 43 44 45 03 03 03 03 03"]);
+    cases.push((&six, "\n111111\n", "??\n11\n"));
+    let seven = plain(1, &["40"; 7]);
+    cases.push((&seven, "\n\n0", "???????\n???????\n0000000\n"));
+    // Input 0 one round earlier: the round that was slept through has its place.
+    let before = plain(1, &["50"]);
+    cases.push((&before, "1\n\n1\n0\n", "0\n1\n?\n1\n"));
+    // Two rounds that were slept through need not be alike.
+    let as_before = version_2(plain(1, &["40 50 05"]));
+    cases.push((&as_before, "0\n\n\n", "1\n?\n?\n"));
+    // The assumption: input 0 is what it was one round earlier, if there was one.
+    let constant = version_2(assuming(1, 1, &["40", "40 50 05 40 58 05 04"]));
+    cases.push((&constant, "\n1\n\n", "?1\n11\n11\n"));
+    cases.push((&constant, "1\n\n0\n\n", "11\n11\n!!\n!!\n"));
+    // The assumption: input 0 now or one round later.
+    let ahead = assuming(1, 1, &["40", "40 60 04"]);
+    cases.push((&ahead, "0\n\n.", "01\n11\n=11\n# 0 1 1 0 0 500\n# 1 2 0 0 0 1000\n"));
+    cases.push((&ahead, "1\n\n.", "11\n?1\n=11\n# 0 1 0 1 0 500\n# 1 2 0 0 0 1000\n"));
+    // Nothing keeps the assumption.
+    let never = assuming(1, 0, &["00"]);
+    cases.push((&never, "\n\n.\n\n", "!\n!\n=!\n# 0 0 0 0 2 0\n"));
+    cases.into_iter().map(|(sheet, input, written)| SessionCase { sheet: sheet.clone(), input, written }).collect()
 }
 
 /// Storage and record as somebody may hand them in, with all storage bits 1 and junk beyond the

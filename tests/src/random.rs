@@ -173,6 +173,29 @@ impl Random {
     }
 }
 
+/// A journal of so many lines in which every third is blank, and the same with as many unknown marks as
+/// there are inputs for each blank line before the closing.
+pub fn with_blank_lines(random: &mut Random, inputs: usize, lines: usize) -> [Vec<u8>; 2] {
+    let mut journals = [Vec::new(), Vec::new()];
+    let (unknown, mut closed) = (random.pick(&[0, 30, 60]), false);
+    for _ in 0..lines {
+        let letters = random.round(inputs, unknown);
+        let line = match random.below(30) {
+            0 => ".".to_string(),
+            1..=10 => String::new(),
+            11..=20 => random.heard(inputs, unknown).marks(inputs),
+            _ => random.alternatives(inputs, letters),
+        };
+        closed |= line == ".";
+        let spelled_out = if line.is_empty() && !closed { "?".repeat(inputs) } else { line.clone() };
+        journals[0].push(line);
+        journals[1].push(spelled_out);
+    }
+    // A blank line that lacks its line feed would be none.
+    let end = if journals[0].last().is_none_or(String::is_empty) { "\n" } else { random.pick(&["\n", ""]) };
+    journals.map(|lines| (lines.join("\n") + end).into_bytes())
+}
+
 /// Counts in their ranges: inputs, then outputs.
 fn sizes(random: &mut Random) -> (usize, usize) {
     let outputs = random.range(1, 7);

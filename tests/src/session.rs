@@ -2,6 +2,7 @@
 //! what is written.
 
 use crate::journal::{call_of_line, print, Answer, Book, Call};
+use crate::letters::LetterSet;
 use crate::monitor::Monitor;
 
 /// How much of the sheet's file is read. The longest sheet is one byte shorter.
@@ -20,15 +21,11 @@ pub fn keep(monitor: &Monitor, input: &[u8]) -> String {
     answers(monitor, input).concat()
 }
 
-/// The same line by line, with nothing for a blank line and none for those after a refused one.
+/// The same line by line, with none for the lines after a refused one.
 pub fn answers(monitor: &Monitor, input: &[u8]) -> Vec<String> {
     let mut book = Book::new(monitor);
     let mut written = Vec::new();
     for (place, line) in lines(input).into_iter().enumerate() {
-        if line.is_empty() {
-            written.push(String::new());
-            continue;
-        }
         match answer(&mut book, line) {
             Ok(text) => written.push(text),
             Err(number) => {
@@ -50,18 +47,21 @@ pub fn lines(input: &[u8]) -> Vec<&[u8]> {
     lines
 }
 
-/// The call that a line makes, if it is not malformed: `.`, or alternatives of as many marks as there are
-/// inputs, joined by bars.
+/// The call that a line makes, if it is not malformed: `.`, alternatives of as many marks as there are
+/// inputs, joined by bars, or nothing at all, which is a round with every signal unknown.
 fn call(inputs: usize, line: &[u8]) -> Option<Call> {
+    if line.is_empty() {
+        return Some(Call::Round(LetterSet::all(inputs)));
+    }
     let whole = |part: &[u8]| part.len() == inputs && part.iter().all(|mark| b"01?".contains(mark));
     let good = line == b"." || line.split(|&byte| byte == b'|').all(whole);
     good.then(|| call_of_line(std::str::from_utf8(line).expect("known marks")))
 }
 
-/// What is written for a line that is not blank, or its refusal.
+/// What is written for a line, or its refusal. After the closing a blank line is ignored.
 fn answer(book: &mut Book, line: &[u8]) -> Result<String, u32> {
     if book.closed {
-        return Err(12);
+        return if line.is_empty() { Ok(String::new()) } else { Err(12) };
     }
     match call(book.inputs(), line) {
         None => Err(17),
@@ -88,7 +88,7 @@ mod tests {
     use super::*;
     use crate::cases::{self, assuming, labels, plain, session_sheet, shop_sheet};
     use crate::journal::MAX_ROUNDS;
-    use crate::letters::{spelled_out, LetterSet};
+    use crate::letters::spelled_out;
     use crate::random::{self, Random};
 
     fn one() -> Vec<u8> {
@@ -100,7 +100,27 @@ mod tests {
         let expected = "?1\n11\n?1\n11\n!!\n=!!\n# 0 2 0 2 1 400\n# 1 4 0 0 1 800\n";
         assert_eq!(run(&session_sheet(), b"10\n?1\n1?\n00\n01\n.\n"), expected);
         assert_eq!(run(&session_sheet(), b"10\n?1\n1?\n00\n01\n."), expected);
+        assert_eq!(run(&session_sheet(), b"10\n?1\n1?\n00\n01\n.\n\n\n"), expected);
+        let expected = "?1\n?1\n11\n?1\n?1\n?1\n11\n!!\n=!!\n# 0 2 0 5 1 250\n# 1 7 0 0 1 875\n";
         assert_eq!(run(&session_sheet(), b"\n10\n?1\n\n\n1?\n00\n01\n.\n\n\n"), expected);
+    }
+
+    #[test]
+    fn blank_lines() {
+        for case in cases::blank_lines() {
+            assert_eq!(run(&case.sheet, case.input.as_bytes()), case.written, "{:?}", case.input);
+        }
+    }
+
+    /// Before the closing, a line of unknown marks in the place of each blank one.
+    #[test]
+    fn blank_lines_spelled_out() {
+        let mut random = Random::new(732);
+        for _ in 0..400 {
+            let monitor = Monitor::new(&random::small(&mut random, 6)).unwrap();
+            let [blank, spelled_out] = random::with_blank_lines(&mut random, monitor.sheet.inputs, 12);
+            assert_eq!(keep(&monitor, &blank), keep(&monitor, &spelled_out));
+        }
     }
 
     #[test]
@@ -120,8 +140,6 @@ mod tests {
         assert_eq!(lines(b"10\n\n"), [&b"10"[..], b""]);
         assert_eq!(lines(b"\n\n1"), [&b""[..], b"", b"1"]);
         assert_eq!(run(&one(), b""), "");
-        assert_eq!(run(&one(), b"\n"), "");
-        assert_eq!(run(&one(), b"\n\n\n"), "");
         assert_eq!(run(&one(), b"1"), "1\n");
         assert_eq!(run(&one(), b"1\n"), "1\n");
         assert_eq!(run(&one(), b"1\n?"), "1\n?\n");
@@ -134,7 +152,7 @@ mod tests {
         let wrong = ["x", "1x", "..", ". ", " .", ".1", "1.", "1\r", "\r", "\r\n", "10", "2", " ", "!", "=1", "\0"];
         for line in wrong {
             assert_eq!(run(&one(), line.as_bytes()), "refused 17 line 1\n", "{line:?}");
-            assert_eq!(run(&one(), format!("1\n\n{line}\n1\n").as_bytes()), "1\nrefused 17 line 3\n", "{line:?}");
+            assert_eq!(run(&one(), format!("1\n\n{line}\n1\n").as_bytes()), "1\n?\nrefused 17 line 3\n", "{line:?}");
         }
         assert_eq!(run(&one(), &[0xFF]), "refused 17 line 1\n");
         assert_eq!(run(&one(), "é".as_bytes()), "refused 17 line 1\n");
@@ -163,7 +181,7 @@ mod tests {
             for end in ["", "\n", "\n00\n"] {
                 let after = |start: &str| run(&labels(), format!("{start}{line}{end}").as_bytes());
                 assert_eq!(after(""), "refused 17 line 1\n", "{line:?}");
-                assert_eq!(after("00|11\n\n"), "??1\nrefused 17 line 3\n", "{line:?}");
+                assert_eq!(after("00|11\n\n"), "??1\n???\nrefused 17 line 3\n", "{line:?}");
                 let closed = after("11\n.\n");
                 assert!(closed.starts_with("111\n=111\n") && closed.ends_with("\nrefused 12 line 3\n"), "{line:?}");
             }
@@ -190,7 +208,7 @@ mod tests {
     fn closings() {
         assert_eq!(run(&one(), b"."), "refused 14 line 1\n");
         assert_eq!(run(&one(), b".\n1\n"), "refused 14 line 1\n");
-        assert_eq!(run(&one(), b"\n\n.\n"), "refused 14 line 3\n");
+        assert_eq!(run(&one(), b".\n\n1\n"), "refused 14 line 1\n");
         let shut = "0\n=0\n# 0 0 1 0 0 0\n";
         for after in ["1", "1\n", ".", "x", "..", "\r", "10\n1\n"] {
             let refused = format!("{shut}refused 12 line 3\n");
@@ -249,10 +267,13 @@ mod tests {
         for _ in 0..MAX_ROUNDS {
             book.round(LetterSet(0b10)).unwrap();
         }
-        for (line, number) in [("x", 17), ("?", 13), ("..", 17), ("1", 13), ("10", 17), ("0|1", 13), ("1|", 17)] {
+        for (line, number) in
+            [("x", 17), ("?", 13), ("", 13), ("..", 17), ("1", 13), ("10", 17), ("0|1", 13), ("1|", 17)]
+        {
             assert_eq!(answer(&mut book, line.as_bytes()), Err(number), "{line}");
         }
         assert_eq!(answer(&mut book, b".").unwrap(), "=1\n# 0 1000000 0 0 0 1000\n");
         assert_eq!(answer(&mut book, b"x"), Err(12));
+        assert_eq!(answer(&mut book, b""), Ok(String::new()));
     }
 }

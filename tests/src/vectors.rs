@@ -4,7 +4,7 @@
 
 use crate::cases;
 use crate::journal::{call_of_line, Book, Call};
-use crate::letters::spelled_out;
+use crate::letters::{spelled_out, LetterSet};
 use crate::monitor::Monitor;
 use crate::random::{self, Random};
 use crate::session::{self, SHEET_READ};
@@ -63,6 +63,9 @@ pub struct Seen {
     /// Lines that are not blank, and those of them with a bar.
     pub lines: usize,
     pub bars: usize,
+    /// Blank lines that are answered, and those after a closing.
+    pub blank_rounds: usize,
+    pub passed_over: usize,
     /// By the low byte of the version, 0 standing for all but 1 and 2.
     pub cases: [usize; 3],
     /// The same, and by number.
@@ -85,6 +88,7 @@ impl Seen {
             seen.lines += read.iter().filter(|line| !line.is_empty()).count();
             seen.bars += read.iter().filter(|line| line.contains(&b'|')).count();
             text.lines().for_each(|line| seen.add(case.low_version(), &read, line));
+            seen.add_blanks(&read, text);
         }
         seen
     }
@@ -107,9 +111,26 @@ impl Seen {
         }
     }
 
+    /// The blank ones of the lines read that this was written for.
+    fn add_blanks(&mut self, read: &[&[u8]], text: &str) {
+        let refused = text.lines().find(|line| line.starts_with("refused"));
+        let taken = match refused.and_then(|line| line.split_once(" line ")) {
+            Some((_, number)) => number.parse::<usize>().expect("a number") - 1,
+            None if refused.is_some() => 0,
+            None => read.len(),
+        };
+        let blank = |lines: &[&[u8]]| lines.iter().filter(|line| line.is_empty()).count();
+        let closing = read[..taken].iter().position(|&line| line == b".").unwrap_or(taken);
+        self.blank_rounds += blank(&read[..closing]);
+        self.passed_over += blank(&read[closing..taken]);
+    }
+
     /// Each verdict occurs often, and each refusal that a short session can meet several times, those of
-    /// a sheet in both versions. About one line in four has several alternatives.
+    /// a sheet in both versions. About one line in four has several alternatives, and about one round in six is
+    /// a blank line.
     pub fn expect_all(&self) {
+        let rounds = self.lines + self.blank_rounds;
+        assert!((12..=20).contains(&(100 * self.blank_rounds / rounds)) && self.passed_over >= 200, "{self:?}");
         assert!((20..=30).contains(&(100 * self.bars / self.lines)), "{self:?}");
         assert!(self.malformed_bars >= 100, "{self:?}");
         assert!(self.cases[1..].iter().all(|&times| times >= 600), "{self:?}");
@@ -177,6 +198,10 @@ fn by_hand() -> Vec<Case> {
         found.push(Case::new(cases::labels(), format!("{start}{line}{end}")));
     }
     found.push(Case::new(cases::register(), format!("{}\n??????\n.\n", spelled_out(6))));
+    found.extend(cases::blank_lines().into_iter().map(|case| Case::new(case.sheet, case.input)));
+    // Line feeds alone, with as many answers as there can be for each.
+    found.extend([1, 7, 64, 1000].map(|lines| Case::new(cases::plain(1, &["40"; 7]), "\n".repeat(lines))));
+    found.push(Case::new(cases::register(), format!("{}.{}", "\n".repeat(500), "\n".repeat(500))));
     found
 }
 
@@ -196,11 +221,12 @@ fn subject(random: &mut Random, fits: impl Fn((u8, u8)) -> bool) -> (Vec<u8>, Mo
 }
 
 /// A journal with so many rounds at most, closed or not, with blank lines or without, and sometimes
-/// with a line that is malformed.
+/// with a line that is malformed. A blank line is one of the rounds, or stands anywhere.
 fn journal(random: &mut Random, rounds: usize, fits: impl Fn((u8, u8)) -> bool) -> Case {
     let (sheet, monitor) = subject(random, fits);
     let (rounds, along) = (random.range(1, rounds), random.pick(&[100, 100, 100, 90, 0]));
-    let mut lines = rounds_of(random, &monitor, rounds, along);
+    let asleep = random.pick(&[0, 0, 10, 40]);
+    let mut lines = rounds_of(random, &monitor, rounds, along, asleep);
     match random.below(4) {
         0 => {}
         1 => lines.insert(random.range(0, rounds), b".".to_vec()),
@@ -226,18 +252,23 @@ fn journal(random: &mut Random, rounds: usize, fits: impl Fn((u8, u8)) -> bool) 
 fn long_journal(random: &mut Random) -> Case {
     let (sheet, monitor) = subject(random, |(inputs, outputs)| inputs + outputs <= 4);
     let rounds = random.range(1000, 4000);
-    let mut lines = rounds_of(random, &monitor, rounds, 100);
+    let mut lines = rounds_of(random, &monitor, rounds, 100, 10);
     lines.push(b".".to_vec());
     Case::new(sheet, lines.join(&b'\n'))
 }
 
 /// Rounds as lines. So many of a hundred follow a completion of the rounds before, as long as there
-/// is one.
-fn rounds_of(random: &mut Random, monitor: &Monitor, rounds: usize, along: usize) -> Vec<Vec<u8>> {
+/// is one, and so many were slept through.
+fn rounds_of(random: &mut Random, monitor: &Monitor, rounds: usize, along: usize, asleep: usize) -> Vec<Vec<u8>> {
     let mut book = Book::new(monitor);
     let unknown = random.pick(&[0, 20, 50, 80, 100]);
     let mut lines = Vec::new();
     for _ in 0..rounds {
+        if random.below(100) < asleep {
+            book.round(LetterSet::all(monitor.sheet.inputs)).expect("a round");
+            lines.push(Vec::new());
+            continue;
+        }
         let letter =
             if random.below(100) < along { random.letter_along(&book) } else { random.letter(monitor.sheet.inputs) };
         let line = round_of(random, monitor.sheet.inputs, letter, unknown);

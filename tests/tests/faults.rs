@@ -299,7 +299,9 @@ fn input_that_fails() {
     let here = File::open(&folder.path).expect("a folder");
     feed(&folder, here).end().expect("", &cannot(INPUT, "Is a directory"));
     let reset = cannot(INPUT, "Connection reset by peer");
-    for (input, output) in [("", ""), ("1", ""), ("10\n", "?1\n"), ("10\n1", "?1\n"), ("10\n1?", "?1\n"), ("\n.", "")] {
+    let cuts =
+        [("", ""), ("1", ""), ("10\n", "?1\n"), ("10\n1", "?1\n"), ("10\n1?", "?1\n"), ("\n", "?1\n"), ("\n.", "?1\n")];
+    for (input, output) in cuts {
         feed(&folder, failing_after(input.as_bytes())).end().expect(output, &reset);
     }
 }
@@ -333,7 +335,8 @@ fn a_full_device() {
     }
     folder.put_sheet(&session_sheet());
     connect(&folder, folder.input(b"10"), full_device()).end().expect("", &errors);
-    connect(&folder, folder.input(b"\n\n"), full_device()).end().expect("", "");
+    connect(&folder, folder.input(b"\n"), full_device()).end().expect("", &errors);
+    connect(&folder, folder.input(b""), full_device()).end().expect("", "");
 }
 
 /// A file that reaches the size it may have takes the beginning of a write.
@@ -530,7 +533,8 @@ fn closed_files() {
     folder.put_sheet(&session_sheet());
     ended("<&-", b"").expect("", &no_input);
     ended(">&-", b"10\n").expect("", &no_output);
-    ended(">&-", b"\n").expect("", "");
+    ended(">&-", b"\n").expect("", &no_output);
+    ended(">&-", b"").expect("", "");
     ended("2>&-", b"10\n1").expect("?1\nrefused 17 line 2\n", "");
     ended("<&- >&-", b"").expect("", &no_input);
     ended("<&- 2>&-", b"").expect("", "");

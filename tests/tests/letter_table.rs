@@ -208,7 +208,7 @@ fn malformed_alternatives() {
             parts[place] = part;
             let input = [b"", good.text.as_bytes(), &parts.join(&b'|'), good.text.as_bytes()].join(&b'\n');
             let written = folder.written(folder.input(&input).into());
-            assert_eq!(written, format!("{answer}\nrefused 17 line 3\n"), "{}", outside::hex(&parts[place]));
+            assert_eq!(written, format!("?\n{answer}\nrefused 17 line 3\n"), "{}", outside::hex(&parts[place]));
         }
     }
 }

@@ -1,7 +1,9 @@
 //! The program `journal` itself, where it has been built: its files, and a journal with as many
 //! rounds as one may hold.
 
-use outside::cases::{labels, longest, longest_comparing, malformed_alternatives, plain, session_sheet, shop_sheet};
+use outside::cases::{
+    blank_lines, labels, longest, longest_comparing, malformed_alternatives, plain, session_sheet, shop_sheet,
+};
 use outside::journal::MAX_ROUNDS;
 use outside::letters::{spelled_out, LetterSet};
 use outside::program::Folder;
@@ -73,7 +75,7 @@ fn lines_that_are_malformed() {
     for line in malformed_alternatives() {
         for end in ["", "\n", "\n00\n"] {
             let after = |start: &str| folder.written(folder.input(format!("{start}{line}{end}").as_bytes()).into());
-            assert_eq!(after("00|11\n\n"), "??1\nrefused 17 line 3\n", "{line:?}");
+            assert_eq!(after("00|11\n\n"), "??1\n???\nrefused 17 line 3\n", "{line:?}");
             assert_eq!(after("11\n.\n"), format!("{closed}refused 12 line 3\n"), "{line:?}");
         }
     }
@@ -110,10 +112,59 @@ fn long_lines() {
                 parts[(end - before) / 7] = part;
                 folder.written(folder.input(line(&parts).as_bytes()).into())
             };
-            assert_eq!(run("011111"), "0?\n00\n", "byte {end}, {before} blank lines");
-            assert_eq!(run("01111"), format!("refused 17 line {}\n", before + 1), "byte {end}, {before} blank lines");
+            let rounds = "??\n".repeat(before);
+            assert_eq!(run("011111"), format!("{rounds}0?\n00\n"), "byte {end}, {before} blank lines");
+            let refused = format!("{rounds}refused 17 line {}\n", before + 1);
+            assert_eq!(run("01111"), refused, "byte {end}, {before} blank lines");
         }
     }
+}
+
+#[test]
+fn inputs_with_blank_lines() {
+    let Some(folder) = Folder::new("inputs_with_blank_lines") else { return };
+    for case in blank_lines() {
+        let (input, written) = (case.input, case.written);
+        assert_eq!(folder.run(Some(&case.sheet), input.as_bytes()), written, "{input:?}");
+    }
+}
+
+/// Before the closing, a line of unknown marks in the place of each blank one.
+#[test]
+fn blank_lines_spelled_out() {
+    let Some(folder) = Folder::new("blank_lines_spelled_out") else { return };
+    let mut random = Random::new(92);
+    for _ in 0..100 {
+        let sheet = random::small(&mut random, 7);
+        let lines = random.range(1, 40);
+        let [blank, spelled_out] = random::with_blank_lines(&mut random, sheet[5] as usize, lines);
+        let written = folder.run(Some(&sheet), &blank);
+        let about = format!("sheet {}, input {}", outside::hex(&sheet), outside::hex(&blank));
+        assert_eq!(written, folder.run(Some(&sheet), &spelled_out), "{about}");
+        assert_eq!(written, session::run(&sheet, &blank), "{about}");
+    }
+}
+
+/// Line feeds alone: each byte of the input is answered with eight, over many buffers.
+#[test]
+fn line_feeds_alone() {
+    let Some(folder) = Folder::with_sheet("line_feeds_alone", &plain(1, &["40"; 7])) else { return };
+    let run = |input: &str| folder.written(folder.input(input.as_bytes()).into());
+    for bits in 10..=18 {
+        for lines in (1 << bits) - 2..=(1 << bits) + 2 {
+            let feeds = "\n".repeat(lines);
+            let rounds = "???????\n".repeat(lines);
+            outside::expect_same("line feeds", run(&feeds).as_bytes(), rounds.as_bytes());
+            // Another line lies across a buffer's end, or right behind it.
+            outside::expect_same("a last line", run(&(feeds + "1")).as_bytes(), (rounds + "1111111\n").as_bytes());
+        }
+    }
+    let tallies: String = (0..7).map(|output| format!("# {output} 0 0 70000 0 0\n")).collect();
+    let closed = format!("{}=???????\n{tallies}", "???????\n".repeat(70_000));
+    let feeds = "\n".repeat(70_000);
+    outside::expect_same("feeds around a closing", run(&format!("{feeds}.\n{feeds}")).as_bytes(), closed.as_bytes());
+    let refused = format!("{closed}refused 12 line 140002\n");
+    outside::expect_same("a line behind them", run(&format!("{feeds}.\n{feeds}1")).as_bytes(), refused.as_bytes());
 }
 
 /// The sheets and journals of examples/.
@@ -135,21 +186,19 @@ fn examples() {
     assert_eq!(run("relay"), "?1\n?1\n01\n11\n11\n=11\n# 0 2 1 2 0 400\n# 1 5 0 0 0 1000\n");
 }
 
-/// As many rounds as a journal may hold, with ten blank lines among them, and what is written. Each line
-/// is answered with itself where the only output is the only input.
+/// As many rounds as a journal may hold, ten of them blank lines, and what is written. Each other line is
+/// answered with itself where the only output is the only input.
 fn a_full_journal() -> (String, String) {
     let (mut input, mut written) = (String::new(), String::new());
     for round in 1..=MAX_ROUNDS {
-        let line = match round {
-            MAX_ROUNDS => "?\n",
-            _ if round % 2000 == 0 => "0\n",
-            _ => "1\n",
+        let (line, answer) = match round {
+            MAX_ROUNDS => ("?\n", "?\n"),
+            _ if round % 100_000 == 50_000 => ("\n", "?\n"),
+            _ if round % 2000 == 0 => ("0\n", "0\n"),
+            _ => ("1\n", "1\n"),
         };
         input += line;
-        written += line;
-        if round % 100_000 == 0 {
-            input += "\n";
-        }
+        written += answer;
     }
     (input, written)
 }
@@ -160,19 +209,19 @@ fn a_million_rounds() {
     let Some(folder) = Folder::with_sheet("a_million_rounds", &plain(1, &["40"])) else { return };
     let (input, written) = a_full_journal();
     // 999,500 of 1,000,000 is 999 and a half per thousand.
-    let closing = "=?\n# 0 999500 499 1 0 1000\n";
+    let closing = "=?\n# 0 999500 489 11 0 1000\n";
     let refused = |number: u32, line: u32| format!("refused {number} line {line}\n");
-    let full = ["?\n", "0", "0|1\n", "1|1"].map(|end| (end.to_string(), refused(13, 1_000_011)));
-    let malformed = ["x", "??", "..", "|", "0|", "|0", "0||1", ".|0", "0|.", "0|11", "01|1", "0| 1", "0|1\r"];
+    let full = ["?\n", "0", "0|1\n", "1|1", "\n", "\n\n1\n.\n"].map(|end| (end.to_string(), refused(13, 1_000_001)));
+    let malformed = ["x", "??", "..", "|", "0|", "|0", "0||1", ".|0", "0|.", "0|11", "01|1", "0| 1", "0|1\r", "\r"];
     let malformed = malformed.into_iter().flat_map(|line| [line.to_string(), format!("{line}\n?\n")]);
-    let malformed = malformed.map(|end| (end, refused(17, 1_000_011)));
+    let malformed = malformed.map(|end| (end, refused(17, 1_000_001)));
     let others = [
         ("", "".to_string()),
-        ("\n\n1\n.\n", refused(13, 1_000_013)),
         (".\n\n", closing.to_string()),
-        (".\n?\n", format!("{closing}{}", refused(12, 1_000_012))),
-        (".\nx", format!("{closing}{}", refused(12, 1_000_012))),
-        (".\n0|", format!("{closing}{}", refused(12, 1_000_012))),
+        (".\n?\n", format!("{closing}{}", refused(12, 1_000_002))),
+        (".\nx", format!("{closing}{}", refused(12, 1_000_002))),
+        (".\n0|", format!("{closing}{}", refused(12, 1_000_002))),
+        (".\n\n\n.\n", format!("{closing}{}", refused(12, 1_000_004))),
     ];
     let others = others.map(|(end, expected)| (end.to_string(), expected));
     for (end, expected) in full.into_iter().chain(malformed).chain(others) {
@@ -182,13 +231,35 @@ fn a_million_rounds() {
     }
 }
 
+/// As many rounds as a journal may hold, all of them blank lines, and one more.
+#[test]
+fn a_million_blank_lines() {
+    let Some(folder) = Folder::with_sheet("a_million_blank_lines", &plain(1, &["40"])) else { return };
+    let (input, written) = ("\n".repeat(MAX_ROUNDS as usize), "?\n".repeat(MAX_ROUNDS as usize));
+    let closing = "=?\n# 0 0 0 1000000 0 0\n";
+    let ends = [
+        ("", "".to_string()),
+        ("\n", "refused 13 line 1000001\n".to_string()),
+        ("\n.\n", "refused 13 line 1000001\n".to_string()),
+        ("x", "refused 17 line 1000001\n".to_string()),
+        (".", closing.to_string()),
+        (".\n\n\n", closing.to_string()),
+        (".\n\n\n?", format!("{closing}refused 12 line 1000004\n")),
+    ];
+    for (end, expected) in ends {
+        let found = folder.written(folder.input(format!("{input}{end}").as_bytes()).into());
+        outside::expect_same(&format!("with {end:?}"), found.as_bytes(), (written.clone() + &expected).as_bytes());
+    }
+}
+
 /// Input that comes in pieces.
 #[test]
 fn pieces() {
     let Some(folder) = Folder::new("pieces") else { return };
     let session = ["1", "0", "\n?1\n1", "?\n00\n0", "1\n", "."];
     let bars = ["0", "0|", "11\n", "01", "|10\n0", "0|1", "1", "|01\n11|", "11\n0?", "|", "0", "1", "\n."];
-    for (sheet, pieces) in [(session_sheet(), &session[..]), (labels(), &bars)] {
+    let blank = ["\n", "1", "0\n", "\n", "\n\n0", "0", "\n\n", ".", "\n", "\n\n", "\n"];
+    for (sheet, pieces) in [(session_sheet(), &session[..]), (labels(), &bars), (session_sheet(), &blank)] {
         folder.put_sheet(&sheet);
         let (input, mut pipe) = io::pipe().expect("a pipe");
         let mut command = folder.command();

@@ -63,7 +63,7 @@ const STRETCH: usize = 500;
 /// By the rounds that a journal holds: seconds of a round after so many others.
 pub fn by_rounds() -> Vec<(usize, f64)> {
     let sheet = session_sheet();
-    let lines = session_lines(&mut Random::new(3), STRETCH, Unheard::Share(30));
+    let lines = session_lines(&mut Random::new(3), STRETCH, Unheard::Share(30), 0);
     let calls: Vec<Call> = lines.lines().map(call_of_line).collect();
     let play = |held: &mut Held| {
         for call in &calls {

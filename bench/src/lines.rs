@@ -68,8 +68,11 @@ impl Lines {
         Ok(())
     }
 
-    /// The last line may lack its line feed.
+    /// The last line may lack its line feed; the empty end after one is no line.
     fn finish(&mut self, journal: &mut Journal, output: &mut impl Write) -> Result<(), Stop> {
+        if self.begun.is_empty() {
+            return Ok(());
+        }
         self.number += 1;
         answer(journal, &self.begun, output)
     }
@@ -93,12 +96,9 @@ impl From<io::Error> for Stop {
 }
 
 fn answer(journal: &mut Journal, line: &[u8], output: &mut impl Write) -> Result<(), Stop> {
-    if line.is_empty() {
-        return Ok(());
-    }
-    // After closing this comes before a malformed line.
+    // After closing a blank line is passed over, and this comes before a malformed line.
     if journal.record[1] == 1 {
-        return Err(Stop::Refused(12));
+        return if line.is_empty() { Ok(()) } else { Err(Stop::Refused(12)) };
     }
     let outputs = journal.sheet.outputs;
     let print = |output: &mut dyn Write, head: &[u8], verdicts: &[u8; 7]| {
@@ -116,7 +116,11 @@ fn answer(journal: &mut Journal, line: &[u8], output: &mut impl Write) -> Result
         }
         return Ok(());
     }
-    let letters = line_set(journal.sheet.inputs, line).ok_or(17u32)?;
+    // Of a blank line's round nothing was heard.
+    let letters = match line {
+        [] => u64::MAX >> (64 - (1 << journal.sheet.inputs)),
+        _ => line_set(journal.sheet.inputs, line).ok_or(17u32)?,
+    };
     let verdicts = journal.round(letters)?;
     print(output, b"", &verdicts)?;
     Ok(())
@@ -199,13 +203,13 @@ mod tests {
         let one = || cases::plain(1, &["40"]);
         let cases = [
             ("", ""),
-            ("\n", ""),
-            ("\n\n1\n\n0", "1\n0\n"),
+            ("\n", "?\n"),
+            ("\n\n1\n\n0", "?\n?\n1\n?\n0\n"),
             ("1x\n", "refused 17 line 1\n"),
             ("1\nx", "1\nrefused 17 line 2\n"),
             ("1\r\n", "refused 17 line 1\n"),
             ("..\n", "refused 17 line 1\n"),
-            ("\n11\n1\n", "refused 17 line 2\n"),
+            ("\n11\n1\n", "?\nrefused 17 line 2\n"),
             (".\n", "refused 14 line 1\n"),
             ("1\n.\n\n", "1\n=1\n# 0 1 0 0 0 1000\n"),
             ("?\n.\n\nx\n", "?\n=?\n# 0 0 0 1 0 0\nrefused 12 line 4\n"),
@@ -213,6 +217,9 @@ mod tests {
         ];
         for (input, expected) in cases {
             assert_eq!(printed(&one(), input), expected, "{input:?}");
+        }
+        for case in cases::blank_lines() {
+            assert_eq!(printed(&case.sheet, case.input), case.written, "{:?}", case.input);
         }
         assert_eq!(printed(&[], "1\n"), "refused 1 sheet\n");
         assert_eq!(printed(&cases::plain(1, &["41"]), "1\n"), "refused 10 sheet\n");
@@ -301,6 +308,7 @@ mod tests {
             text.lines().last().unwrap().to_string()
         };
         assert_eq!(at_the_end("?"), "refused 13 line 1000001");
+        assert_eq!(at_the_end(""), "refused 13 line 1000001");
         assert_eq!(at_the_end("x"), "refused 17 line 1000001");
         assert_eq!(at_the_end("."), "# 0 0 0 1000000 0 0");
     }

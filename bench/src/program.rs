@@ -12,11 +12,25 @@ use std::process::{Command, Stdio};
 
 pub const ROUNDS: usize = 1_000_000;
 
+/// What is not heard in the journals, and how many of a hundred lines are blank.
+const JOURNALS: [(Unheard, usize); 3] = [(Unheard::Share(30), 0), (Unheard::Alternative, 0), (Unheard::Share(30), 10)];
+
 /// Seconds of both on a journal of the session sheet.
 pub struct Timed {
-    pub unheard: Unheard,
+    unheard: Unheard,
+    blank: usize,
     pub proved: f64,
     pub fast: f64,
+}
+
+impl Timed {
+    /// What is not heard.
+    pub fn name(&self) -> String {
+        match self.blank {
+            0 => self.unheard.name(),
+            blank => format!("{}, and {blank} % of the rounds", self.unheard.name()),
+        }
+    }
 }
 
 /// Times both programs, or tells what is missing.
@@ -30,10 +44,10 @@ pub fn time(effort: Effort) -> Result<Vec<Timed>, String> {
         }
     }
     let folder = env::temp_dir().join(format!("jigwaret-bench-{}", std::process::id()));
-    let timed = [Unheard::Share(30), Unheard::Alternative].map(|unheard| {
-        let lines = session_lines(&mut Random::new(3), ROUNDS, unheard);
+    let timed = JOURNALS.map(|(unheard, blank)| {
+        let lines = session_lines(&mut Random::new(3), ROUNDS, unheard, blank);
         let [proved, fast] = time_in(&folder, [&proved, &fast], &lines, effort)?;
-        Ok(Timed { unheard, proved, fast })
+        Ok(Timed { unheard, blank, proved, fast })
     });
     // What is left behind does no harm.
     let _ = fs::remove_dir_all(&folder);

@@ -156,8 +156,9 @@ pub fn comparisons(times: &ComparisonTimes) -> String {
 }
 
 pub fn program(timed: &Result<Vec<Timed>, String>) -> String {
-    let row = |&Timed { unheard, proved, fast }: &Timed| {
-        vec![format!("session, {ROUNDS} rounds"), unheard.name(), ratio(proved / fast), seconds(proved)]
+    let row = |timed: &Timed| {
+        let name = format!("session, {ROUNDS} rounds");
+        vec![name, timed.name(), ratio(timed.proved / timed.fast), seconds(timed.proved)]
     };
     match timed {
         Ok(timed) => table(&["journal", "not heard", "proved : fast", "proved, time here"], timed.iter().map(row)),
@@ -228,7 +229,7 @@ pub fn targets(
     let over_fast = |times: MonitorTimes| times.proved / times.fast;
     let of_straightforward = |times: MonitorTimes| times.straightforward / times.proved;
     let longer = |[short, long]: &[TraceTimes; 2]| (long.times.proved / short.times.proved, long.name.to_string());
-    let timed = |timed: &Timed| (timed.proved / timed.fast, format!("session, {} not heard", timed.unheard.name()));
+    let timed = |timed: &Timed| (timed.proved / timed.fast, format!("session, {} not heard", timed.name()));
     let [short, long] = TRACE_LENGTHS;
     [
         target(

@@ -194,13 +194,17 @@ fn formula_letter(random: &mut Random) -> u8 {
     p as u8 | (q as u8) << 1
 }
 
-/// Lines of a journal of the session sheet that keeps to its assumption.
-pub fn session_lines(random: &mut Random, rounds: usize, unheard: Unheard) -> String {
+/// Lines of a journal of the session sheet that keeps to its assumption, about so many of a hundred blank.
+pub fn session_lines(random: &mut Random, rounds: usize, unheard: Unheard, blank: usize) -> String {
     let mut sent_before = false;
     let mut line = |_| {
         let sent = random.one_in(2);
         let acknowledged = (sent || sent_before) && random.one_in(2);
         sent_before = sent;
+        // A journal without any is drawn as if there were no such lines.
+        if blank > 0 && random.below(100) < blank {
+            return "\n".to_string();
+        }
         let alternatives = unheard.alternatives(random, sent as u8 | (acknowledged as u8) << 1, 2);
         let marks: Vec<String> = alternatives.iter().map(|heard| heard.marks(2)).collect();
         marks.join("|") + "\n"
@@ -324,7 +328,7 @@ mod tests {
             heard.into_iter().chain(first).map(|unheard| sum(rounds(workload, &monitor, unheard))).collect::<Vec<_>>()
         };
         assert_eq!(sum(journals().iter().flat_map(sums)), 5_535_617_213_424_295_374);
-        let lines = session_lines(&mut Random::new(3), 1_000_000, Unheard::Share(30));
+        let lines = session_lines(&mut Random::new(3), 1_000_000, Unheard::Share(30), 0);
         assert_eq!(sum(lines.bytes().map(u64::from)) as u32, 583_921_052);
     }
 

@@ -1,6 +1,6 @@
 -- What blank lines are: rounds with all letters.
 use mathlib.Core.Path.{_≡_, refl, sym, ap, _∙_, fun-ext}
-use mathlib.Core.Bool.{Bool, true, false, cond, _&&_, _||_, and-true, true≢false}
+use mathlib.Core.Bool.{Bool, true, false, cond, _||_, and-true, true≢false}
 use mathlib.Core.List.{List, [], _∷_, _++_, append-nil}
 use mathlib.Core.Option.{none, some}
 use Prim.Native.Nat.{ℕ, zero, suc, _/_, _^_, _≤_, _<_}
@@ -9,22 +9,19 @@ use lib.Dec.{leb, ltb}
 use lib.ListN.{length, replicate, length-replicate}
 use lib.Pow.{pow-pos, pow-mono}
 use lib.Seq.{append-snoc}
-use borrow.Author.Tests.{lt-ltb}
 use Rattle.outcomes.specs.declared.Refusal.{Refusal}
 use Rattle.outcomes.specs.declared.Refusal.the-variants.{Full}
 use Rattle.words.specs.Bits.{bit, fromBits}
-use Rattle.words.proofs.BitLaws.{bit-none}
-use Rattle.words.proofs.FromBits.{from-bit, from-lt, from-word}
+use Rattle.words.proofs.FromBits.{from-word}
 use Rattle.words.proofs.Options.{nothing, same-some}
 use Rattle.sheet.specs.RuleSheet.{RuleSheet}
 use Rattle.record.specs.Record.{maxRounds}
 use Rattle.letters.specs.Sets.{badSet}
-use Rattle.letters.proofs.SetLaws.{bad-within}
 use Rattle.claims.specs.Book.{Call, round, refused, refusal, Book, BookStep, refuse}
 use Rattle.line_scan.specs.Lines.{allMarks, alternativesFrom, allWhole, fits, fitsOne, lineSet, isDot, Line, blank, calls, malformed, readLine, allLetters, asked, asks}
 use Rattle.line_scan.specs.Blank.{BlankAsUnknown, BlankRefused}
 use Rattle.line_scan.proofs.Scanning.{all-whole}
-use Rattle.line_scan.proofs.Standing.{round-line, empty-blank, good-line}
+use Rattle.line_scan.proofs.Standing.{round-line, empty-blank, bits-good, good-line}
 
 -- ---- all letters
 
@@ -37,9 +34,7 @@ all-letters m w h g f =
 
 all-good : (m : ℕ) → badSet m (allLetters m) ≡ false
 unfolding allLetters
-all-good m =
-    let there : bit 0 (fromBits (2 ^ m) (λ l. true)) ≡ true = from-bit (2 ^ m) (λ l. true) 0 ∙ ap (λ (t : Bool). t && true) (lt-ltb 0 (2 ^ m) (pow-pos m)) in
-    bad-within m (fromBits (2 ^ m) (λ l. true)) (λ z. true≢false (sym there ∙ ap (bit 0) z ∙ bit-none 0)) (from-lt (2 ^ m) (λ l. true))
+all-good m = bits-good m (λ l. true) 0 (pow-pos m) refl
 
 -- ---- a line of `?`
 

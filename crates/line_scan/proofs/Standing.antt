@@ -73,14 +73,17 @@ module _ (m : ℕ) (part : List ℕ) where
 
 -- ---- no line stands for a set that rule 21 refuses
 
+-- one that has a letter, and only letters of m inputs
+pub bits-good : (m : ℕ) (f : ℕ → Bool) (l : ℕ) → l < 2 ^ m → f l ≡ true → badSet m (fromBits (2 ^ m) f) ≡ false
+bits-good m f l h e =
+    let there : bit l (fromBits (2 ^ m) f) ≡ true = from-bit (2 ^ m) f l ∙ ap₂ _&&_ (lt-ltb l (2 ^ m) h) e in
+    bad-within m (fromBits (2 ^ m) f) (λ z. true≢false (sym there ∙ ap (bit l) z ∙ bit-none l)) (from-lt (2 ^ m) f)
+
 line-set-good : (m : ℕ) (l : List ℕ) → allWhole m (alternatives l) ≡ true → badSet m (lineSet m l) ≡ false
 unfolding lineSet
 line-set-good m l e =
-    let f : ℕ → Bool = fitsOne (alternatives l) in
     let some = some-letter m (alternatives l) (some-alternative [] l) e in
-    let k = some .0 in
-    let there : bit k (fromBits (2 ^ m) f) ≡ true = from-bit (2 ^ m) f k ∙ ap₂ _&&_ (lt-ltb k (2 ^ m) (some .1)) (some .2) in
-    bad-within m (fromBits (2 ^ m) f) (λ z. true≢false (sym there ∙ ap (bit k) z ∙ bit-none k)) (from-lt (2 ^ m) f)
+    bits-good m (fitsOne (alternatives l)) (some .0) (some .1) (some .2)
 
 pub good-line : (m : ℕ) (l : List ℕ) (w : ℕ) → readLine m l ≡ calls (round w) → badSet m w ≡ false
 unfolding readLine

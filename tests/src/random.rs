@@ -173,7 +173,7 @@ impl Random {
     }
 }
 
-/// A journal of so many lines in which every third is blank, and the same with as many unknown marks as
+/// A journal of so many lines of which about a third are blank, and the same with as many unknown marks as
 /// there are inputs for each blank line before the closing.
 pub fn with_blank_lines(random: &mut Random, inputs: usize, lines: usize) -> [Vec<u8>; 2] {
     let mut journals = [Vec::new(), Vec::new()];

@@ -117,10 +117,18 @@ impl Journal<'_> {
         let reached = self.reached.as_ref().ok_or(14u32)?;
         self.closed = true;
         let last = reached.iter().filter(|(_, b)| b.is_none()).map(|&(a, _)| a);
-        // True rounds per thousand, nearest, halves up.
-        let share = |counts: &[u32; 4]| (2000 * counts[0] as u64 + self.rounds as u64) / (2 * self.rounds as u64);
-        Ok((self.monitor.verdicts(last), self.counts.iter().map(|counts| share(counts) as u32).collect()))
+        let shares = self.counts.iter().map(|counts| share(counts[0], self.rounds));
+        Ok((self.monitor.verdicts(last), shares.collect()))
     }
+}
+
+/// True rounds per thousand, to the nearest, halves to the even number: up, and back where a half came to an
+/// odd one.
+fn share(true_rounds: u32, rounds: u32) -> u32 {
+    let (twice, whole) = (2000 * true_rounds as u64 + rounds as u64, 2 * rounds as u64);
+    let nearest = twice / whole;
+    let was_half = twice % whole == 0;
+    (if was_half { nearest - nearest % 2 } else { nearest }) as u32
 }
 
 /// The live pairs, backward from the end: (a, b) is live if a and b have the assumption and the
@@ -181,7 +189,7 @@ mod tests {
     use outside::journal::{call_of_line, Book, Call};
     use outside::monitor::Verdict;
     use outside::random::{self, Random};
-    use outside::{cases, hex, monitor};
+    use outside::{cases, hex, monitor, shares};
 
     fn numbers(verdicts: &[Verdict]) -> Vec<u8> {
         verdicts.iter().map(|&verdict| verdict as u8).collect()
@@ -255,6 +263,15 @@ mod tests {
             refusals.extend(agree(&mut journal, &mut book, Call::Close));
         }
         assert!([12, 14, 21].iter().all(|number| refusals.contains(number)));
+    }
+
+    #[test]
+    fn shares_of_counts() {
+        for (rounds, counts) in shares::cases() {
+            for count in counts {
+                assert_eq!(share(count, rounds), shares::share(count, rounds), "{count} of {rounds}");
+            }
+        }
     }
 
     #[test]

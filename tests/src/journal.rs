@@ -4,6 +4,7 @@
 use crate::letters::LetterSet;
 use crate::monitor::{Monitor, Verdict};
 use crate::pairs::{Pairs, SET_WORDS};
+use crate::shares::share;
 
 /// The most rounds that a journal holds.
 pub const MAX_ROUNDS: u32 = 1_000_000;
@@ -62,15 +63,6 @@ fn column(verdict: Verdict) -> usize {
         Verdict::Open => 2,
         Verdict::Broken => 3,
     }
-}
-
-/// True rounds per thousand, nearest, halves up: the greatest whole number that is at most the
-/// exact share plus a half.
-pub fn share(true_rounds: u32, rounds: u32) -> u32 {
-    let (true_rounds, rounds) = (true_rounds as u64, rounds as u64);
-    let whole = 1000 * true_rounds / rounds;
-    let rest = 1000 * true_rounds % rounds;
-    (whole + (2 * rest >= rounds) as u64) as u32
 }
 
 #[derive(Clone, Debug, PartialEq, Eq)]
@@ -295,26 +287,6 @@ mod tests {
         assert_eq!(call_of_line("0|1"), round(0b11));
         assert_eq!(call_of_line("1?|?1"), round(0b1110));
         assert_eq!(call_of_line("000000|111111"), round(1 << 63 | 1));
-    }
-
-    #[test]
-    fn shares() {
-        let by_hand = [(0, 1, 0), (1, 1, 1000), (2, 5, 400), (1, 3, 333), (2, 3, 667), (1, 16, 63), (3, 16, 188)];
-        for (true_rounds, rounds, expected) in by_hand {
-            assert_eq!(share(true_rounds, rounds), expected, "{true_rounds} of {rounds}");
-        }
-        assert_eq!(share(999_500, 1_000_000), 1000);
-        assert_eq!(share(999_499, 1_000_000), 999);
-        assert_eq!(share(500, 1_000_000), 1);
-        assert_eq!(share(499, 1_000_000), 0);
-        assert_eq!(share(1_000_000, 1_000_000), 1000);
-        // No other whole number is nearer, and a half goes up.
-        for rounds in 1..=200i64 {
-            for true_rounds in 0..=rounds {
-                let off = 1000 * true_rounds - share(true_rounds as u32, rounds as u32) as i64 * rounds;
-                assert!(-rounds <= 2 * off && 2 * off < rounds, "{true_rounds} of {rounds}");
-            }
-        }
     }
 
     #[test]

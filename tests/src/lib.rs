@@ -2,10 +2,10 @@
 //! library, so that the two can be compared.
 //!
 //! `sheet`, `circular` and `language` follow the definitions as directly as they can, and so do
-//! `letters`, `pairs`, `monitor` and `journal` for verdicts, `letter_table` for the table of letter sets, and
-//! `session` for the journal program. `random` and `cases` supply the inputs, `versions` those that say the
-//! same in both versions, `library` makes the calls, `program` runs the programs, and `vectors` has whole
-//! sessions for a proved program that runs many.
+//! `letters`, `pairs`, `monitor`, `journal` and `shares` for verdicts and tallies, `letter_table` for the table
+//! of letter sets, and `session` for the journal program. `random` and `cases` supply the inputs, `versions`
+//! those that say the same in both versions, `library` makes the calls, `program` runs the programs, and
+//! `vectors` has whole sessions for a proved program that runs many.
 
 pub mod cases;
 pub mod circular;
@@ -19,6 +19,7 @@ pub mod pairs;
 pub mod program;
 pub mod random;
 pub mod session;
+pub mod shares;
 pub mod sheet;
 pub mod vectors;
 pub mod versions;

@@ -8,6 +8,7 @@ use crate::letters::{spelled_out, LetterSet};
 use crate::monitor::Monitor;
 use crate::random::{self, Random};
 use crate::session::{self, SHEET_READ};
+use crate::shares::below_half;
 use crate::sheet::NO_ASSUMPTION;
 
 /// The longest session that the program takes.
@@ -77,6 +78,9 @@ pub struct Seen {
     /// In the order `0 1 ? !`.
     pub verdicts: [usize; 4],
     pub closing: [usize; 4],
+    /// Shares, and those of them that are a half above an even number and above an odd one.
+    pub shares: usize,
+    pub halves: [usize; 2],
 }
 
 impl Seen {
@@ -103,7 +107,12 @@ impl Seen {
                 self.refused_lines[place(number)] += 1;
                 self.malformed_bars += (number == "17" && read[place(line) - 1].contains(&b'|')) as usize;
             }
-            ["#", ..] => {}
+            ["#", _, some_true, some_false, open, broken, _] => {
+                let counts = [some_true, some_false, open, broken].map(|count| place(count) as u32);
+                let below = below_half(counts[0], counts.iter().sum());
+                self.shares += 1;
+                below.into_iter().for_each(|below| self.halves[below as usize % 2] += 1);
+            }
             _ => match line.strip_prefix('=') {
                 Some(verdicts) => count(&mut self.closing, verdicts),
                 None => count(&mut self.verdicts, line),
@@ -127,7 +136,7 @@ impl Seen {
 
     /// Each verdict occurs often, and each refusal that a short session can meet several times, those of
     /// a sheet in both versions. About one line in four has several alternatives, and about one round in six is
-    /// a blank line.
+    /// a blank line. Halves of both kinds occur.
     pub fn expect_all(&self) {
         let rounds = self.lines + self.blank_rounds;
         assert!((12..=20).contains(&(100 * self.blank_rounds / rounds)) && self.passed_over >= 200, "{self:?}");
@@ -136,6 +145,7 @@ impl Seen {
         assert!(self.cases[1..].iter().all(|&times| times >= 600), "{self:?}");
         assert!(self.verdicts.iter().all(|&times| times >= 5000), "{self:?}");
         assert!(self.closing.iter().all(|&times| times >= 200), "{self:?}");
+        assert!(self.halves.iter().all(|&times| times >= 20), "{self:?}");
         let mut refused_sheets = self.refused_sheets[1..].iter().flat_map(|numbers| &numbers[1..=10]);
         assert!(refused_sheets.all(|&times| times >= 6), "{self:?}");
         assert!([12, 14, 17].iter().all(|&number| self.refused_lines[number] >= 12), "{self:?}");
@@ -202,7 +212,21 @@ fn by_hand() -> Vec<Case> {
     // Line feeds alone, with as many answers as there can be for each.
     found.extend([1, 7, 64, 1000].map(|lines| Case::new(cases::plain(1, &["40"; 7]), "\n".repeat(lines))));
     found.push(Case::new(cases::register(), format!("{}.{}", "\n".repeat(500), "\n".repeat(500))));
+    let lengths = [(16, 4), (80, 4), (400, 133)];
+    found.extend(lengths.into_iter().flat_map(|(rounds, step)| halves(rounds, step)));
     found
+}
+
+/// Journals of so many rounds, of which so many are true, from 0 on in these steps; for the next outputs one, two
+/// and three more are. Of 16, 80 or 400 rounds every odd number is a half.
+fn halves(rounds: usize, step: usize) -> impl Iterator<Item = Case> {
+    let line = |round: usize, count: usize| {
+        let marks = [0, 1, 2, 3].map(|more| if round < count + more { '1' } else { '0' });
+        String::from_iter(marks) + "\n"
+    };
+    let lines = move |count: usize| (0..rounds).map(|round| line(round, count)).collect::<String>();
+    let counts = (0..=rounds).step_by(step);
+    counts.map(move |count| Case::new(cases::plain(4, &["40", "41", "42", "43"]), lines(count) + "."))
 }
 
 /// An accepted sheet of one of these sizes, inputs and outputs, with its monitor. Sheets without an

@@ -6,7 +6,7 @@ use outside::monitor::{self, Monitor, Verdict};
 use outside::pairs::{Pairs, SET_WORDS};
 use outside::random::{self, Random};
 use outside::sheet::with_version;
-use outside::{cases, hex, library, versions};
+use outside::{cases, hex, library, shares, versions};
 use std::fmt::Debug;
 
 /// Numbers kept on each side of what is lent, which must stay as they were.
@@ -639,41 +639,36 @@ fn the_last_rounds() {
     }
 }
 
+/// Closings of forged records, with counts at halves and beside them, and of any number of rounds.
 #[test]
-fn shares() {
-    let sheet = cases::plain(1, &["40", "40"]);
-    let share = |true_rounds: u32, rounds: u32| {
-        let mut held = Held::fresh();
-        held.forge(rounds, 0, &[[true_rounds, rounds - true_rounds, 0, 0], [0, 0, rounds - true_rounds, true_rounds]]);
-        assert_eq!(call(&sheet, &mut held, Call::Close), 0);
-        assert_eq!((held.answer[3], held.record[1]), (0, 1));
-        held.answer[2]
-    };
-    let by_hand = [(999_500, 1_000_000, 1000), (999_499, 1_000_000, 999), (1_000_000, 1_000_000, 1000)];
-    for (true_rounds, rounds, expected) in by_hand.into_iter().chain([(500, 1_000_000, 1), (499, 1_000_000, 0)]) {
-        assert_eq!(share(true_rounds, rounds), expected, "{true_rounds} of {rounds}");
-    }
-    for (true_rounds, rounds, expected) in [(1, 16, 63), (3, 16, 188), (1, 3, 333), (2, 3, 667), (1, 2000, 1)] {
-        assert_eq!(share(true_rounds, rounds), expected, "{true_rounds} of {rounds}");
-    }
-    for rounds in 1..=64 {
-        for true_rounds in 0..=rounds {
-            assert_eq!(share(true_rounds, rounds), journal::share(true_rounds, rounds), "{true_rounds} of {rounds}");
+fn shares_of_counts() {
+    let subject = Subject::new(cases::plain(1, &["40"; 7]));
+    let mut random = Random::new(39);
+    let mut held = anything(&mut random);
+    for (rounds, counts) in shares::cases() {
+        for seven in counts.chunks(7) {
+            close_with(&subject, &mut random, &mut held, rounds, seven);
         }
     }
-    let mut random = Random::new(39);
-    for _ in 0..3000 {
-        // Multiples of 2,000 rounds have exact halves.
-        let (rounds, true_rounds) = if random.one_in(2) {
-            let rounds = random.range(1, 1_000_000);
-            (rounds, random.below(rounds + 1))
-        } else {
-            let thousands = random.range(1, 500);
-            (2000 * thousands, (2 * random.below(1000) + 1) * thousands)
-        };
-        let expected = journal::share(true_rounds as u32, rounds as u32);
-        assert_eq!(share(true_rounds as u32, rounds as u32), expected, "{true_rounds} of {rounds}");
+    for _ in 0..1000 {
+        let rounds = random.range(1, MAX_ROUNDS as usize);
+        let counts = [(); 7].map(|_| random.below(rounds + 1) as u32);
+        close_with(&subject, &mut random, &mut held, rounds as u32, &counts);
     }
+    for (count, rounds, expected) in [(1, 16, 62), (3, 16, 188), (500, 1_000_000, 0), (999_500, 1_000_000, 1000)] {
+        close_with(&subject, &mut random, &mut held, rounds, &[count]);
+        assert_eq!(held.answer[7], expected, "{count} of {rounds}");
+    }
+}
+
+/// Closes a journal of so many rounds in which the first outputs have so many true ones.
+fn close_with(subject: &Subject, random: &mut Random, held: &mut Held, rounds: u32, true_rounds: &[u32]) {
+    consistent(random, held, rounds, 7);
+    for (k, &count) in true_rounds.iter().enumerate() {
+        let others = random.below((rounds - count) as usize + 1) as u32;
+        held.record[2 + 4 * k..6 + 4 * k].copy_from_slice(&[count, 0, others, rounds - count - others]);
+    }
+    assert_eq!(subject.agree(held, Call::Close), 0);
 }
 
 /// Any sheet, storage sometimes short, records of any kind, sets of any letters.

@@ -188,6 +188,29 @@ fn examples() {
     assert_eq!(run("asleep"), format!("001\n??1\n1?1\n101\n=101\n{tallies}"));
 }
 
+/// Journals of 16 and of 80 rounds: an odd number of true ones is a half.
+#[test]
+fn halves_at_closing() {
+    let Some(folder) = Folder::with_sheet("halves_at_closing", &plain(1, &["40"])) else { return };
+    let run = |count: usize, rounds: usize| {
+        let input = "1\n".repeat(count) + &"0\n".repeat(rounds - count);
+        let written = folder.written(folder.input(format!("{input}.\n").as_bytes()).into());
+        let closing = written.strip_prefix(&input).unwrap_or_else(|| panic!("{count} of {rounds}: {written:?}"));
+        closing.to_string()
+    };
+    let last = |mark: &str, count: usize, rounds: usize, share: u32| {
+        format!("={mark}\n# 0 {count} {} 0 0 {share}\n", rounds - count)
+    };
+    let sixteenths = [0, 62, 125, 188, 250, 312, 375, 438, 500, 562, 625, 688, 750, 812, 875, 938];
+    for (count, share) in sixteenths.into_iter().enumerate() {
+        assert_eq!(run(count, 16), last("0", count, 16, share));
+    }
+    assert_eq!(run(16, 16), last("1", 16, 16, 1000));
+    for (count, share) in [(1, 12), (3, 38), (5, 62), (37, 462), (39, 488), (41, 512), (77, 962), (79, 988)] {
+        assert_eq!(run(count, 80), last("0", count, 80, share));
+    }
+}
+
 /// As many rounds as a journal may hold, ten of them blank lines, and what is written. Each other line is
 /// answered with itself where the only output is the only input.
 fn a_full_journal() -> (String, String) {
@@ -210,7 +233,7 @@ fn a_full_journal() -> (String, String) {
 fn a_million_rounds() {
     let Some(folder) = Folder::with_sheet("a_million_rounds", &plain(1, &["40"])) else { return };
     let (input, written) = a_full_journal();
-    // 999,500 of 1,000,000 is 999 and a half per thousand.
+    // 999,500 of 1,000,000 is 999 and a half per thousand, of which 1000 is the even neighbour.
     let closing = "=?\n# 0 999500 489 11 0 1000\n";
     let refused = |number: u32, line: u32| format!("refused {number} line {line}\n");
     let full = ["?\n", "0", "0|1\n", "1|1", "\n", "\n\n1\n.\n"].map(|end| (end.to_string(), refused(13, 1_000_001)));

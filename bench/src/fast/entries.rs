@@ -194,8 +194,10 @@ fn tally(record: &mut [u32], verdicts: &[u8]) {
     }
 }
 
-/// True rounds per thousand, nearest, halves up.
+/// True rounds per thousand, to the nearest, halves to the even number.
 fn share(record: &[u32], k: usize) -> u32 {
-    let (rounds, true_rounds) = (record[0] as u64, record[2 + 4 * k] as u64);
-    ((2000 * true_rounds + rounds) / (2 * rounds)) as u32
+    let (rounds, scaled) = (record[0] as u64, 1000 * record[2 + 4 * k] as u64);
+    let (below, rest) = (scaled / rounds, scaled % rounds);
+    let odd = below % 2;
+    (below + (2 * rest + odd > rounds) as u64) as u32
 }

@@ -10,7 +10,7 @@ use outside::letters::{Heard, LetterSet};
 use outside::monitor::Monitor;
 use outside::random::{self, Random};
 use outside::sheet::{byte_of_read, write_version, NO_ASSUMPTION};
-use outside::{circular, hex, language};
+use outside::{circular, hex, language, shares};
 
 /// The same number on both sides.
 fn judge(sheet: &[u8]) -> u32 {
@@ -101,6 +101,19 @@ fn explicit_calls() {
     }
     for case in cases::live_counts() {
         assert_eq!(Journal::prepare(Sheet::accept(&case.sheet).unwrap()).live_pairs as usize, case.live);
+    }
+}
+
+#[test]
+fn shares_of_counts() {
+    let sheet = cases::plain(1, &["40"]);
+    let mut held = Held::fresh();
+    for (rounds, counts) in shares::cases() {
+        for count in counts {
+            held.forge(rounds, 0, &[[count, rounds - count, 0, 0]]);
+            assert_eq!(call(&sheet, &mut held, Call::Close), 0);
+            assert_eq!(held.answer[1], shares::share(count, rounds), "{count} of {rounds}");
+        }
     }
 }
 

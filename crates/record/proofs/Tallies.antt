@@ -2,15 +2,15 @@
 use mathlib.Core.Path.{_≡_, refl, sym, ap, _∙_, subst}
 use mathlib.Core.Bool.{Bool, true, false, _&&_, and-false}
 use mathlib.Core.List.{List}
-use Prim.Native.Nat.{ℕ, zero, suc, _+_, _*_, _/_, _-_, _<_, _≤_}
+use Prim.Native.Nat.{ℕ, zero, suc, _+_, _*_, _/_, _%_, _-_, _<_, _≤_}
 use native.Mathlib.Omega.{arith}
-use native.Mathlib.Nat.{div-lt-iff-lt-mul}
+use native.Mathlib.Nat.{div-le-of-le-mul}
 use native.Mathlib.Numerals.{add-one}
 use native.Mathlib.Decide.{decLt, ℕ-discrete}
 use lib.Dec.{eqb, leb}
 use lib.ListN.{length, getD, set, length-set}
 use lib.Seq.{getD-set-same, getD-set-other}
-use borrow.Author.Tests.{eq-eqb, ne-eqb, le-leb, lt-leb, leb-true, eqb-true}
+use borrow.Author.Tests.{eq-eqb, ne-eqb, le-leb, lt-leb, lt-ltb, le-ltb, leb-true, eqb-true}
 use Rattle.outcomes.specs.Numbers.{toldAt}
 use Rattle.outcomes.specs.declared.Verdict.{Verdict}
 use Rattle.outcomes.specs.declared.Verdict.the-variants.{False, True, Open, Broken}
@@ -136,11 +136,38 @@ counted-all n k vs old new e l x = record {
   beyond = λ i h. x .beyond i (omega arith);
 }
 
--- ---- the share
+-- ---- the share, by the rest
 
-pub share-small : (trues t : ℕ) → 1 ≤ t → trues ≤ t → share trues t < 1001
+pub share-down : (trues t : ℕ) → 2 * (1000 * trues % t) < t → share trues t ≡ 1000 * trues / t
 unfolding share
-share-small trues t h l = div-lt-iff-lt-mul {k = 2 * t} (omega arith) .1 (omega arith)
+share-down trues t h = rw (lt-ltb (2 * (1000 * trues % t)) t h) refl
+
+pub share-up : (trues t : ℕ) → t < 2 * (1000 * trues % t) → share trues t ≡ 1000 * trues / t + 1
+unfolding share
+share-up trues t h = rw (le-ltb (2 * (1000 * trues % t)) t (omega arith), lt-ltb t (2 * (1000 * trues % t)) h) refl
+
+pub share-half : (trues t : ℕ) → 2 * (1000 * trues % t) ≡ t → share trues t ≡ 1000 * trues / t + 1000 * trues / t % 2
+unfolding share
+share-half trues t h = rw (le-ltb (2 * (1000 * trues % t)) t (omega arith), le-ltb t (2 * (1000 * trues % t)) (omega arith)) refl
+
+-- and by one test
+pub share-more : (trues t : ℕ) → t < 2 * (1000 * trues % t) + 1000 * trues / t % 2 → share trues t ≡ 1000 * trues / t + 1
+share-more trues t h = go (decLt t (2 * (1000 * trues % t)))
+  where
+    go : Dec (t < 2 * (1000 * trues % t)) → share trues t ≡ 1000 * trues / t + 1
+    go (yes d) = share-up trues t d
+    go (no d) = omega (arith, share-half trues t (omega arith))
+
+pub share-same : (trues t : ℕ) → 2 * (1000 * trues % t) + 1000 * trues / t % 2 ≤ t → share trues t ≡ 1000 * trues / t
+share-same trues t h = go (decLt (2 * (1000 * trues % t)) t)
+  where
+    go : Dec (2 * (1000 * trues % t) < t) → share trues t ≡ 1000 * trues / t
+    go (yes d) = share-down trues t d
+    go (no d) = omega (arith, share-half trues t (omega arith))
+
+-- no more than all rounds are true
+pub quotient-small : (trues t : ℕ) → trues ≤ t → 1000 * trues / t ≤ 1000
+quotient-small trues t h = div-le-of-le-mul t (omega arith)
 
 -- ---- one round more keeps rule 18
 

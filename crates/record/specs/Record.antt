@@ -1,10 +1,10 @@
 -- The journal record and its tallies (01, "Completions and verdicts", "Tallies", rule 18).
 -- Manual: "Tallies".
 use mathlib.Core.Path.{_≡_}
-use mathlib.Core.Bool.{Bool, true, false, _&&_}
+use mathlib.Core.Bool.{Bool, true, false, cond, _&&_}
 use mathlib.Core.List.{List}
-use Prim.Native.Nat.{ℕ, zero, suc, _+_, _*_, _/_, _<_, _≤_}
-use lib.Dec.{eqb, leb}
+use Prim.Native.Nat.{ℕ, zero, suc, _+_, _*_, _/_, _%_, _<_, _≤_}
+use lib.Dec.{eqb, leb, ltb}
 use lib.ListN.{length, getD, replicate}
 use Rattle.outcomes.specs.Numbers.{toldAt}
 use Rattle.outcomes.specs.declared.Verdict.{Verdict}
@@ -47,9 +47,13 @@ addUp counts t (suc n) = eqb (sumAt counts n) t && addUp counts t n
 unfoldable pub recordOk : ℕ → JournalRecord → Bool
 recordOk n r = leb (r .rounds) maxRounds && addUp (r .counts) (r .rounds) n
 
--- true rounds per thousand of t, nearest, halves up
+-- q or the number after it, whichever is nearer to q + r / t; where r is half of t, the even one (02, W7)
+abbrev pub nearest : ℕ → ℕ → ℕ → ℕ
+nearest q r t = cond (ltb (2 * r) t) q (cond (ltb t (2 * r)) (q + 1) (q + q % 2))
+
+-- true rounds per thousand of t, to the nearest, halves to the even number (02, W7)
 unfoldable pub share : ℕ → ℕ → ℕ
-share trues t = (2000 * trues + t) / (2 * t)
+share trues t = nearest (1000 * trues / t) (1000 * trues % t) t
 
 -- the two are one verdict: they have one place
 abbrev pub sameVerdict : Verdict → Verdict → Bool

@@ -102,10 +102,18 @@ pub fn with_round(r: JournalRecord, n: usize, verdicts: [Told; 7]) -> JournalRec
     }
 }
 
-// True rounds per thousand, nearest, halves up.
+// True rounds per thousand, to the nearest, halves to the even number.
 pub fn share_of(trues: u32, rounds: u32) -> u32
     requires { ⌜ (1 ≤ rounds) × (trues ≤ rounds) ⌝ }
     ensures { λ r. ⌜ r ≡ share trues rounds ⌝ }
 {
-    ((2000 * (trues as u64) + rounds as u64) / (2 * (rounds as u64))) as u32
+    let scaled = 1000 * (trues as u64);
+    let t = rounds as u64;
+    let q = (scaled / t) as u32;
+    let r = scaled % t;
+    // Beyond the half, or at the half and q is odd.
+    if t < 2 * r + (q % 2) as u64 {
+        return q + 1;
+    }
+    q
 }

@@ -33,7 +33,8 @@ pub struct Counts {
 pub struct Closing {
     /// The verdicts on the last round if nothing follows it.
     pub verdicts: Verdicts,
-    /// For each output the true rounds per thousand, to the nearest, halves up.
+    /// For each output the true rounds per thousand, to the nearest, and from half-way between two to the even
+    /// one: of 16 rounds 1 is 62 and 3 are 188.
     pub shares: Vec<u32>,
 }
 
@@ -133,6 +134,21 @@ mod tests {
         let counts = Counts { true_rounds: 2, false_rounds: 0, open_rounds: 2, broken_rounds: 1 };
         assert_eq!(journal.counts(0), Some(counts));
         assert_eq!([2, 6, 7, usize::MAX].map(|output| journal.counts(output)), [None; 4]);
+    }
+
+    /// 62 and a half, and 187 and a half, go to the even neighbour.
+    #[test]
+    fn shares_at_halves() {
+        for (true_rounds, expected) in [(1, 62), (3, 188)] {
+            let mut journal = session();
+            for round in 0..16 {
+                // Nothing is sent, which is true, or what no round has acknowledged yet, which is open.
+                journal.round(masks(3, if round < true_rounds { 0 } else { 1 })).unwrap();
+            }
+            let closing = journal.close().unwrap();
+            assert_eq!(journal.counts(0).unwrap().true_rounds, true_rounds);
+            assert_eq!(closing.shares[0], expected);
+        }
     }
 
     /// Sent and acknowledged, or neither; the masks that have both have every letter.

@@ -1,12 +1,12 @@
 -- The share is the one number that is nearest, and even at a half.
-use mathlib.Core.Path.{_≡_, refl, sym, _∙_}
+use mathlib.Core.Path.{_≡_, refl, sym, ap, _∙_}
 use Prim.Native.Nat.{ℕ, _+_, _*_, _/_, _%_, _≤_, _<_}
 use native.Mathlib.Omega.{arith}
 use native.Mathlib.Nat.{div-add-mod', mod-lt, div-eq-of-lt-le, le-of-mul-le-mul-right, mul-le-mul-right}
 use native.Mathlib.Decide.{decLt, ℕ-discrete}
 use Rattle.record.specs.Record.{share}
 use Rattle.record.proofs.Tallies.{share-down, share-up, share-half}
-use Rattle.claims.specs.Share.{Nearest, OneShare, halvesUp, OtherShares, HalfShares, ShareEnds, ShareExamples}
+use Rattle.claims.specs.Share.{Nearest, OneShare, halvesUp, OtherShares, HalfShares, HalvesBySixteen, ShareEnds, ShareExamples}
 
 -- ---- from a quotient q and its rest r
 
@@ -44,6 +44,13 @@ module _ (trues t q r : ℕ) (parts : q * t + r ≡ 1000 * trues) (rest : r < t)
   way-half s (down d e) h = absurd (omega arith)
   way-half s (up d e) h = absurd (omega arith)
   way-half s (half d e) h = rw (before-up (omega arith)) (omega arith)
+
+-- an odd multiple of t is even only if t is
+odd-times : (q t n : ℕ) → (2 * q + 1) * t ≡ 2 * n → (t ≡ 2 * (t / 2)) × ((2 * q + 1) * (t / 2) ≡ n)
+odd-times q t n e =
+    let even : t ≡ 2 * (t / 2) = omega arith in
+    let twice : (2 * q + 1) * (2 * (t / 2)) ≡ 2 * n = ap (λ (z : ℕ). (2 * q + 1) * z) (sym even) ∙ e in
+    (even, omega arith)
 
 -- ---- of the share
 
@@ -103,6 +110,19 @@ other-shares trues t h = share-before trues t h
 
 pub half-shares : HalfShares
 half-shares trues t h = share-at-half trues t h
+
+pub halves-by-sixteen : HalvesBySixteen
+halves-by-sixteen trues t h e =
+    let q = 1000 * trues / t in
+    let whole : (2 * q + 1) * t ≡ 2 * (1000 * trues) = omega (arith, parts trues t h) in
+    let two = odd-times q t (1000 * trues) whole in
+    let four = odd-times q (t / 2) (500 * trues) (two .1 ∙ omega arith) in
+    let eight = odd-times q (t / 2 / 2) (250 * trues) (four .1 ∙ omega arith) in
+    let sixteen = odd-times q (t / 2 / 2 / 2) (125 * trues) (eight .1 ∙ omega arith) in
+    multiple t (t / 2) (t / 2 / 2) (t / 2 / 2 / 2) (t / 2 / 2 / 2 / 2) (two .0) (four .0) (eight .0) (sixteen .0)
+  where
+    multiple : (a b c d e : ℕ) → a ≡ 2 * b → b ≡ 2 * c → c ≡ 2 * d → d ≡ 2 * e → a % 16 ≡ 0
+    multiple a b c d e ab bc cd de = omega arith
 
 pub share-ends : ShareEnds
 share-ends trues t h few = record {

@@ -29,6 +29,10 @@ OtherShares = (trues t : ℕ) → 1 ≤ t → (2 * (1000 * trues % t) ≡ t → 
 abbrev pub HalfShares : Type 0
 HalfShares = (trues t : ℕ) → 1 ≤ t → 2 * (1000 * trues % t) ≡ t → halvesUp trues t ≡ share trues t + halvesUp trues t % 2
 
+-- Only multiples of 16 rounds have a half.
+abbrev pub HalvesBySixteen : Type 0
+HalvesBySixteen = (trues t : ℕ) → 1 ≤ t → 2 * (1000 * trues % t) ≡ t → t % 16 ≡ 0
+
 -- If no more rounds are true than there are, the share is at most 1000; it is 1000 exactly if at most half a thousandth of them is missing, and 0
 -- exactly if at most half a thousandth is there.
 pub record Ends (trues t : ℕ) : Type 0 where

@@ -11,13 +11,6 @@ pub fn share(true_rounds: u32, rounds: u32) -> u32 {
     (0..=1000).min_by_key(|&number| (away(number), number % 2)).expect("a number")
 }
 
-/// As the first release had it, halves up: the greatest whole number that is at most the exact share and a
-/// half.
-pub fn with_halves_up(true_rounds: u32, rounds: u32) -> u32 {
-    let twice = 2000 * true_rounds as u64 + rounds as u64;
-    (0..=1000).rev().find(|&number| 2 * number as u64 * rounds as u64 <= twice).expect("at least 0")
-}
-
 /// The number below, if the exact share is a half.
 pub fn below_half(true_rounds: u32, rounds: u32) -> Option<u32> {
     let twice = |number: u32| (2 * number + 1) as u64 * rounds as u64;
@@ -49,6 +42,13 @@ pub fn cases() -> Vec<(u32, Vec<u32>)> {
 #[cfg(test)]
 mod tests {
     use super::*;
+
+    /// As the first release had it, halves up: the greatest whole number that is at most the exact share and a
+    /// half.
+    fn with_halves_up(true_rounds: u32, rounds: u32) -> u32 {
+        let twice = 2000 * true_rounds as u64 + rounds as u64;
+        (0..=1000).rev().find(|&number| 2 * number as u64 * rounds as u64 <= twice).expect("at least 0")
+    }
 
     #[test]
     fn by_hand() {

@@ -134,7 +134,10 @@ uint32_t jigwaret_evaluate(const uint8_t *sheet, size_t sheet_len,
                            uint8_t *out, size_t out_len);
 
 /* Prepares storage for a journal of the sheet, whatever it held, and makes the record a fresh one.
- * answer[0] is the number of live pairs. */
+ * answer[0] is the number of live pairs, answer[1] the exact reach: the most further rounds that any
+ * live pair needs to its end. A journal of one round or more that can be completed at all can be
+ * completed with at most so many more. answer[2] and those behind it keep their contents; so did
+ * answer[1] in releases before the reach was told. */
 uint32_t jigwaret_prepare(const uint8_t *sheet, size_t sheet_len,
                           uint64_t *storage, size_t storage_len,
                           uint32_t *record, size_t record_len,

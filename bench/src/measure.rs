@@ -47,7 +47,7 @@ pub struct PreparationTimes {
     pub inputs: usize,
     pub outputs: usize,
     pub live_pairs: u32,
-    pub reach: usize,
+    pub reach: u32,
     pub times: MonitorTimes,
 }
 
@@ -129,9 +129,9 @@ impl Subject<'_> {
         let kept = Journal::prepare(Sheet::accept(sheet).expect("accepted by the others"));
         let straightforward = straightforward::Monitor::new(sheet).expect("accepted by the others");
         let tabled = Monitor::new(sheet).expect("accepted by the others");
-        let live = prepared.answer[0] as usize;
+        let [live, reach] = [0, 1].map(|number| prepared.answer[number] as usize);
         assert_eq!((straightforward.live.len(), tabled.live.count()), (live, live), "{name}");
-        assert_eq!((kept.live_pairs as usize, kept.reach), (live, tabled.reach), "{name}");
+        assert_eq!((kept.live_pairs as usize, kept.reach, tabled.reach), (live, reach, reach), "{name}");
         Subject { workload, prepared, kept, straightforward, tabled }
     }
 
@@ -153,7 +153,7 @@ impl Subject<'_> {
             inputs: self.inputs(),
             outputs: self.tabled.sheet.outputs(),
             live_pairs: self.prepared.answer[0],
-            reach: self.tabled.reach,
+            reach: self.prepared.answer[1],
             times: MonitorTimes { proved, fast, straightforward, tabled },
         }
     }

@@ -225,7 +225,7 @@ mod tests {
         for case in cases::sheets() {
             assert_eq!(Monitor::new(&case.sheet).err().unwrap_or(0), case.number, "{}", case.name);
         }
-        for case in cases::live_counts() {
+        for case in cases::preparations() {
             assert_eq!(Monitor::new(&case.sheet).unwrap().live.len(), case.live, "{}", case.name);
         }
         [cases::counter(), cases::register()].iter().for_each(|sheet| drop(both(sheet)));

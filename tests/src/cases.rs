@@ -42,10 +42,13 @@ pub struct SessionCase {
     pub written: &'static str,
 }
 
-pub struct LiveCount {
+pub struct Preparation {
     pub name: &'static str,
     pub sheet: Vec<u8>,
+    /// How many pairs are live.
     pub live: usize,
+    /// The greatest, over these, of the fewest further rounds to the end.
+    pub reach: usize,
 }
 
 pub struct JournalRefusal {
@@ -749,41 +752,59 @@ fn alternative_journals() -> Vec<Lines> {
     ]
 }
 
-pub fn live_counts() -> Vec<LiveCount> {
+/// No further round: only pairs with the end are live. One: what follows may be the last round. Two: an
+/// output reads the next round, and is now what no last round has.
+pub fn preparations() -> Vec<Preparation> {
     let cases = vec![
-        ("example k", plain(1, &["40"]), 12),
-        ("example k as the assumption", assuming(1, 0, &["40"]), 4),
-        ("example j", assuming(1, 0, &["00"]), 2),
-        ("no trace may end", assuming(1, 0, &["60 68 02 04"]), 2),
-        ("session sheet", session_sheet(), 44),
-        ("128 valuations, 64 of which satisfy", plain(6, &["40"]), 128 + 128 * 64),
-        ("256 valuations, 2 of which satisfy", counts(1, 7, 255), 256 + 256 * 2),
-        ("256 valuations, 64 of which satisfy", counts(6, 2, 255), 256 + 256 * 64),
-        ("all pairs of 4 valuations", plain(1, &["60"]), 4 * 5),
-        ("all pairs of 256 valuations", plain(6, &["60", "61"]), 65_792),
-        ("label and till are alike", version_2(plain(2, &["40 41 05"])), 8 + 8 * 4),
-        ("label and till are assumed alike", version_2(assuming(2, 0, &["40 41 05"])), 4 + 4 * 2),
-        ("a signal is alike with itself", version_2(plain(1, &["40 40 05"])), 4 + 4 * 2),
-        ("a signal is assumed alike with itself", version_2(assuming(1, 0, &["40 40 05"])), 2 + 2 * 2),
-        ("a signal is assumed alike with its negation", version_2(assuming(1, 0, &["40 40 02 05"])), 2),
-        ("assumed as one round earlier", version_2(assuming(1, 0, &["40 50 05"])), 2 + 2),
-        ("all pairs of 8 valuations", version_2(plain(2, &["60 61 05"])), 8 * 9),
+        ("example k", plain(1, &["40"]), 12, 1),
+        ("example k as the assumption", assuming(1, 0, &["40"]), 4, 1),
+        ("example j", assuming(1, 0, &["00"]), 2, 0),
+        ("no trace may end", assuming(1, 0, &["60 68 02 04"]), 2, 0),
+        ("session sheet", session_sheet(), 44, 2),
+        ("128 valuations, 64 of which satisfy", plain(6, &["40"]), 128 + 128 * 64, 1),
+        ("256 valuations, 2 of which satisfy", counts(1, 7, 255), 256 + 256 * 2, 1),
+        ("256 valuations, 64 of which satisfy", counts(6, 2, 255), 256 + 256 * 64, 1),
+        ("all pairs of 4 valuations", plain(1, &["60"]), 4 * 5, 2),
+        ("all pairs of 256 valuations", plain(6, &["60", "61"]), 65_792, 2),
+        ("label and till are alike", version_2(plain(2, &["40 41 05"])), 8 + 8 * 4, 1),
+        ("label and till are assumed alike", version_2(assuming(2, 0, &["40 41 05"])), 4 + 4 * 2, 1),
+        ("a signal is alike with itself", version_2(plain(1, &["40 40 05"])), 4 + 4 * 2, 1),
+        ("a signal is assumed alike with itself", version_2(assuming(1, 0, &["40 40 05"])), 2 + 2 * 2, 1),
+        ("a signal is assumed alike with its negation", version_2(assuming(1, 0, &["40 40 02 05"])), 2, 0),
+        ("assumed as one round earlier", version_2(assuming(1, 0, &["40 50 05"])), 2 + 2, 1),
+        ("all pairs of 8 valuations", version_2(plain(2, &["60 61 05"])), 8 * 9, 2),
+        // In a trace output 0 is always false, and so is output 1, which nothing has to wait for. After a
+        // valuation that has output 0, the second valuation may have output 1, for which a third one is needed.
+        ("further from pairs than from traces", plain(1, &["51", "41 60 03"]), 8 + 4 * 2 + 4 * 4, 2),
+        ("a counter of 64 rounds", counter(), 2 * 64 + 2 * 64 * 2, 64),
     ];
-    cases.into_iter().map(|(name, sheet, live)| LiveCount { name, sheet, live }).collect()
+    cases.into_iter().map(|(name, sheet, live, reach)| Preparation { name, sheet, live, reach }).collect()
 }
 
 /// Six outputs count the rounds before this one, output 0 lowest, and no trace may end unless all
 /// are true: 64 rounds are the fewest.
 pub fn counter() -> Vec<u8> {
+    counter_to(6, 63)
+}
+
+/// The same with so many outputs, and traces that may end at one value alone.
+pub fn counter_to(bits: usize, last: usize) -> Vec<u8> {
     let earlier = |output: usize| byte_of_read(1 + output, -1, false);
     let mut expressions = vec![bytes("59 02")];
-    for output in 1..6 {
+    for output in 1..bits {
         let mut carry: Vec<u8> = (0..output).map(earlier).collect();
         carry.extend(vec![0x03; output - 1]);
         expressions.push(differs(&[earlier(output)], &carry));
     }
-    expressions.push(bytes("60 68 02 04 41 42 43 44 45 46 03 03 03 03 03 04"));
-    write(1, 6, &expressions)
+    let mut goes_on_or_ends = bytes("60 68 02 04");
+    for output in 0..bits {
+        goes_on_or_ends.push(byte_of_read(1 + output, 0, false));
+        goes_on_or_ends.extend((last >> output & 1 == 0).then_some(0x02));
+    }
+    goes_on_or_ends.extend(vec![0x03; bits - 1]);
+    goes_on_or_ends.push(0x04);
+    expressions.push(goes_on_or_ends);
+    write(1, bits as u8, &expressions)
 }
 
 /// Six inputs of two rounds make a shift register of 12 bits: the assumption moves input i to input

@@ -190,7 +190,7 @@ fn prepare(monitor: &Result<Monitor, u32>, held: &mut Held) -> Result<(), u32> {
     held.storage[..SET_WORDS].copy_from_slice(&monitor.live.to_words());
     held.storage[SET_WORDS..STORAGE_WORDS].fill(0);
     held.record.fill(0);
-    held.answer[0] = monitor.live.count() as u32;
+    held.answer[..2].copy_from_slice(&[monitor.live.count() as u32, monitor.reach as u32]);
     Ok(())
 }
 
@@ -306,10 +306,10 @@ mod tests {
     }
 
     #[test]
-    fn explicit_live_counts() {
-        for case in cases::live_counts() {
+    fn explicit_preparations() {
+        for case in cases::preparations() {
             let monitor = Monitor::new(&case.sheet).unwrap();
-            assert_eq!(monitor.live.count(), case.live, "{}", case.name);
+            assert_eq!((monitor.live.count(), monitor.reach), (case.live, case.reach), "{}", case.name);
         }
     }
 

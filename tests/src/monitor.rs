@@ -234,6 +234,21 @@ fn live(sheet: &Sheet, equations: &Table) -> (Pairs, usize) {
     (live, layers - 1)
 }
 
+/// Whether b starts a list of at most so many valuations, after a, as the definition of live pairs wants
+/// it, by trying all lists.
+pub fn starts_a_list(sheet: &Sheet, a: usize, b: usize, longest: usize) -> bool {
+    let holds = |c: Option<u8>| {
+        (0..sheet.outputs()).all(|k| {
+            let value = language::value(&sheet.expressions[k], Some(a as u8), b as u8, c);
+            (b >> (sheet.inputs + k) & 1 == 1) == value
+        })
+    };
+    if longest == 0 || !assumed(sheet, b) {
+        return false;
+    }
+    holds(None) || (0..size(sheet)).any(|c| holds(Some(c as u8)) && starts_a_list(sheet, b, c, longest - 1))
+}
+
 /// The letters that each round may have been, over these rounds and so many further ones.
 fn choices(sheet: &Sheet, rounds: &[LetterSet], further: usize) -> Vec<Vec<u8>> {
     let free = std::iter::repeat_n(LetterSet::all(sheet.inputs), further);
@@ -309,22 +324,6 @@ mod tests {
                 assert_eq!(monitor.equations.get(a, b, c), expected, "{}", hex(&bytes));
             }
         }
-    }
-
-    /// Whether b starts a list of at most `longest` valuations, after a, as the definition of live
-    /// pairs wants it.
-    fn starts_a_list(sheet: &Sheet, a: usize, b: usize, longest: usize) -> bool {
-        let size = size(sheet);
-        let holds = |c: Option<u8>| {
-            (0..sheet.outputs()).all(|k| {
-                let value = language::value(&sheet.expressions[k], Some(a as u8), b as u8, c);
-                (b >> (sheet.inputs + k) & 1 == 1) == value
-            })
-        };
-        if longest == 0 || !assumed(sheet, b) {
-            return false;
-        }
-        holds(None) || (0..size).any(|c| holds(Some(c as u8)) && starts_a_list(sheet, b, c, longest - 1))
     }
 
     #[test]

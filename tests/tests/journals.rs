@@ -163,7 +163,8 @@ impl<'a> Kept<'a> {
     fn new(subject: &'a Subject, mut held: Held) -> Kept<'a> {
         assert_eq!(subject.agree(&mut held, Call::Prepare), 0);
         assert_eq!(held.record, [0; 30]);
-        assert_eq!(held.answer[0] as usize, subject.accepted().live.count());
+        let found = subject.accepted();
+        assert_eq!(held.answer[..2], [found.live.count() as u32, found.reach as u32]);
         Kept { subject, book: Book::new(subject.accepted()), held }
     }
 
@@ -204,7 +205,7 @@ fn whole_session() {
     let sheet = cases::session_sheet();
     let mut held = Held { storage: vec![u64::MAX; STORAGE_WORDS], record: vec![9; 30], answer: vec![9; 16] };
     assert_eq!(call(&sheet, &mut held, Call::Prepare), 0);
-    assert_eq!((held.record.clone(), held.answer[0]), (vec![0; 30], 44));
+    assert_eq!((held.record.clone(), &held.answer[..3]), (vec![0; 30], &[44, 2, 9][..]));
     let rounds = [("10", [2, 1]), ("?1", [1, 1]), ("1?", [2, 1]), ("00", [1, 1]), ("01", [3, 3])];
     for (line, verdicts) in rounds {
         assert_eq!(call(&sheet, &mut held, call_of_line(line)), 0);
@@ -238,13 +239,13 @@ fn explicit_journals() {
 }
 
 #[test]
-fn explicit_live_counts() {
-    for case in cases::live_counts() {
+fn explicit_preparations() {
+    for case in cases::preparations() {
         let subject = Subject::new(case.sheet);
         for fill in [0, u64::MAX, 0xA5A5_A5A5_A5A5_A5A5] {
             let mut held = Held { storage: vec![fill; STORAGE_WORDS + 1], ..Held::fresh() };
             assert_eq!(subject.agree(&mut held, Call::Prepare), 0, "{}", case.name);
-            assert_eq!(held.answer[0] as usize, case.live, "{}", case.name);
+            assert_eq!(held.answer[..2], [case.live as u32, case.reach as u32], "{}", case.name);
             let ones: u32 = held.storage[..STORAGE_WORDS].iter().map(|word| word.count_ones()).sum();
             assert_eq!(ones as usize, case.live, "{}", case.name);
         }

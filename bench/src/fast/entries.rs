@@ -45,9 +45,10 @@ fn try_prepare(bytes: &[u8], storage: &mut [u64], record: &mut [u32], answer: &m
     live.fill(0);
     reached.fill(0);
     scratch.fill(0);
-    find_live(&sheet, live, reached, scratch);
+    let reach = find_live(&sheet, live, reached, scratch);
     record.fill(0);
     answer[0] = count(live);
+    answer[1] = reach as u32;
     Ok(())
 }
 

@@ -99,8 +99,9 @@ fn explicit_calls() {
         let mut held = case.held.clone();
         assert_eq!(agree(&case.sheet, &Monitor::new(&case.sheet), &mut held, case.call), case.number, "{}", case.name);
     }
-    for case in cases::live_counts() {
-        assert_eq!(Journal::prepare(Sheet::accept(&case.sheet).unwrap()).live_pairs as usize, case.live);
+    for case in cases::preparations() {
+        let journal = Journal::prepare(Sheet::accept(&case.sheet).unwrap());
+        assert_eq!((journal.live_pairs as usize, journal.reach), (case.live, case.reach), "{}", case.name);
     }
 }
 

@@ -10,6 +10,7 @@ use Rattle.record.specs.declared.JournalRecord.{JournalRecord}
 use Rattle.completions.specs.Live.{Pairs}
 use Rattle.completions.specs.Steps.{Within, Represents}
 use Rattle.completions.proofs.Count.{Subset, pairs-same}
+use Rattle.completions.proofs.ExactReach.{one-reach}
 use Rattle.pairs.specs.Storage.{stored, setWords, reachedAt, scratchAt, storageWords, live}
 use Rattle.effects.specs.Results.{Zero}
 use Rattle.claims.specs.Further.{StorageForgotten}
@@ -37,5 +38,6 @@ storage-forgotten x s s′ t t′ a a′ d d′ =
         same-scratch = λ b c hb hc. empty-same t t′ (d .empty) (d′ .empty) scratchAt b c hb hc (omega arith) (omega arith);
       },
       d .count ∙ pairs-same 256 (live t) (live t′) there back ∙ sym (d′ .count),
+      one-reach x (a .reach) (a′ .reach) (d .reach) (d′ .reach),
       fresh-same (a .record) (a′ .record) (d .fresh) (d′ .fresh),
     )

@@ -1,21 +1,24 @@
 -- Proofs of the further sentences.
-use mathlib.Core.List.{List, [], _∷_, _++_, map}
+use mathlib.Core.Path.{_≡_, refl}
+use mathlib.Core.List.{List, [], _∷_, _++_}
 use Prim.Native.Nat.{ℕ, _≤_}
 use native.Mathlib.Omega.{arith}
-use lib.ListN.{length, length-map}
-use Rattle.sheet.specs.RuleSheet.{outputs}
-use Rattle.lola.specs.Equations.{output, letter}
+use lib.Dec.{T}
+use lib.ListN.{length}
+use Rattle.sheet.specs.RuleSheet.{RuleSheet, outputs, accepted, readSheet}
+use Rattle.sheet.proofs.Formed.{assumed-of, read-formed}
+use Rattle.lola.specs.Equations.{output}
 use Rattle.record.proofs.Tallies.{RecordOk, record-is}
-use Rattle.completions.specs.Live.{Pairs, Live}
+use Rattle.completions.specs.Live.{allowed, Live, Pairs}
 use Rattle.completions.specs.Completion.{LetterSet, Match, Completion, Closing}
 use Rattle.completions.specs.Judged.{Judged, inRound, RoundVerdict, ClosingVerdict}
 use Rattle.completions.specs.Steps.{Represents}
 use Rattle.completions.proofs.Verdicts.{one-verdict}
-use Rattle.completions.proofs.Letters.{onLetter, onLetters, completion-of, run-of}
-use Rattle.completions.proofs.Backward.{liveWithin, settled-exact, settles, prefix-short, small-256}
-use Rattle.completions.proofs.Range.{wider}
+use Rattle.completions.proofs.Backward.{liveWithin, settled-exact, settles, small-256}
+use Rattle.completions.proofs.Range.{wider, some-allowed}
+use Rattle.completions.proofs.ExactReach.{one-reach, end-needs-none, some-reach, reach-below, completed-within, reach-of}
 use Rattle.effects.specs.Results.{width}
-use Rattle.claims.specs.Further.{LiveSet, OneVerdict, SomeVerdict, StaysBroken, ShortCompletion, StaysInOrder}
+use Rattle.claims.specs.Further.{LiveSet, OneVerdict, SomeVerdict, StaysBroken, OneReach, SomeReach, EndNeedsNone, ReachBelow, WithinReach, ShortCompletion, StaysInOrder}
 use Rattle.claims.proofs.BookLaws.{reached-by, reaches-round, reaches-closing}
 use Rattle.claims.proofs.ThirdDemand.{began, after-calls}
 
@@ -49,10 +52,35 @@ unfolding RoundVerdict Judged
 stays-broken x rs r k j h ls c =
     h ls (record { some-round = c .some-round; letters = c .letters; starts = match-less rs r ls (c .starts); trace = c .trace; of = c .of; satisfies = c .satisfies; keeps = c .keeps })
 
+-- ---- the exact reach
+
+valuation : (bs : List ℕ) (x : RuleSheet) → readSheet bs ≡ accepted x → (a : ℕ) × T (allowed x a)
+valuation bs x e = let (a, f, b) = assumed-of bs x e in some-allowed x a f b
+
+pub one-exact-reach : OneReach
+one-exact-reach = one-reach
+
+pub some-exact-reach : SomeReach
+some-exact-reach bs x e = let v = valuation bs x e in some-reach x 256 (small-256 x (read-formed bs x e .ranges .streams)) (v .0) (v .1)
+
+pub end-mark : EndNeedsNone
+end-mark = record {
+  no-round = λ x a h. omega (arith, end-needs-none x a h);
+  some-end = λ bs x e. let v = valuation bs x e in (v .0, record { from = v .1; rest = []; starts = refl; satisfies = tt });
+}
+
+pub reach-bounded : ReachBelow
+reach-bounded x few = reach-below x 256 (small-256 x few)
+
+pub within-reach : WithinReach
+within-reach x n p r rs ls c = let z = completed-within x r rs ls c n p in (z .0, z .1, omega (arith, z .2))
+
+-- so the older bound holds
 pub short-completion : ShortCompletion
-short-completion x small L live r rs ls c =
-    let z = prefix-short x 256 (small-256 x small) L live (onLetter x r) (onLetters x rs) (c .trace) (run-of x (r ∷ rs) ls c) in
-    (map (letter x) (z .0), completion-of x (r ∷ rs) (z .0) (z .1), omega (arith, z .2, length-map (z .0) (letter x), length-map rs (onLetter x)))
+short-completion x few L live r rs ls c =
+    let (n, p) = reach-of x r rs ls c 256 (small-256 x few) in
+    let z = within-reach x n p r rs ls c in
+    (z .0, z .1, omega (arith, z .2, reach-bounded x few L live n p))
 
 pub stays-in-order : StaysInOrder
 stays-in-order bs s t p z o cs as′ h run =

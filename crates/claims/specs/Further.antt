@@ -1,10 +1,10 @@
--- Further sentences of 01, "The sheet", "Completions and verdicts" and "Tallies", and of 02, W1 and W4, as types.
+-- Further sentences of 01, "The sheet", "Completions and verdicts" and "Tallies", and of 02, W1, W4 and W13, as types.
 -- Manual: "The sheet", "Completions and verdicts", "Preparation", "Tallies".
 use mathlib.Core.Path.{_≡_}
 use mathlib.Core.Bool.{false}
 use mathlib.Core.List.{List, [], _∷_, _++_, map}
 use mathlib.Core.Logic.{_↔_}
-use mathlib.Core.Option.{Option}
+use mathlib.Core.Option.{Option, none}
 use Prim.Native.Nat.{ℕ, _+_, _≤_, _<_}
 use lib.ListN.{length, getD}
 use Rattle.outcomes.specs.declared.Verdict.{Verdict}
@@ -16,7 +16,7 @@ use Rattle.sheet.specs.Postfix.{InSheet}
 use Rattle.sheet.specs.RuleSheet.{RuleSheet, outputs, streams, accepted, readSheet}
 use Rattle.circular.specs.SheetChecks.{OfSheet}
 use Rattle.record.specs.Record.{maxRounds, sumAt}
-use Rattle.completions.specs.Live.{Pairs, Live, countPairs}
+use Rattle.completions.specs.Live.{Live, ExactReach, Pairs, countPairs}
 use Rattle.completions.specs.Completion.{LetterSet, members, masked, Completion}
 use Rattle.completions.specs.Judged.{RoundVerdict, ClosingVerdict}
 use Rattle.completions.specs.Steps.{Represents, Within, pairsWithin}
@@ -72,6 +72,28 @@ OneBook =
     (x : RuleSheet) (b b₁ b₂ : Book) (cs : List Call) (as₁ as₂ : List Answer)
     → BookRun x b cs as₁ b₁ → BookRun x b cs as₂ b₂ → (as₁ ≡ as₂) × (b₁ ≡ b₂)
 
+-- no two numbers are the exact reach of a sheet, and every sheet that is read has one (02, W13)
+abbrev pub OneReach : Type 0
+OneReach = (x : RuleSheet) (r r′ : ℕ) → ExactReach x r → ExactReach x r′ → r ≡ r′
+
+abbrev pub SomeReach : Type 0
+SomeReach = (bs : List ℕ) (x : RuleSheet) → readSheet bs ≡ accepted x → (r : ℕ) × ExactReach x r
+
+-- a live pair with the end mark needs no further round, and every sheet that is read has such a pair (02, W13)
+pub record EndNeedsNone : Type 0 where
+  pub no-round : (x : RuleSheet) (a : ℕ) (h : Live x a none) → length (h .rest) ≡ 0
+  pub some-end : (bs : List ℕ) (x : RuleSheet) → readSheet bs ≡ accepted x → (a : ℕ) × Live x a none
+
+-- the exact reach is below the number of live pairs, which are those of L (02, W13)
+abbrev pub ReachBelow : Type 0
+ReachBelow = (x : RuleSheet) → streams x ≤ 8 → (L : Pairs) → Represents 256 L (Live x) → (r : ℕ) → ExactReach x r → r < countPairs 256 L
+
+-- a prefix of one or more rounds that has a completion has one with at most as many further rounds as the exact reach (02, W13)
+abbrev pub WithinReach : Type 0
+WithinReach =
+    (x : RuleSheet) (n : ℕ) → ExactReach x n → (r : LetterSet) (rs : List LetterSet) (ls : List ℕ) → Completion x (r ∷ rs) ls
+    → (ms : List ℕ) × Completion x (r ∷ rs) ms × (length ms ≤ length (r ∷ rs) + n)
+
 -- a prefix of one or more rounds that has a completion has one with fewer further rounds than there are live pairs, which are those of L
 abbrev pub ShortCompletion : Type 0
 ShortCompletion =
@@ -99,11 +121,11 @@ pub record SameSets (t t′ : List ℕ) : Type 0 where
   pub same-scratch : (b : ℕ) (c : Option ℕ) → b < 256 → Within 256 c → scratch t b c ≡ scratch t′ b c
 
 -- nothing hangs on what the storage held before preparation (01, "Completions and verdicts"): two preparations of a sheet, on any storages s and
--- s′, leave the same sets and answer with the same number of live pairs and the same record
+-- s′, leave the same sets and answer with the same number of live pairs, the same reach (02, W13) and the same record
 abbrev pub StorageForgotten : Type 0
 StorageForgotten =
     (x : RuleSheet) (s s′ t t′ : List ℕ) (a a′ : PrepareAnswer) → Prepared x s t a → Prepared x s′ t′ a′
-    → SameSets t t′ × (a .live ≡ a′ .live) × (a .record ≡ a′ .record)
+    → SameSets t t′ × (a .live ≡ a′ .live) × (a .reach ≡ a′ .reach) × (a .record ≡ a′ .record)
 
 -- P holds of what is held after one accepted preparation and any calls with the same sheet
 abbrev pub AfterCalls : (RuleSheet → Held → Type 0) → Type 0

@@ -1,21 +1,19 @@
--- The backward search finds exactly the live pairs, and fewer rounds than there are live pairs are enough.
+-- The backward search finds exactly the live pairs, and from each of them fewer rounds than there are live pairs are enough.
 use mathlib.Core.Bool.{Bool, false, not, _&&_}
 use mathlib.Core.Logic.{_⊎_, inl, inr}
 use mathlib.Core.Path.{_≡_, refl, _∙_}
-use mathlib.Core.List.{List, [], _∷_, _++_}
+use mathlib.Core.List.{List, [], _∷_}
 use mathlib.Core.Option.{Option, none, some}
 use Prim.Native.Nat.{ℕ, zero, suc, _+_, _*_, _^_, _≤_, _<_}
 use native.Mathlib.Omega.{arith}
 use lib.Dec.{T}
 use lib.Pow.{pow-mono}
-use lib.ListN.{length, getElem?, take, length-append, length-take}
+use lib.ListN.{length}
 use Rattle.words.proofs.Tests.{and-left, and-right, and-both, either, not-both}
 use Rattle.sheet.specs.RuleSheet.{RuleSheet, streams}
 use Rattle.lola.specs.Equations.{holds, first}
 use Rattle.completions.specs.Live.{allowed, Follows, Live, countPairs, Pairs}
 use Rattle.completions.specs.Steps.{anyNext, anyPair, Within, Represents}
-use Rattle.completions.proofs.Runs.{Round, Agrees, Run}
-use Rattle.completions.proofs.Follow.{live-at, graft, agrees-graft, agrees-some, last-there}
 use Rattle.completions.proofs.Search.{next-found, next-from, pair-found, pair-from}
 use Rattle.completions.proofs.Range.{allowed-within, first-within, live-within}
 use Rattle.completions.proofs.Count.{Subset, pairs-lt, pairs-bound, pairs-same, pairs-wider}
@@ -150,7 +148,7 @@ module _ (s : RuleSheet) (w : ℕ) where
         go (inl x) = x
         go (inr l) = absurd (omega (arith, pairs-bound w (liveWithin s w (suc (w * 1 + w * (w * 1))))))
 
-    -- ---- so a live pair is live by a list that is shorter than the number of live pairs, and a completion can be cut short
+    -- ---- so a live pair is live by a list that is shorter than the number of live pairs
 
     module _ (L : Pairs) (live : Represents w L (Live s)) where
       some-pair : (a : ℕ) → T (allowed s a) → 0 < size 0
@@ -168,24 +166,6 @@ module _ (s : RuleSheet) (w : ℕ) where
           let x : (e : ℕ) × Found e = settles in
           let y : LiveBy s (x .0) a b = all-short (x .0) (x .1 .0) a b h in
           (y .0, omega (arith, y .1, x .1 .1, some-pair a (h .from), same-count (x .0) (x .1 .0)))
-
-      -- A prefix of one or more rounds that has a completion has one with fewer further rounds than there are live pairs.
-      pub prefix-short : (q : Round) (qs : List Round) (vs : List ℕ) → Run s (q ∷ qs) vs
-          → (ws : List ℕ) × Run s (q ∷ qs) ws × (length ws < length (q ∷ qs) + countPairs w L)
-      prefix-short q qs vs done =
-          let b : (b : ℕ) × (getElem? vs (length qs) ≡ some b) = last-there q qs vs (done .starts) in
-          let x : (h : Live s (b .0) (getElem? vs (suc (length qs)))) × (length (h .rest) < countPairs w L)
-          = live-short (b .0) (getElem? vs (suc (length qs))) (live-at s none vs (length qs) (done .satisfies) (b .1)) in
-          let ws : List ℕ = take (suc (length qs)) vs ++ x .0 .rest in
-          let g : Agrees (q ∷ qs) ws = agrees-graft (q ∷ qs) vs (x .0 .rest) (done .starts) in (
-            ws,
-            record {
-              some-round = agrees-some q qs ws g;
-              satisfies = graft s none vs (length qs) (x .0 .rest) (done .satisfies) (b .1) (x .0 .starts) (x .0 .satisfies);
-              starts = g;
-            },
-            omega (arith, x .1, length-append (take (suc (length qs)) vs) (x .0 .rest), length-take (suc (length qs)) vs),
-          )
 
 -- The number of live pairs, counted over any bound that holds the valuations, is what a settled search among just the valuations finds.
 module _ (s : RuleSheet) (d : ℕ) (settled : Settled s (2 ^ streams s) d) where

@@ -8,3 +8,4 @@ pub mod Steps
 pub mod Count
 pub mod Backward
 pub mod Letters
+pub mod ExactReach

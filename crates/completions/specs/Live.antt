@@ -1,11 +1,12 @@
--- Live pairs (01, "Completions and verdicts"): a valuation with a valuation or the end mark (none).
+-- Live pairs (01, "Completions and verdicts"), a valuation with a valuation or the end mark (none), and how far they are from the end (02, W13).
 -- Manual: "Preparation".
 use mathlib.Core.Bool.{Bool, true, _&&_}
 use mathlib.Core.Path.{_≡_}
 use mathlib.Core.List.{List, [], _∷_}
 use mathlib.Core.Option.{Option, none, some}
-use Prim.Native.Nat.{ℕ, _+_, _^_}
+use Prim.Native.Nat.{ℕ, _+_, _^_, _≤_}
 use lib.Dec.{T, ltb}
+use lib.ListN.{length}
 use Rattle.words.specs.Below.{sumBelow, countBelow}
 use Rattle.sheet.specs.RuleSheet.{RuleSheet, streams}
 use Rattle.lola.specs.Equations.{holds, first, output}
@@ -35,6 +36,11 @@ pub record Live (x : RuleSheet) (a : ℕ) (b : Option ℕ) : Type 0 where
   pub rest : List ℕ
   pub starts : first rest ≡ b
   pub satisfies : Follows x (some a) rest
+
+-- r is the exact reach (02, W13): from every live pair the end comes within r further rounds, and from one of them not sooner
+pub record ExactReach (x : RuleSheet) (r : ℕ) : Type 0 where
+  pub enough : (a : ℕ) (b : Option ℕ) → Live x a b → (h : Live x a b) × (length (h .rest) ≤ r)
+  pub needed : (a : ℕ) × (b : Option ℕ) × Live x a b × ((h : Live x a b) → r ≤ length (h .rest))
 
 -- a set of pairs
 abbrev pub Pairs : Type 0

@@ -13,7 +13,7 @@ use Rattle.sheet.specs.RuleSheet.{RuleSheet, outputs, streams}
 use Rattle.lola.specs.Equations.{output, letter}
 use Rattle.record.specs.Record.{Fresh, Counted, countAt, share}
 use Rattle.record.specs.declared.JournalRecord.{JournalRecord}
-use Rattle.completions.specs.Live.{Pairs, Live, countPairs}
+use Rattle.completions.specs.Live.{Pairs, Live, ExactReach, countPairs}
 use Rattle.completions.specs.Completion.{LetterSet}
 use Rattle.completions.specs.Steps.{Within, Represents, startSet, stepSet, pairsVerdict, endsVerdict, pairsWithin}
 use Rattle.pairs.specs.Storage.{storageWords, used, live, maxPairs, reached, reachedAt, scratch}
@@ -47,13 +47,15 @@ pub record Kept (s t : List ℕ) : Type 0 where
 abbrev pub Zero : ℕ → ℕ → List ℕ → Type 0
 Zero from to t = (k : ℕ) → from ≤ k → k < to → getD t k 0 ≡ 0
 
--- Preparation: the live set is the set of all live pairs, the other two are empty, and the number returned is that of the live pairs.
+-- Preparation: the live set is the set of all live pairs, the other two are empty, and the numbers returned are that of the live pairs and their
+-- exact reach (02, W13).
 pub record Prepared (x : RuleSheet) (s t : List ℕ) (a : PrepareAnswer) : Type 0 where
   pub kept : Kept s t
   pub lives : Represents 256 (live t) (Live x)
   pub empty : Zero reachedAt storageWords t
   pub count : a .live ≡ countPairs 256 (live t)
   pub bound : a .live ≤ maxPairs
+  pub reach : ExactReach x (a .reach)
   pub fresh : Fresh (a .record)
 
 -- A round whose letter is in the set h: the reached set makes one step, each output's verdict is read off it and counted. Of the scratch set the

@@ -18,11 +18,12 @@ use outcomes::Told;
 use record::JournalRecord;
 use sheet::Sheet;
 
-// What preparation answers: a fresh record and the number of live pairs; where it is refused, 0 of them.
+// What preparation answers: a fresh record, the number of live pairs and their exact reach; where it is refused, 0 and 0.
 pub struct PrepareAnswer {
     pub outcome: Outcome,
     pub record: JournalRecord,
     pub live: u32,
+    pub reach: u32,
 }
 
 // What a round answers: the record after it and each output's verdict. Where it is refused, the record is the one handed in and the
@@ -41,7 +42,7 @@ pub struct ClosingAnswer {
     pub shares: [u32; 7],
 }
 
-// The live pairs and their number.
+// The live pairs, their number and their exact reach.
 pub fn preparation(x: Sheet, storage: &mut [u64]) -> PrepareAnswer
     requires { ⌜ Usable x × (storageWords ≤ length (now storage)) ⌝ }
     ensures { λ a. ⌜ (a .outcome ≡ Outcome.Accepted) × Prepared (ruleSheet x) (now (storage .entry)) (now (storage .exit)) a ⌝ }
@@ -61,6 +62,7 @@ pub fn preparation(x: Sheet, storage: &mut [u64]) -> PrepareAnswer
         outcome: Outcome::Accepted,
         record: JournalRecord::fresh(),
         live: found.live as u32,
+        reach: found.reach as u32,
     }
 }
 

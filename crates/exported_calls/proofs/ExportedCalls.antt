@@ -212,7 +212,7 @@ exported-calls bs s t z d cs ys k run =
     let p : PrepareAnswer = v .answer in
     let ok : p .outcome ≡ Accepted = zero-accepted (p .outcome) (v .number) in
     let prepared : OfSheet bs (λ x. Prepared x s t p) = subst (Prepares bs s t p) ok (v .result .result) in
-    let new : z .rec′ ≡ numbersOf (p .record) = subst (SlicesAfter (numbersOf (p .record)) (paste (z .ans) 0 (p .live ∷ []) 1) z) ok (v .written) .0 in
+    let new : z .rec′ ≡ numbersOf (p .record) = subst (SlicesAfter (numbersOf (p .record)) _ z) ok (v .written) .0 in
     let q : Holds (z .rec′) (p .record) = holds (z .rec′) (p .record) new (ap length (prepared .2 .fresh .counts) ∙ length-replicate {A = ℕ} 28 0) in
     let all : AllAnswered bs (record { storage = t; numbers = z .rec′ }) cs ys k = all-calls bs (record { storage = t; numbers = z .rec′ }) k cs ys (q .stands) run in
     let told = third-demand bs s t p (v .result) ok cs (all .answers) (asHeld k) (subst (λ (r : JournalRecord). Session bs (held t r) cs (all .answers) (asHeld k)) (q .same) (all .run)) in (

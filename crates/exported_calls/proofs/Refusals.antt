@@ -1,26 +1,22 @@
 -- The first demand for callers in C and Rust: the entries' checks decide one outcome, and its number is what is returned.
 use mathlib.Core.Path.{_≡_, refl, sym, ap, subst, _∙_}
 use mathlib.Core.Bool.{Bool, true, false}
-use mathlib.Core.List.{List, [], _∷_}
+use mathlib.Core.List.{List}
 use Prim.Native.Nat.{ℕ, _<_}
 use native.Mathlib.Omega.{arith}
 use lib.ListN.{length}
-use lib.Seq.{paste}
 use Rattle.outcomes.specs.Numbers.{outcomeNo}
 use Rattle.outcomes.specs.Decided.{Check, Decided}
+use Rattle.outcomes.specs.declared.Refusal.{Refusal}
 use Rattle.outcomes.specs.declared.Outcome.{Outcome}
 use Rattle.outcomes.specs.declared.Outcome.the-variants.{Accepted, Refused}
 use Rattle.outcomes.proofs.Decisions.{decided-once}
-use Rattle.sheet.specs.ReadingChecks.{outputsOf}
 use Rattle.circular.specs.SheetChecks.{sheetChecks}
 use Rattle.trace.specs.EvaluationChecks.{evaluationChecks}
 use Rattle.trace.specs.Evaluated.{Evaluated}
 use Rattle.letters.specs.Sets.{maskChecks}
 use Rattle.checks.specs.JournalChecks.{prepareChecks, roundChecks, closingChecks}
-use Rattle.slices.specs.Slices.{recordOf, marked, numbersOf, verdictNumbers, sized}
-use Rattle.effects.specs.declared.PrepareAnswer.{PrepareAnswer}
-use Rattle.effects.specs.declared.RoundAnswer.{RoundAnswer}
-use Rattle.effects.specs.declared.ClosingAnswer.{ClosingAnswer}
+use Rattle.slices.specs.Slices.{recordOf, marked, sized}
 use Rattle.monitor.specs.Entries.{Prepares, Rounds}
 use Rattle.claims.specs.Book.{Call, round, closing}
 use Rattle.jigwaret.specs.Numbered.{LettersAfter}
@@ -60,39 +56,21 @@ set-left : (m known val old new : ℕ) (o : Outcome) (r : ℕ) → r ≡ outcome
 set-left m known val old new Accepted r n h d = absurd (omega arith)
 set-left m known val old new (Refused e) r n h d = d
 
+-- whatever an accepted call would have written
+slices-left : (s t : List ℕ) (z : Slices) (r : ℕ) → 0 < r → (new answer : List ℕ) (o : Outcome) → r ≡ outcomeNo o → ((e : Refusal) → o ≡ Refused e → t ≡ s) → SlicesAfter new answer z o → Untouched s t z
+slices-left s t z r h new answer Accepted k f w = absurd (omega arith)
+slices-left s t z r h new answer (Refused e) k f w = (f e refl, w .0, w .1)
+
 module _ (bs s t : List ℕ) (z : Slices) (r : ℕ) (h : 0 < r) where
-  abbrev n : ℕ
-  n = outputsOf bs
-
   preparation-left : PreparationNumbered bs s t z r → Untouched s t z
-  preparation-left d = go (a .outcome) (d .number) (d .result .result) (d .written)
-    where
-      a : PrepareAnswer
-      a = d .answer
-
-      go : (o : Outcome) → r ≡ outcomeNo o → Prepares bs s t a o → SlicesAfter (numbersOf (a .record)) (paste (z .ans) 0 (a .live ∷ []) 1) z o → Untouched s t z
-      go Accepted k p w = absurd (omega arith)
-      go (Refused e) k p w = (p .0, w .0, w .1)
+  preparation-left d = slices-left s t z r h _ _ (d .answer .outcome) (d .number) (λ e o. subst (Prepares bs s t (d .answer)) o (d .result .result) .0) (d .written)
 
   round-left : (letters : ℕ) → RoundNumbered bs s t letters z r → Untouched s t z
-  round-left letters d = go (a .outcome) (d .number) (d .result .result) (d .written)
-    where
-      a : RoundAnswer
-      a = d .answer
-
-      go : (o : Outcome) → r ≡ outcomeNo o → Rounds bs s t (recordOf (z .rec)) letters a o → SlicesAfter (numbersOf (a .record)) (paste (z .ans) 0 (verdictNumbers (a .verdicts) n) n) z o → Untouched s t z
-      go Accepted k p w = absurd (omega arith)
-      go (Refused e) k p w = (p .0, w .0, w .1)
+  round-left letters d =
+      slices-left s t z r h _ _ (d .answer .outcome) (d .number) (λ e o. subst (Rounds bs s t (recordOf (z .rec)) letters (d .answer)) o (d .result .result) .0) (d .written)
 
   closing-left : ClosingNumbered bs s z r → Untouched s s z
-  closing-left d = go (a .outcome) (d .number) (d .written)
-    where
-      a : ClosingAnswer
-      a = d .answer
-
-      go : (o : Outcome) → r ≡ outcomeNo o → SlicesAfter (numbersOf (a .record)) (paste (paste (z .ans) 0 (verdictNumbers (a .verdicts) n) n) n (a .shares) n) z o → Untouched s s z
-      go Accepted k w = absurd (omega arith)
-      go (Refused e) k w = (refl, w .0, w .1)
+  closing-left d = slices-left s s z r h _ _ (d .answer .outcome) (d .number) (λ e o. refl) (d .written)
 
 -- by the sizes and by the mark
 left-by-sizes : (b : Bool) (D : Type 0) (s t : List ℕ) (z : Slices) (r : ℕ) → (D → Untouched s t z) → BySizes b D s t z r → Untouched s t z

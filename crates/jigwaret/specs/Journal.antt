@@ -1,5 +1,5 @@
 -- What the exported functions of preparation, rounds and closing give and leave: what `prepare`, `round` and `close` do with the record that the
--- slice holds, its number, and for an accepted call the new record and the answer in their slices (01, "What is turned down"; 02, W4).
+-- slice holds, its number, and for an accepted call the new record and the answer in their slices (01, "What is turned down"; 02, W4 and W13).
 -- Manual: "Calling it".
 use mathlib.Core.Path.{_≡_}
 use mathlib.Core.Bool.{Bool, true, false}
@@ -49,12 +49,12 @@ abbrev pub ByMark : Bool → Type 0 → Type 0 → Type 0
 ByMark true Done Wrong = Done
 ByMark false Done Wrong = Wrong
 
--- preparation: a fresh record, and the number of live pairs
+-- preparation: a fresh record, and the number of live pairs and their exact reach (02, W13)
 pub record PreparationNumbered (bs s t : List ℕ) (z : Slices) (r : ℕ) : Type 0 where
   pub answer : PrepareAnswer
   pub result : PrepareCall bs s t answer
   pub number : r ≡ outcomeNo (answer .outcome)
-  pub written : SlicesAfter (numbersOf (answer .record)) (paste (z .ans) 0 (answer .live ∷ []) 1) z (answer .outcome)
+  pub written : SlicesAfter (numbersOf (answer .record)) (paste (z .ans) 0 (answer .live ∷ answer .reach ∷ []) 2) z (answer .outcome)
 
 -- a round: the verdict numbers of the n outputs
 pub record RoundNumbered (bs s t : List ℕ) (letters : ℕ) (z : Slices) (r : ℕ) : Type 0 where

@@ -38,7 +38,7 @@ pub extern "C" fn jigwaret_letters(inputs: u8, known: u8, value: u8, letters: &m
 
 // From here on: 255, and nothing altered, where a record has not 30 numbers or an answer fewer than 16.
 
-// Prepares the storage, makes the record fresh and writes the number of live pairs into answer[0].
+// Prepares the storage, makes the record fresh and writes the number of live pairs into answer[0], their exact reach into answer[1].
 #[no_mangle]
 pub extern "C" fn jigwaret_prepare(
     sheet: &[u8],
@@ -58,6 +58,7 @@ pub extern "C" fn jigwaret_prepare(
         Outcome::Accepted => {
             slices::store(record, a.record);
             answer[0] = a.live;
+            answer[1] = a.reach;
             0
         }
     }

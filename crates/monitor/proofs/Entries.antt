@@ -46,9 +46,9 @@ module _ (bs : List ℕ) (x : Sheet) (ok : AcceptedSheet bs x) where
 
 -- ---- calls that are refused, by any of their checks
 
-pub prepare-refused : (bs s : List ℕ) (a : PrepareAnswer) (e : Refusal) → (a .outcome ≡ Refused e) × Fresh (a .record) × (a .live ≡ 0)
+pub prepare-refused : (bs s : List ℕ) (a : PrepareAnswer) (e : Refusal) → (a .outcome ≡ Refused e) × Fresh (a .record) × (a .live ≡ 0) × (a .reach ≡ 0)
     → Decided (prepareChecks bs (length s)) (Refused e) → PrepareCall bs s s a
-prepare-refused bs s a e p d = record { decided = rw (p .0) d; result = subst (Prepares bs s s a) (sym (p .0)) (refl, p .1, p .2) }
+prepare-refused bs s a e p d = record { decided = rw (p .0) d; result = subst (Prepares bs s s a) (sym (p .0)) (refl, p .1, p .2, p .3) }
 
 pub round-refused : (bs s : List ℕ) (r : JournalRecord) (letters : ℕ) (a : RoundAnswer) (e : Refusal) → (a .outcome ≡ Refused e) × (a .record ≡ r) × (a .verdicts ≡ replicate 7 untold)
     → Decided (roundChecks bs (length s) r letters) (Refused e) → RoundCall bs s s r letters a
@@ -71,7 +71,7 @@ closing-unread bs lent r e d = decided-refused (sheetChecks bs) (closingRules (o
 -- ---- calls with a sheet that is accepted
 
 module _ (bs : List ℕ) (x : Sheet) (ok : AcceptedSheet bs x) where
-  pub too-short : (s : List ℕ) (a : PrepareAnswer) → (a .outcome ≡ Refused Storage) × Fresh (a .record) × (a .live ≡ 0) → Decided (tooShort (length s) ∷ []) (Refused Storage) → PrepareCall bs s s a
+  pub too-short : (s : List ℕ) (a : PrepareAnswer) → (a .outcome ≡ Refused Storage) × Fresh (a .record) × (a .live ≡ 0) × (a .reach ≡ 0) → Decided (tooShort (length s) ∷ []) (Refused Storage) → PrepareCall bs s s a
   too-short s a p d = prepare-refused bs s a Storage p (behind-sheet bs x ok (tooShort (length s) ∷ []) (Refused Storage) d)
 
   pub prepare-done : (s t : List ℕ) (a : PrepareAnswer) → a .outcome ≡ Accepted → Decided (tooShort (length s) ∷ []) Accepted → Prepared (ruleSheet x) s t a → PrepareCall bs s t a

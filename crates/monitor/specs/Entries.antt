@@ -1,4 +1,4 @@
--- What a call of each entry means (01, "Completions and verdicts", each entry's definition; "What is turned down"; 02, W4): how it is decided, and by
+-- What a call of each entry means (01, "Completions and verdicts", each entry's definition; "What is turned down"; 02, W4 and W13): how it is decided, and by
 -- the outcome what is done, or that nothing but the refusal is given and what was lent or handed in has not altered.
 -- Manual: "Refusals".
 use mathlib.Core.Path.{_≡_}
@@ -22,7 +22,7 @@ use Rattle.effects.specs.declared.ClosingAnswer.{ClosingAnswer}
 -- preparation with the sheet bs: the storage s before, t after, and the answer
 abbrev pub Prepares : List ℕ → List ℕ → List ℕ → PrepareAnswer → Outcome → Type 0
 Prepares bs s t a Accepted = OfSheet bs (λ x. Prepared x s t a)
-Prepares bs s t a (Refused e) = (t ≡ s) × Fresh (a .record) × (a .live ≡ 0)
+Prepares bs s t a (Refused e) = (t ≡ s) × Fresh (a .record) × (a .live ≡ 0) × (a .reach ≡ 0)
 
 pub record PrepareCall (bs s t : List ℕ) (a : PrepareAnswer) : Type 0 where
   pub decided : Decided (prepareChecks bs (length s)) (a .outcome)

@@ -39,12 +39,13 @@ fn refused_closing(e: Refusal, r: JournalRecord) -> ClosingAnswer
 }
 
 fn refused_preparation(e: Refusal) -> PrepareAnswer
-    ensures { λ a. ⌜ (a .outcome ≡ Outcome.Refused e) × Fresh (a .record) × (a .live ≡ 0) ⌝ }
+    ensures { λ a. ⌜ (a .outcome ≡ Outcome.Refused e) × Fresh (a .record) × (a .live ≡ 0) × (a .reach ≡ 0) ⌝ }
 {
     PrepareAnswer {
         outcome: Outcome::Refused(e),
         record: JournalRecord::fresh(),
         live: 0,
+        reach: 0,
     }
 }
 
@@ -60,7 +61,7 @@ pub fn prepare_on(x: Sheet, storage: &mut [u64]) -> PrepareAnswer
     effects::preparation(x, storage)
 }
 
-// Prepares the storage for journals of a sheet: the live pairs, and their number.
+// Prepares the storage for journals of a sheet: the live pairs, their number and their exact reach.
 pub fn prepare(sheet: &[u8], storage: &mut [u64]) -> PrepareAnswer
     ensures { λ a. ⌜ PrepareCall (now (sheet .entry)) (now (storage .entry)) (now (storage .exit)) a ⌝ }
 {

@@ -8,11 +8,9 @@ use native.Mathlib.Decide.{ℕ-discrete}
 use lib.Bits.{bitAnd}
 use lib.Dec.{ltb}
 use lib.ListN.{length, getD, set, length-set}
-use lib.Pow.{pow-pos, pow-mono, pow-lt}
 use lib.Seq.{getD-set-other}
-use borrow.Author.Tests.{eq-eqb, lt-ltb}
 use Rattle.words.specs.Bits.{bit}
-use Rattle.words.proofs.BitLaws.{bit-and, bit-not, bit-none, one-shl, bit-shl}
+use Rattle.words.proofs.BitLaws.{bit-and, bit-not, bit-none}
 use Rattle.words.proofs.ListLaws.{set-more}
 use Rattle.sheet.specs.RuleSheet.{requiredOf}
 use Rattle.sheet.specs.Reading.{Below}
@@ -50,20 +48,6 @@ module _ (m n : ℕ) (code len : List ℕ) where
   pub allowed-by : (x : Assumed) (k : OutputNo) (v q a : ℕ) → x ≡ Output k → v ≡ 2 ^ (m + n) → q ≡ m + k .0 → (ltb a v && bit q a) ≡ allowed (sheetOf m n code len (requiredOf x)) a
   allowed-by x k v q a e f g =
       ap₂ (λ (i j : ℕ). ltb a i && bit j a) f g ∙ allowed-output k a ∙ ap (λ (y : Assumed). allowed (sheetOf m n code len (requiredOf y)) a) (sym e)
-
-  -- some valuation is allowed
-  pub some-allowed : (x : Assumed) → Below x n → m + n ≤ 8 → (a : ℕ) × (a < 256) × (allowed (sheetOf m n code len (requiredOf x)) a ≡ true)
-  some-allowed Nothing h l =
-      (0, omega arith, sym (allowed-free 0) ∙ lt-ltb 0 (2 ^ (m + n)) (pow-pos (m + n)))
-  some-allowed (Output k) h l =
-      let most : 2 ^ (m + n) ≤ 256 = pow-mono l in
-      let g : 2 ^ (m + k .0) < 2 ^ (m + n) = pow-lt (omega arith) in (
-        2 ^ (m + k .0),
-        omega (arith, most),
-        sym (allowed-output k (2 ^ (m + k .0)))
-            ∙ ap₂ _&&_ (lt-ltb (2 ^ (m + k .0)) (2 ^ (m + n)) g)
-            (ap (bit (m + k .0)) (sym (one-shl (m + k .0) (omega arith))) ∙ bit-shl (m + k .0) (m + k .0) (omega arith) ∙ eq-eqb (m + k .0) (m + k .0) refl),
-      )
 
 -- an assumption is an output of the sheet
 pub below-output : (x : Assumed) (k : OutputNo) (n : ℕ) → x ≡ Output k → Below x n → k .0 < n

@@ -5,27 +5,20 @@ use mathlib.Core.Bool.{Bool, true, false, not, _&&_, _||_, and-true, and-false, 
 use mathlib.Core.Option.{Option, none, some}
 use Prim.Native.Nat.{ℕ, zero, suc, _^_, _≤_, _<_}
 use native.Mathlib.Omega.{arith}
-use native.Mathlib.Decide.{decLt}
 use lib.Dec.{T, ltb, not-T}
-use lib.ListN.{length}
 use borrow.Author.Tests.{lt-ltb}
 use Rattle.words.proofs.AnyLaws.{any-cong}
 use Rattle.words.proofs.Tests.{and-left, and-right, and-both, either, not-both, true-of, of-true, same-test}
 use Rattle.sheet.specs.RuleSheet.{RuleSheet, streams}
 use Rattle.lola.specs.Equations.{holds}
-use Rattle.completions.specs.Live.{Pairs, Live, allowed}
+use Rattle.completions.specs.Live.{Pairs, Live, allowed, ExactReach}
 use Rattle.completions.specs.Steps.{Within, Represents, anyNext, anyPair}
 use Rattle.completions.proofs.Search.{next-found, next-from, pair-found}
 use Rattle.completions.proofs.Range.{live-within, wider}
 use Rattle.completions.proofs.Backward.{endSet, backSet, liveWithin, layer, LiveBy, Settled, within-found, within-from, within-more, all-short}
+use Rattle.completions.proofs.ExactReach.{fresh, fresh-within, reach-is}
 use Rattle.predecessors.specs.Rows.{meets}
-use Rattle.preparation.specs.Searched.{Reach}
 use Rattle.preparation.specs.Search.{joining, joiners}
-
--- the pairs that d valuations reach and fewer do not
-unfoldable pub fresh : RuleSheet → ℕ → Pairs
-fresh x zero = endSet x
-fresh x (suc d) = layer x 256 d
 
 -- only the pairs in question matter
 pub joining-same : (x : RuleSheet) (n : ℕ) (L L′ F F′ : Pairs) (a b : ℕ) → L a (some b) ≡ L′ a (some b) → ((c : Option ℕ) → Within n c → F b c ≡ F′ b c)
@@ -41,28 +34,11 @@ module _ (x : RuleSheet) where
   abbrev W : ℕ → Pairs
   W d = liveWithin x 256 d
 
-  fresh-within : (d a : ℕ) (b : Option ℕ) → T (fresh x d a b) → T (W d a b)
-  unfolding fresh liveWithin layer
-  fresh-within zero a b t = t
-  fresh-within (suc d) a b t = and-left (liveWithin x 256 (suc d) a b) (not (liveWithin x 256 d a b)) t
-
   -- a pair with the end mark is found at once
   ends-are : (d a : ℕ) → W d a none ≡ allowed x a
   unfolding liveWithin endSet backSet
   ends-are zero a = refl
   ends-are (suc d) a = refl
-
-  -- no shorter list makes a pair of a layer live
-  least : (small : 2 ^ streams x ≤ 256) (e a : ℕ) (b : Option ℕ) → T (fresh x e a b) → (h : Live x a b) → e ≤ length (h .rest)
-  unfolding fresh layer
-  least small zero a b t h = omega arith
-  least small (suc d) a b t h = go (decLt d (length (h .rest)))
-    where
-      go : Dec (d < length (h .rest)) → suc d ≤ length (h .rest)
-      go (yes l) = omega arith
-      go (no n) =
-          absurd (not-both (liveWithin x 256 d a b) (within-from x 256 small d a b (h, omega arith))
-          (and-right (liveWithin x 256 (suc d) a b) (not (liveWithin x 256 d a b)) t))
 
   -- one valuation before a pair
   back : (d a b : ℕ) (c : Option ℕ) → T (allowed x a) → Within 256 c → T (holds x (some a) b c) → T (W d b c) → T (W (suc d) a (some b))
@@ -72,7 +48,7 @@ module _ (x : RuleSheet) where
       and-both (allowed x a) (anyNext 256 f) ok (next-from 256 f c hc (and-both (holds x (some a) b c) (liveWithin x 256 d b c) e t))
 
   -- if (a, b) is new, the pair after it is in the last layer
-  newer : (d a b : ℕ) (c : Option ℕ) → T (allowed x a) → Within 256 c → T (holds x (some a) b c) → T (W d b c) → T (not (W d a (some b))) → T (fresh x d b c)
+  newer : (d a b : ℕ) (c : Option ℕ) → T (allowed x a) → Within 256 c → T (holds x (some a) b c) → T (W d b c) → T (not (W d a (some b))) → T (fresh x 256 d b c)
   unfolding fresh liveWithin layer
   newer zero a b c ok hc e t n = t
   newer (suc d) a b c ok hc e t n = go (either (liveWithin x 256 d b c))
@@ -83,36 +59,36 @@ module _ (x : RuleSheet) where
 
   module _ (small : 2 ^ streams x ≤ 256) (n : ℕ) (low : 2 ^ streams x ≤ n) (high : n ≤ 256) where
     abbrev J : ℕ → ℕ → ℕ → Bool
-    J d a b = ltb b n && joining x n (W d) (fresh x d) a b
+    J d a b = ltb b n && joining x n (W d) (fresh x 256 d) a b
 
     found : (d a b : ℕ) → T (W (suc d) a (some b)) → T (not (W d a (some b))) → T (J d a b)
     unfolding joining meets liveWithin backSet
     found d a b t m =
         let f : Option ℕ → Bool = λ c. holds x (some a) b c && liveWithin x 256 d b c in
-        let g : Option ℕ → Bool = λ c. fresh x d b c && holds x (some a) b c in
+        let g : Option ℕ → Bool = λ c. fresh x 256 d b c && holds x (some a) b c in
         let ok : T (allowed x a) = and-left (allowed x a) (anyNext 256 f) t in
         let y : (c : Option ℕ) × Within 256 c × T (f c) = next-found 256 f (and-right (allowed x a) (anyNext 256 f) t) in
         let e : T (holds x (some a) b (y .0)) = and-left (holds x (some a) b (y .0)) (liveWithin x 256 d b (y .0)) (y .2) in
         let w : T (liveWithin x 256 d b (y .0)) = and-right (holds x (some a) b (y .0)) (liveWithin x 256 d b (y .0)) (y .2) in
         let r : (b < 2 ^ streams x) × Within (2 ^ streams x) (y .0) = live-within x (2 ^ streams x) (omega arith) b (y .0) (within-found x 256 d b (y .0) w .0) in
-        and-both (ltb b n) (joining x n (W d) (fresh x d) a b) (of-true (ltb b n) (lt-ltb b n (omega (arith, r .0))))
+        and-both (ltb b n) (joining x n (W d) (fresh x 256 d) a b) (of-true (ltb b n) (lt-ltb b n (omega (arith, r .0))))
         (and-both (allowed x a) (not (W d a (some b)) && anyNext n g) ok
         (and-both (not (W d a (some b))) (anyNext n g) m
-        (next-from n g (y .0) (wider (2 ^ streams x) n low (y .0) (r .1)) (and-both (fresh x d b (y .0)) (holds x (some a) b (y .0)) (newer d a b (y .0) ok (y .1) e w m) e))))
+        (next-from n g (y .0) (wider (2 ^ streams x) n low (y .0) (r .1)) (and-both (fresh x 256 d b (y .0)) (holds x (some a) b (y .0)) (newer d a b (y .0) ok (y .1) e w m) e))))
 
     joined : (d a b : ℕ) → T (J d a b) → T (W (suc d) a (some b))
     unfolding joining meets
     joined d a b t =
-        let g : Option ℕ → Bool = λ c. fresh x d b c && holds x (some a) b c in
-        let j : T (joining x n (W d) (fresh x d) a b) = and-right (ltb b n) (joining x n (W d) (fresh x d) a b) t in
+        let g : Option ℕ → Bool = λ c. fresh x 256 d b c && holds x (some a) b c in
+        let j : T (joining x n (W d) (fresh x 256 d) a b) = and-right (ltb b n) (joining x n (W d) (fresh x 256 d) a b) t in
         let r : T (not (W d a (some b)) && anyNext n g) = and-right (allowed x a) (not (W d a (some b)) && anyNext n g) j in
         let y : (c : Option ℕ) × Within n c × T (g c) = next-found n g (and-right (not (W d a (some b))) (anyNext n g) r) in
         back d a b (y .0) (and-left (allowed x a) (not (W d a (some b)) && anyNext n g) j) (wider n 256 high (y .0) (y .1))
-        (and-right (fresh x d b (y .0)) (holds x (some a) b (y .0)) (y .2))
-        (fresh-within d b (y .0) (and-left (fresh x d b (y .0)) (holds x (some a) b (y .0)) (y .2)))
+        (and-right (fresh x 256 d b (y .0)) (holds x (some a) b (y .0)) (y .2))
+        (fresh-within x 256 d b (y .0) (and-left (fresh x 256 d b (y .0)) (holds x (some a) b (y .0)) (y .2)))
 
     -- the pairs live within one valuation more, and those among them that are new
-    pub within-next : (d a : ℕ) (y : Option ℕ) → a < 256 → Within 256 y → W (suc d) a y ≡ (W d a y || joiners x n n (W d) (fresh x d) a y)
+    pub within-next : (d a : ℕ) (y : Option ℕ) → a < 256 → Within 256 y → W (suc d) a y ≡ (W d a y || joiners x n n (W d) (fresh x 256 d) a y)
     unfolding joiners
     within-next d a none ha hy = ends-are (suc d) a ∙ sym (or-false (W d a none) ∙ ends-are d a)
     within-next d a (some b) ha hy = go (W d a (some b)) refl
@@ -123,14 +99,14 @@ module _ (x : RuleSheet) where
             same-test (W (suc d) a (some b)) (J d a b) (λ t. found d a b t (of-true (not (W d a (some b))) (ap not e))) (joined d a b)
             ∙ sym (ap (λ (u : Bool). u || J d a b) e)
 
-    pub fresh-next : (d a : ℕ) (y : Option ℕ) → a < 256 → Within 256 y → fresh x (suc d) a y ≡ joiners x n n (W d) (fresh x d) a y
+    pub fresh-next : (d a : ℕ) (y : Option ℕ) → a < 256 → Within 256 y → fresh x 256 (suc d) a y ≡ joiners x n n (W d) (fresh x 256 d) a y
     unfolding joiners fresh layer joining
     fresh-next d a none ha hy = ap₂ (λ (u v : Bool). u && not v) (ends-are (suc d) a) (ends-are d a) ∙ and-not-self (allowed x a)
     fresh-next d a (some b) ha hy = go (W d a (some b)) refl
       where
         gone : W d a (some b) ≡ true → J d a b ≡ false
         gone e =
-            ap (λ (u : Bool). ltb b n && (allowed x a && (not u && meets x n (fresh x d) a b))) e
+            ap (λ (u : Bool). ltb b n && (allowed x a && (not u && meets x n (fresh x 256 d) a b))) e
             ∙ ap (λ (u : Bool). ltb b n && u) (and-false (allowed x a)) ∙ and-false (ltb b n)
 
         go : (u : Bool) → W d a (some b) ≡ u → (W (suc d) a (some b) && not (W d a (some b))) ≡ J d a b
@@ -140,7 +116,7 @@ module _ (x : RuleSheet) where
             ∙ same-test (W (suc d) a (some b)) (J d a b) (λ t. found d a b t (of-true (not (W d a (some b))) (ap not e))) (joined d a b)
 
   -- ---- a layer with no pair: all live pairs are found, and the layer before it is the reach
-  module _ (small : 2 ^ streams x ≤ 256) (e : ℕ) (empty : (a : ℕ) (b : Option ℕ) → a < 256 → Within 256 b → fresh x (suc e) a b ≡ false) where
+  module _ (small : 2 ^ streams x ≤ 256) (e : ℕ) (empty : (a : ℕ) (b : Option ℕ) → a < 256 → Within 256 b → fresh x 256 (suc e) a b ≡ false) where
     settled : Settled x 256 e
     unfolding fresh
     settled =
@@ -155,8 +131,5 @@ module _ (x : RuleSheet) where
       λ h. let y : LiveBy x e a b = all-short x 256 small e settled a b h in within-from x 256 small (suc e) a b (y .0, omega (arith, y .1)),
     )
 
-    pub reach-is : (a : ℕ) (b : Option ℕ) → T (fresh x e a b) → Reach x e
-    reach-is a b t = record {
-      enough = λ a b h. all-short x 256 small e settled a b h;
-      needed = (a, b, within-found x 256 e a b (fresh-within e a b t) .0, least small e a b t);
-    }
+    pub found-reach : (a : ℕ) (b : Option ℕ) → T (fresh x 256 e a b) → ExactReach x e
+    found-reach a b t = reach-is x 256 small e settled a b t

@@ -1,22 +1,26 @@
 -- The search over a sheet as the code has it: m inputs, n outputs, v = 2 ^ (m + n) valuations in rows of w words.
-use mathlib.Core.Path.{_≡_}
+use mathlib.Core.Path.{_≡_, refl}
+use mathlib.Core.Bool.{true}
 use mathlib.Core.List.{List}
 use Prim.Native.Nat.{ℕ, _+_, _-_, _*_, _^_, _≤_, _<_}
 use native.Mathlib.Numerals.{add-one}
 use native.Mathlib.Omega.{arith}
 use lib.ListN.{getD}
 use lib.Pow.{pow-mono}
-use Rattle.sheet.specs.RuleSheet.{streams, requiredOf}
+use Rattle.words.proofs.Tests.{true-of}
+use Rattle.sheet.specs.RuleSheet.{RuleSheet, streams, requiredOf}
 use Rattle.sheet.specs.Reading.{Below}
 use Rattle.sheet.specs.declared.Assumed.{Assumed}
-use Rattle.completions.specs.Live.{allowed, countPairs}
+use Rattle.sheet.proofs.Sheets.{length-trees}
+use Rattle.completions.specs.Live.{allowed, ExactReach, countPairs}
 use Rattle.completions.proofs.Backward.{bound-256}
+use Rattle.completions.proofs.Range.{some-allowed, allowed-within}
 use Rattle.pairs.specs.Storage.{live, reachedAt, scratchAt, maxPairs}
 use Rattle.pairs.specs.Changes.{NextBit}
 use Rattle.lanes.specs.Coded.{sheetOf}
 use Rattle.predecessors.specs.Rows.{Row}
-use Rattle.predecessors.proofs.Rows.{streams-low, some-allowed}
-use Rattle.preparation.specs.Searched.{Searched, Reach}
+use Rattle.predecessors.proofs.Rows.{streams-low}
+use Rattle.preparation.specs.Searched.{Searched}
 use Rattle.preparation.specs.Search.{Occupied, Apart, Started, Swept}
 use Rattle.preparation.proofs.Searching.{Searching, search-start, search-more, some-layer, search-end}
 
@@ -42,14 +46,20 @@ module _ (m n : ℕ) (code len : List ℕ) (few : m + n ≤ 8) where
 
   module _ (assumption : Assumed) (below : Below assumption n) (w layer next : ℕ) (s₀ s rows : List ℕ) (d r : ℕ)
       (p : Searching (sheetOf m n code len (requiredOf assumption)) layer next s₀ s d) (o : Occupied w rows s layer) (b : NextBit rows 0 w 0 r) (done : 64 * w ≤ r) where
+    abbrev x : RuleSheet
+    x = sheetOf m n code len (requiredOf assumption)
+
+    some-valuation : (a : ℕ) × (a < 256) × (allowed x a ≡ true)
+    some-valuation =
+        let a = some-allowed x assumption refl (rw (length-trees (m + n) code len n) below) in
+        (a .0, allowed-within x 256 (small (requiredOf assumption)) (a .0) (a .1), true-of (allowed x (a .0)) (a .1))
+
     pub layers-some : 1 ≤ d
-    layers-some =
-        let a = some-allowed m n code len assumption below few in
-        some-layer (sheetOf m n code len (requiredOf assumption)) (small (requiredOf assumption)) w layer next s₀ s rows d r p o b done (a .0) (a .1) (a .2)
+    layers-some = let a = some-valuation in some-layer x (small (requiredOf assumption)) w layer next s₀ s rows d r p o b done (a .0) (a .1) (a .2)
 
     pub search-finish : (s₁ row : List ℕ) (k : ℕ) → Apart layer next → (reachedAt ≤ layer) × (layer ≤ scratchAt) × (reachedAt ≤ next) × (next ≤ scratchAt) → ((i : ℕ) → getD s i 0 < 2 ^ 64) → Started w row s₁ s₀
         → k ≡ countPairs 256 (live s) → k ≤ maxPairs
-        → Searched (sheetOf m n code len (requiredOf assumption)) s₁ s k × Reach (sheetOf m n code len (requiredOf assumption)) (d - 1) × (d - 1 < k)
+        → Searched x s₁ s k × ExactReach x (d - 1) × (d - 1 < k)
     search-finish s₁ row k places bounds fit st e bd =
-        let a = some-allowed m n code len assumption below few in
-        search-end (sheetOf m n code len (requiredOf assumption)) (small (requiredOf assumption)) w layer next s₀ s rows d r p o b done (a .0) (a .1) (a .2) s₁ row k places bounds fit st e bd
+        let a = some-valuation in
+        search-end x (small (requiredOf assumption)) w layer next s₀ s rows d r p o b done (a .0) (a .1) (a .2) s₁ row k places bounds fit st e bd

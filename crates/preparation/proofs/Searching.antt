@@ -14,9 +14,10 @@ use Rattle.words.proofs.BitLaws.{bit-none}
 use Rattle.words.proofs.Tests.{and-left, and-right, of-true, or-left}
 use Rattle.words.proofs.Bools.{contrary}
 use Rattle.sheet.specs.RuleSheet.{RuleSheet, streams}
-use Rattle.completions.specs.Live.{Pairs, Live, allowed, countPairs}
+use Rattle.completions.specs.Live.{Pairs, Live, allowed, ExactReach, countPairs}
 use Rattle.completions.specs.Steps.{Within, Represents}
 use Rattle.completions.proofs.Count.{pairs-lt, pairs-le}
+use Rattle.completions.proofs.ExactReach.{fresh}
 use Rattle.completions.proofs.Backward.{endSet, liveWithin, layer}
 use Rattle.completions.proofs.Range.{wider}
 use Rattle.pairs.specs.Storage.{stored, slot, live, setWords, liveAt, reachedAt, scratchAt, storageWords, maxPairs}
@@ -25,9 +26,9 @@ use Rattle.pairs.proofs.Frames.{framed-none, framed-then, framed-wider}
 use Rattle.pairs.proofs.Sets.{framed-before, framed-beyond, zeroed-none, set-ext}
 use Rattle.predecessors.specs.Rows.{Row}
 use Rattle.predecessors.proofs.Uniting.{empty-row}
-use Rattle.preparation.specs.Searched.{Searched, Reach}
+use Rattle.preparation.specs.Searched.{Searched}
 use Rattle.preparation.specs.Search.{joiners, enders, Joins, Empty, Occupied, Apart, Started, Swept}
-use Rattle.preparation.proofs.Layers.{fresh, joining-same, within-next, fresh-next, all-found, reach-is}
+use Rattle.preparation.proofs.Layers.{joining-same, within-next, fresh-next, all-found, found-reach}
 use Rattle.preparation.proofs.Joining.{beyond-none}
 
 -- ---- the parts of the code
@@ -79,11 +80,11 @@ module _ (x : RuleSheet) (n v : ℕ) (hn : n ≤ 256) where
 
 pub record Searching (x : RuleSheet) (layer next : ℕ) (s₀ s : List ℕ) (d : ℕ) : Type 0 where
   pub frame : Framed liveAt storageWords s₀ s
-  pub newest : (a : ℕ) (y : Option ℕ) → a < 256 → Within 256 y → stored s layer a y ≡ fresh x d a y
+  pub newest : (a : ℕ) (y : Option ℕ) → a < 256 → Within 256 y → stored s layer a y ≡ fresh x 256 d a y
   pub free : Empty s next
   pub grown : d ≤ countPairs 256 (live s)
   pub grows : (a : ℕ) (y : Option ℕ) → a < 256 → Within 256 y → stored s layer a y ≡ true → d < countPairs 256 (live s)
-  pub last : (e : ℕ) → d ≡ suc e → (a : ℕ) × (b : Option ℕ) × T (fresh x e a b)
+  pub last : (e : ℕ) → d ≡ suc e → (a : ℕ) × (b : Option ℕ) × T (fresh x 256 e a b)
   pub live : (a : ℕ) (y : Option ℕ) → a < 256 → Within 256 y → live s a y ≡ liveWithin x 256 d a y
 
 module _ (x : RuleSheet) (w : ℕ) (low : 2 ^ streams x ≤ 64 * w) where
@@ -121,13 +122,13 @@ module _ (x : RuleSheet) (w : ℕ) (low : 2 ^ streams x ≤ 64 * w) where
     pair = o .some-there r go-on (n .found go-on)
 
     same : (a : ℕ) (y : Option ℕ) → a < 256 → Within 256 y
-        → joiners x (64 * w) (64 * w) (live s) (stored s layer) a y ≡ joiners x (64 * w) (64 * w) (liveWithin x 256 d) (fresh x d) a y
-    same = joiners-same x (64 * w) (64 * w) high (live s) (liveWithin x 256 d) (stored s layer) (fresh x d) (p .live) (p .newest)
+        → joiners x (64 * w) (64 * w) (live s) (stored s layer) a y ≡ joiners x (64 * w) (64 * w) (liveWithin x 256 d) (fresh x 256 d) a y
+    same = joiners-same x (64 * w) (64 * w) high (live s) (liveWithin x 256 d) (stored s layer) (fresh x 256 d) (p .live) (p .newest)
 
     live-now : (a : ℕ) (y : Option ℕ) → a < 256 → Within 256 y → live t a y ≡ liveWithin x 256 (suc d) a y
     live-now a y ha hy = q .live a y ha hy ∙ ap₂ _||_ (p .live a y ha hy) (same a y ha hy) ∙ sym (within-next x small (64 * w) low high d a y ha hy)
 
-    newest-now : (a : ℕ) (y : Option ℕ) → a < 256 → Within 256 y → stored t next a y ≡ fresh x (suc d) a y
+    newest-now : (a : ℕ) (y : Option ℕ) → a < 256 → Within 256 y → stored t next a y ≡ fresh x 256 (suc d) a y
     newest-now a y ha hy = q .gained a y ha hy ∙ ap₂ _||_ (p .free a y ha hy) (same a y ha hy) ∙ sym (fresh-next x small (64 * w) low high d a y ha hy)
 
     -- every row of the layer is taken out
@@ -161,7 +162,7 @@ module _ (x : RuleSheet) (w : ℕ) (low : 2 ^ streams x ≤ 64 * w) where
           grows = λ a y ha hy e. omega (arith, l, new-pair a y ha hy e);
           last = λ e h.
               let g : d ≡ e = omega arith in
-              (r, pair .0, rw (← g) (of-true (fresh x d r (pair .0)) (sym (p .newest r (pair .0) (omega arith) (pair .1)) ∙ pair .2)));
+              (r, pair .0, rw (← g) (of-true (fresh x 256 d r (pair .0)) (sym (p .newest r (pair .0) (omega arith) (pair .1)) ∙ pair .2)));
         }
 
 -- the layer and the next layer change places
@@ -181,7 +182,7 @@ module _ (x : RuleSheet) (small : 2 ^ streams x ≤ 256) (w layer next : ℕ) (s
   gone : Empty s layer
   gone a b ha hb = o .none-there a b ha hb (λ h. n .skipped a (omega arith) (omega arith))
 
-  empty : (a : ℕ) (b : Option ℕ) → a < 256 → Within 256 b → fresh x d a b ≡ false
+  empty : (a : ℕ) (b : Option ℕ) → a < 256 → Within 256 b → fresh x 256 d a b ≡ false
   empty a b ha hb = sym (p .newest a b ha hb) ∙ gone a b ha hb
 
   pub some-layer : 1 ≤ d
@@ -189,17 +190,17 @@ module _ (x : RuleSheet) (small : 2 ^ streams x ≤ 256) (w layer next : ℕ) (s
   some-layer = go d refl
     where
       go : (k : ℕ) → d ≡ k → 1 ≤ d
-      go zero e = contrary {a = allowed x a₀} ok (ap (λ (k : ℕ). fresh x k a₀ none) (sym e) ∙ empty a₀ none ha₀ tt)
+      go zero e = contrary {a = allowed x a₀} ok (ap (λ (k : ℕ). fresh x 256 k a₀ none) (sym e) ∙ empty a₀ none ha₀ tt)
       go (suc k) e = omega arith
 
   -- the layer before the empty one
-  found : (e : ℕ) → d ≡ suc e → Represents 256 (live s) (Live x) × Reach x e
-  found e h = (represents, reach-is x small e none-left (y .0) (y .1) (y .2))
+  found : (e : ℕ) → d ≡ suc e → Represents 256 (live s) (Live x) × ExactReach x e
+  found e h = (represents, found-reach x small e none-left (y .0) (y .1) (y .2))
     where
-      none-left : (a : ℕ) (b : Option ℕ) → a < 256 → Within 256 b → fresh x (suc e) a b ≡ false
-      none-left a b ha hb = ap (λ (k : ℕ). fresh x k a b) (sym h) ∙ empty a b ha hb
+      none-left : (a : ℕ) (b : Option ℕ) → a < 256 → Within 256 b → fresh x 256 (suc e) a b ≡ false
+      none-left a b ha hb = ap (λ (k : ℕ). fresh x 256 k a b) (sym h) ∙ empty a b ha hb
 
-      y : (a : ℕ) × (b : Option ℕ) × T (fresh x e a b)
+      y : (a : ℕ) × (b : Option ℕ) × T (fresh x 256 e a b)
       y = p .last e h
 
       is : (a : ℕ) (b : Option ℕ) → a < 256 → Within 256 b → live s a b ≡ liveWithin x 256 (suc e) a b
@@ -220,10 +221,10 @@ module _ (x : RuleSheet) (small : 2 ^ streams x ≤ 256) (w layer next : ℕ) (s
     wiped i h l (inr g) (yes b) = zero-now i next (omega arith) (omega arith) (p .free)
     wiped i h l (inr g) (no b) = zero-now i layer (omega arith) (omega arith) gone
 
-    pub search-end : Searched x s₁ s r × Reach x (d - 1) × (d - 1 < r)
+    pub search-end : Searched x s₁ s r × ExactReach x (d - 1) × (d - 1 < r)
     search-end =
         let e : d ≡ suc (d - 1) = omega (arith, some-layer) in
-        let f : Represents 256 (live s) (Live x) × Reach x (d - 1) = found (d - 1) e in (
+        let f : Represents 256 (live s) (Live x) × ExactReach x (d - 1) = found (d - 1) e in (
           record {
             frame = framed-then (st .frame) (p .frame);
             live = f .0;

@@ -1,9 +1,8 @@
--- For the contracts of inner functions: what preparation leaves in the storage, and the numbers that it returns.
+-- For the contracts of inner functions: what preparation leaves in the storage, and the number of live pairs that it returns.
 use mathlib.Core.Path.{_≡_}
 use mathlib.Core.List.{List}
-use mathlib.Core.Option.{Option}
 use Prim.Native.Nat.{ℕ, _≤_, _<_}
-use lib.ListN.{length, getD}
+use lib.ListN.{getD}
 use Rattle.sheet.specs.RuleSheet.{RuleSheet}
 use Rattle.completions.specs.Live.{Live, countPairs}
 use Rattle.completions.specs.Steps.{Represents}
@@ -18,8 +17,3 @@ pub record Searched (x : RuleSheet) (s t : List ℕ) (count : ℕ) : Type 0 wher
   pub counted : count ≡ countPairs 256 (live t)
   pub bound : count ≤ maxPairs
   pub live : Represents 256 (live t) (Live x)
-
--- r is the greatest, over all live pairs, of the fewest further rounds from that pair to the end
-pub record Reach (x : RuleSheet) (r : ℕ) : Type 0 where
-  pub enough : (a : ℕ) (b : Option ℕ) → Live x a b → (h : Live x a b) × (length (h .rest) ≤ r)
-  pub needed : (a : ℕ) × (b : Option ℕ) × Live x a b × ((h : Live x a b) → r ≤ length (h .rest))

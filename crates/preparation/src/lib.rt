@@ -8,13 +8,13 @@ ghost use lib.ListN.{length};
 ghost use Prim.Native.Nat.{ℕ, _*_, _<_, _≤_};
 ghost use Rattle.sheet.specs.RuleSheet.{requiredOf};
 ghost use Rattle.sheet.specs.Reading.{Below};
-ghost use Rattle.completions.specs.Live.{allowed};
+ghost use Rattle.completions.specs.Live.{allowed, ExactReach};
 ghost use Rattle.pairs.specs.Storage.{live, reachedAt, scratchAt, storageWords};
 ghost use Rattle.pairs.specs.Changes.{eqNext};
 ghost use Rattle.lanes.specs.Coded.{Coded, sheetOf, CodedBy, sheetBy};
 ghost use Rattle.predecessors.specs.Rows.{Row};
 ghost use Rattle.preparation.specs.Search.{newcomers, newcomersIn, enders, Joins, Empty, Occupied, Apart, Started, Swept};
-ghost use Rattle.preparation.specs.Searched.{Searched, Reach};
+ghost use Rattle.preparation.specs.Searched.{Searched};
 use predecessors::LayerRow;
 use sheet::Assumed;
 use words::Size;
@@ -146,7 +146,7 @@ fn search(s: &mut [u64], code: &[u8], len: &[usize], size: Size, assumed: Assume
     requires { ⌜ CodedBy size (now code) (now len) ⌝ }
     requires { ⌜ Below assumed (size .outputs) × (storageWords ≤ length (now s)) ⌝ }
     ensures { λ r. ⌜ Searched (sheetBy size (now (code .entry)) (now (len .entry)) (requiredOf assumed)) (now (s .entry)) (now (s .exit)) (r .live) ⌝ }
-    ensures { λ r. ⌜ Reach (sheetBy size (now (code .entry)) (now (len .entry)) (requiredOf assumed)) (r .reach) × (r .reach < r .live) ⌝ }
+    ensures { λ r. ⌜ ExactReach (sheetBy size (now (code .entry)) (now (len .entry)) (requiredOf assumed)) (r .reach) × (r .reach < r .live) ⌝ }
 {
     let w = size.words;
     let mut st = [0u64; 256];
@@ -190,7 +190,7 @@ pub fn prepare(
     requires { ⌜ Below assumed n ⌝ }
     requires { ⌜ storageWords ≤ length (now s) ⌝ }
     ensures { λ r. ⌜ Searched (sheetOf m n (now (code .entry)) (now (len .entry)) (requiredOf assumed)) (now (s .entry)) (now (s .exit)) (r .live) ⌝ }
-    ensures { λ r. ⌜ Reach (sheetOf m n (now (code .entry)) (now (len .entry)) (requiredOf assumed)) (r .reach) × (r .reach < r .live) ⌝ }
+    ensures { λ r. ⌜ ExactReach (sheetOf m n (now (code .entry)) (now (len .entry)) (requiredOf assumed)) (r .reach) × (r .reach < r .live) ⌝ }
 {
     search(s, code, len, words::size_of(m, n), assumed)
 }

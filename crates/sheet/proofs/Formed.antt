@@ -9,7 +9,7 @@ use Rattle.outcomes.specs.declared.Refusal.the-variants.{Length}
 use Rattle.sheet.specs.Expression.{Expr, constant, newest, Parsed, tree, broken, parse}
 use Rattle.sheet.specs.Header.{headerOf, versionOf}
 use Rattle.sheet.specs.RuleSheet.{RuleSheet, outputs, streams, accepted, Outputs, trees, breaks, lengthOk, andThen, readOutputs, withOutputs, withHeader, readSheet, requiredOf}
-use Rattle.sheet.specs.Reading.{ruleSheet, treeOf, codeAt, Usable, Ranges}
+use Rattle.sheet.specs.Reading.{ruleSheet, treeOf, codeAt, Usable, Ranges, Below}
 use Rattle.sheet.specs.Postfix.{InSheet}
 use Rattle.sheet.specs.ReadingChecks.{inputsOf, outputsOf}
 use Rattle.sheet.specs.declared.Sheet.{Sheet}
@@ -95,6 +95,23 @@ usable-formed x u =
           (subst (λ (z : ℕ). InSheet (newest (x .inputs + z)) (treeOf (parse (newest (x .inputs + x .outputs)) [] (codeAt (x .code) (x .len) s)))) (sym n)
           (tree-exactly (newest (x .inputs + x .outputs)) (codeAt (x .code) (x .len) s) _ .0 (u .parts s h .parses) .1));
     }
+
+-- what is assumed is one of the sheet's outputs, or nothing
+pub assumed-of : (bs : List ℕ) (x : RuleSheet) → readSheet bs ≡ accepted x → (a : Assumed) × (x .required ≡ requiredOf a) × Below a (outputs x)
+unfolding readSheet
+assumed-of bs x h = go (headerOf bs) refl h
+  where
+    with : (m n : ℕ) (a : Assumed) → Below a n → (o : Outputs) → readOutputs (record { version = versionOf bs; streams = m + n }) n (drop 8 bs) ≡ o → withOutputs m n a o ≡ accepted x
+        → (a : Assumed) × (x .required ≡ requiredOf a) × Below a (outputs x)
+    with m n a b (trees ts) f e =
+        let same : record { inputs = m; expressions = ts; required = requiredOf a } ≡ x = cc in
+        let size : n ≡ outputs x = sym (all-in (record { version = versionOf bs; streams = m + n }) n (drop 8 bs) ts f .0) ∙ ap outputs same in
+        (a, sym (ap (λ (y : RuleSheet). y .required) same), rw size at b)
+    with m n a b (breaks r) f e = absurd (true≢false cc)
+
+    go : (k : Header) → headerOf bs ≡ k → withHeader bs k ≡ accepted x → (a : Assumed) × (x .required ≡ requiredOf a) × Below a (outputs x)
+    go (Fields m n a) f e = with m n a (fields bs m n a f .2) _ refl e
+    go (Refused r) f e = absurd (true≢false cc)
 
 -- the sheet's counts are those of its header
 pub counts-of : (bs : List ℕ) (x : RuleSheet) → readSheet bs ≡ accepted x → (x .inputs ≡ inputsOf bs) × (outputs x ≡ outputsOf bs)

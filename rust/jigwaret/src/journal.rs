@@ -13,6 +13,7 @@ pub struct Journal {
     storage: Vec<u64>,
     record: [u32; RECORD_NUMBERS],
     live_pairs: usize,
+    reach: usize,
 }
 
 /// How many rounds had each verdict on an output.
@@ -48,7 +49,8 @@ impl Journal {
         let mut record = [0; RECORD_NUMBERS];
         let mut answer = [0; ANSWER_NUMBERS];
         Refusal::outcome(raw::prepare(sheet.bytes(), &mut storage, &mut record, &mut answer))?;
-        Ok(Journal { sheet, storage, record, live_pairs: answer[0] as usize })
+        let [live_pairs, reach] = [answer[0] as usize, answer[1] as usize];
+        Ok(Journal { sheet, storage, record, live_pairs, reach })
     }
 
     /// Takes a round: the set of the letters that it may have been. [`Sheet::letters`] makes one of what
@@ -77,6 +79,12 @@ impl Journal {
     /// in a trace that keeps the assumption to its end.
     pub fn live_pairs(&self) -> usize {
         self.live_pairs
+    }
+
+    /// The most further rounds that any live pair needs to its end. Rounds, at least one, that can be
+    /// completed at all can be completed with at most so many more; it is less than [`Journal::live_pairs`].
+    pub fn reach(&self) -> usize {
+        self.reach
     }
 
     /// How many rounds were accepted.
@@ -122,7 +130,8 @@ mod tests {
     #[test]
     fn whole_session() {
         let mut journal = session();
-        assert_eq!((journal.live_pairs(), journal.rounds(), journal.is_closed()), (44, 0, false));
+        assert_eq!((journal.live_pairs(), journal.reach()), (44, 2));
+        assert_eq!((journal.rounds(), journal.is_closed()), (0, false));
         let rounds = [(3, 1, "?1"), (2, 2, "11"), (1, 1, "?1"), (3, 0, "11"), (3, 2, "!!")];
         for (known, value, expected) in rounds {
             assert_eq!(journal.round(masks(known, value)).unwrap().to_string(), expected);

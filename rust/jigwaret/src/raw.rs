@@ -83,7 +83,8 @@ pub fn evaluate(sheet: &[u8], letters: &[u8], out: &mut [u8]) -> u32 {
     }
 }
 
-/// Prepares the storage, makes the record fresh and writes the live count into `answer`.
+/// Prepares the storage, makes the record fresh and writes the number of live pairs and the exact reach into
+/// `answer`.
 pub fn prepare(sheet: &[u8], storage: &mut [u64], record: &mut [u32], answer: &mut [u32]) -> u32 {
     // SAFETY: the library reads the sheet and writes only inside the other slices.
     unsafe {

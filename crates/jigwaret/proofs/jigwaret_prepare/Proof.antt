@@ -8,7 +8,7 @@ use borrow.Author.Needs.{needs}
 use denote.Ref.{now}
 use Rattle.outcomes.specs.Numbers.{outcomeNo}
 use Rattle.slices.specs.Slices.{numbersOf}
-use Rattle.slices.proofs.SliceLaws.{set-first, Sizes, sizes-tested}
+use Rattle.slices.proofs.SliceLaws.{set-inside, set-two, Sizes, sizes-tested}
 use Rattle.jigwaret.specs.Journal.{slices, PreparationNumbered}
 use Rattle.jigwaret.proofs.JournalLaws.{sizes-wrong, sizes-right, written, not-written, number-of}
 use Rattle.jigwaret.proofs.jigwaret_prepare.Statement.{statement}
@@ -47,6 +47,11 @@ store-requires c κs = fits (c .before .before .before .before .before .before .
 slice-write-answer : tie.Need-slice-write-answer
 slice-write-answer c = omega (arith, fits (c .before .before .before .before .before .before .before .before .before .before) .sixteen)
 
+slice-write-answer-2 : tie.Need-slice-write-answer-2
+slice-write-answer-2 c =
+    let d = c .before .before .before .before .before .before .before .before .before .before in
+    set-inside (now (entry d .args .answer)) 0 _ _ (omega (arith, fits d .sixteen))
+
 same-length : tie.Need-same-length
 same-length c = search needs
 
@@ -62,7 +67,7 @@ returns-2 c =
       answer = p .result;
       result = p .ensures;
       number = number-of (p .result .outcome) _ (c .refusal-number .result) e (c .refusal-number .ensures);
-      written = not-written (numbersOf (p .result .record)) (paste (now (a .answer)) 0 (p .result .live ∷ []) 1) z (p .result .outcome) _ e refl refl;
+      written = not-written (numbersOf (p .result .record)) (paste (now (a .answer)) 0 (p .result .live ∷ p .result .reach ∷ []) 2) z (p .result .outcome) _ e refl refl;
     })
 
 same-length-2 : tie.Need-same-length-2
@@ -82,14 +87,14 @@ returns-3 c =
     let a = entry d .args in
     let p = after-prepare .prepare in
     let n = c .before .before .store .last .0 in
-    let z = slices (now (a .record)) n (now (a .answer)) (set (now (a .answer)) 0 (p .result .live)) in
+    let z = slices (now (a .record)) n (now (a .answer)) (set (set (now (a .answer)) 0 (p .result .live)) 1 (p .result .reach)) in
     let e = after-enum-told .enum-told .given .1 in
     sizes-right (PreparationNumbered (now (a .sheet)) (now (a .storage)) (p .last .1 .0) z 0) (now (a .storage)) (p .last .1 .0) z 0 (fits d)
     (record {
       answer = p .result;
       result = p .ensures;
       number = sym (ap outcomeNo e);
-      written = written (numbersOf (p .result .record)) (paste (now (a .answer)) 0 (p .result .live ∷ []) 1) z (p .result .outcome) e (c .before .before .store .ensures) (set-first (now (a .answer)) (p .result .live) (omega (arith, fits d .sixteen)));
+      written = written (numbersOf (p .result .record)) (paste (now (a .answer)) 0 (p .result .live ∷ p .result .reach ∷ []) 2) z (p .result .outcome) e (c .before .before .store .ensures) (set-two (now (a .answer)) (p .result .live) (p .result .reach) (omega (arith, fits d .sixteen)));
     })
 
 pub jigwaret-prepare-spec : {M : Type 1} → statement M
@@ -104,6 +109,7 @@ jigwaret-prepare-spec =
     enum-told
     store-requires
     slice-write-answer
+    slice-write-answer-2
     same-length
     returns-2
     same-length-2

@@ -4,8 +4,9 @@ use borrow.Author.Needs.{needs}
 use Rattle.words.specs.declared.Size.{Size}
 use Rattle.sheet.specs.RuleSheet.{requiredOf}
 use Rattle.sheet.specs.Reading.{Below}
+use Rattle.completions.specs.Live.{ExactReach}
 use Rattle.lanes.specs.Coded.{Coded, sheetBy}
-use Rattle.preparation.specs.Searched.{Searched, Reach}
+use Rattle.preparation.specs.Searched.{Searched}
 use Rattle.preparation.proofs.prepare.Statement.{statement}
 use Rattle.preparation.proofs.prepare.Tie as tie
 
@@ -33,7 +34,7 @@ returns c =
     let r = after-search .search .ensures in
     let f = after-search .search .result in (
       subst (λ (z : Size). Searched (sheetBy z (a .code .now) (a .len .now) (requiredOf (a .assumed))) (a .s .now) (after-search .search .last .0) (f .live)) e (r .0),
-      (subst (λ (z : Size). Reach (sheetBy z (a .code .now) (a .len .now) (requiredOf (a .assumed))) (f .reach)) e (r .1 .0), r .1 .1),
+      (subst (λ (z : Size). ExactReach (sheetBy z (a .code .now) (a .len .now) (requiredOf (a .assumed))) (f .reach)) e (r .1 .0), r .1 .1),
     )
 
 pub prepare-spec : {M : Type 1} → statement M

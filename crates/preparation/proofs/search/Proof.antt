@@ -1,5 +1,5 @@
 -- `preparation::search` meets its contract.
-use mathlib.Core.Path.{_≡_, refl}
+use mathlib.Core.Path.{_≡_, refl, subst}
 use mathlib.Core.Logic.{inl}
 use mathlib.Core.List.{List}
 use Prim.Native.Nat.{ℕ, suc, _+_, _*_, _-_, _^_, _≤_, _<_}
@@ -7,7 +7,7 @@ use native.Mathlib.Omega.{arith}
 use lib.ListN.{length, getD}
 use borrow.Author.Needs.{needs}
 use Rattle.sheet.specs.RuleSheet.{requiredOf}
-use Rattle.completions.specs.Live.{allowed}
+use Rattle.completions.specs.Live.{allowed, ExactReach}
 use Rattle.pairs.specs.Storage.{reachedAt, scratchAt, storageWords, maxPairs}
 use Rattle.lanes.specs.Coded.{sheetBy}
 use Rattle.predecessors.specs.Rows.{Row}
@@ -131,7 +131,7 @@ sub-reach c =
     let h = c .before .before .before .before .before in
     let e = h .before .before .before .before .before .before .before .before .before .before .before .before in
     let i = h .loop .inv in
-    layers-some _ _ _ _ (e .pre .0 .sized .streams) (e .args .assumed) (e .pre .1 .0) _ _ _ _ _ _ _ _ (i .12 (requiredOf (e .args .assumed)) (h .before .before .before .before .before .before .before .fill-allowed .ensures _ _)) (i .11) (c .before .before .before .next-bit .ensures) (c .before .before .if1 .left)
+    omega (arith, layers-some _ _ _ _ (e .pre .0 .sized .streams) (e .args .assumed) (e .pre .1 .0) _ _ _ _ _ _ _ _ (i .12 (requiredOf (e .args .assumed)) (h .before .before .before .before .before .before .before .fill-allowed .ensures _ _)) (i .11) (c .before .before .before .next-bit .ensures) (c .before .before .if1 .left))
 
 same-length : tie.Need-same-length Inv-loop μ-loop
 same-length c = search needs
@@ -145,7 +145,7 @@ returns c =
     let f =
     search-finish _ _ _ _ (e .pre .0 .sized .streams) (e .args .assumed) (e .pre .1 .0) _ _ _ _ _ _ _ _ (i .12 (requiredOf (e .args .assumed)) (h .before .before .before .before .before .before .before .fill-allowed .ensures _ _)) (i .11)
     (c .before .before .before .next-bit .ensures) (c .before .before .if1 .left) _ _ _ (i .9) (i .8) (i .10) (h .before .before .before .start .ensures) (n .0) (n .1) in
-    (f .0, (f .1, f .2))
+    (f .0, (subst (ExactReach _) (omega arith) (f .1), omega (arith, f .2)))
 
 pub search-spec : {M : Type 1} → statement M
 search-spec =

@@ -811,18 +811,24 @@ pub fn counter_to(bits: usize, last: usize) -> Vec<u8> {
 /// i + 1 two rounds on, and brings input 5 back to input 0, changed where input 0 was true one round
 /// on. Only few contents may be the last ones, so that some are thousands of rounds from the end.
 pub fn register() -> Vec<u8> {
+    register_of(6)
+}
+
+/// The same with other numbers of inputs, two at least.
+pub fn register_of(inputs: usize) -> Vec<u8> {
+    let now = |stream: usize| byte_of_read(stream, 0, false);
     let follows = "60 68 02 04";
-    let full = "40 41 42 43 44 45 03 03 03 03 03";
-    let back = differs(&[0x55], &[0x40]);
-    let feed =
-        [bytes(follows), back, bytes("03"), bytes(follows), bytes("02"), bytes(full), bytes("02 03 04")].concat();
+    let mut full: Vec<u8> = (0..inputs).map(now).collect();
+    full.extend(vec![0x03; inputs - 1]);
+    let back = differs(&[byte_of_read(inputs - 1, -1, false)], &[now(0)]);
+    let feed = [bytes(follows), back, bytes("03"), bytes(follows), bytes("02"), full, bytes("02 03 04")].concat();
     let alike = |left: u8, right: u8| vec![left, right, 0x03, left, 0x02, right, 0x02, 0x03, 0x04];
-    let mut moves = alike(0x60, 0x46);
-    for input in 1..6 {
+    let mut moves = alike(0x60, now(inputs));
+    for input in 1..inputs {
         moves.extend(alike(byte_of_read(input, 1, false), byte_of_read(input - 1, -1, false)));
         moves.push(0x03);
     }
-    write(6, 1, &[feed, moves])
+    write(inputs as u8, 1, &[feed, moves])
 }
 
 /// An expression that is true for one letter alone.

@@ -23,10 +23,13 @@ fn again(sheet: &[u8], held: &mut Held) -> u32 {
     library::prepare(sheet, &mut held.storage, &mut held.record, &mut held.answer)
 }
 
-/// The numbers of an accepted preparation, which leaves the rest of the answer alone.
+/// The live count and the reach, which is less, of an accepted preparation; the rest of the answer is left
+/// alone.
 fn numbers(held: &Held) -> [usize; 2] {
     assert_eq!(held.answer[2..], [UNWRITTEN; 14]);
-    [0, 1].map(|number| held.answer[number] as usize)
+    let [live, reach] = [0, 1].map(|number| held.answer[number] as usize);
+    assert!(reach < live && live <= 65_792, "{reach}, {live}");
+    [live, reach]
 }
 
 fn size(sheet: &Sheet) -> usize {
@@ -52,7 +55,7 @@ fn by_trying_lists() {
         let sheet = circular::accept(&bytes).unwrap();
         let (number, held) = prepare(&mut random, &bytes);
         assert_eq!(number, 0);
-        let [count, reach] = numbers(&held);
+        let [_, reach] = numbers(&held);
         let live = Pairs::from_words(size(&sheet), &held.storage[..SET_WORDS]).all();
         let needed: Vec<Option<usize>> = live.iter().map(|&pair| fewest(&sheet, pair, reach)).collect();
         assert!(needed.iter().all(Option::is_some), "{reach} is not enough: {}", hex(&bytes));
@@ -62,7 +65,6 @@ fn by_trying_lists() {
             let assumed = live.contains(&(a, size(&sheet)));
             assert!(!assumed || !starts_a_list(&sheet, a, b, reach + 2), "({a}, {b}) of {}", hex(&bytes));
         }
-        assert!(reach < count);
         seen[reach.min(5)] += 1;
     }
     assert!(seen.iter().take(4).all(|&times| times >= 5), "{seen:?}");
@@ -117,11 +119,12 @@ fn counters() {
     }
 }
 
-/// Thousands of layers, on whatever the storage held, and once more behind rounds of a journal.
+/// Hundreds and thousands of layers, on whatever the storage held, and once more behind rounds of a journal.
 #[test]
 fn deep_sheets() {
     let mut random = Random::new(1304);
-    for (sheet, deepest) in [(cases::counter(), 64), (cases::register(), 3254)] {
+    for (inputs, deepest) in [(2, 14), (3, 62), (4, 62), (5, 888), (6, 3254)] {
+        let sheet = cases::register_of(inputs);
         let monitor = Monitor::new(&sheet).unwrap();
         assert_eq!(monitor.reach, deepest);
         for _ in 0..3 {
@@ -129,7 +132,7 @@ fn deep_sheets() {
             let found = numbers(&held);
             assert_eq!((number, found), (0, [monitor.live.count(), deepest]));
             for _ in 0..5 {
-                let letters = random.round(sheet[5] as usize, 50).0;
+                let letters = random.round(inputs, 50).0;
                 let lent = (&mut held.storage, &mut held.record, &mut held.answer);
                 assert_eq!(library::round(&sheet, lent.0, lent.1, letters, lent.2), 0);
             }

@@ -63,21 +63,33 @@ all-in s (suc k) (l ∷ bs) ts h =
     go true (broken x) e o r h = absurd (true≢false cc)
     go false p e o r h = absurd (true≢false cc)
 
-formed-of : (v m n : ℕ) (a : Assumed) → Ranges m n → (bs : List ℕ) (o : Outputs) → readOutputs (record { version = v; streams = m + n }) n bs ≡ o → (x : RuleSheet) → withOutputs m n a o ≡ accepted x → FormedIn v x
-formed-of v m n a g bs (trees ts) e x h =
-    let r = all-in (record { version = v; streams = m + n }) n bs ts e in
-    let y : RuleSheet = record { inputs = m; expressions = ts; required = requiredOf a } in
-    let same : y ≡ x = cc in
-    subst (FormedIn v) same (record { ranges = rw (r .0) g; each = λ s l. subst (λ (z : ℕ). InSheet (record { version = v; streams = m + z }) (getD ts s (constant false))) (sym (r .0)) (r .1 s (omega (arith, r .0))) })
-formed-of v m n a g bs (breaks r) e x h = absurd (true≢false cc)
+-- the header and the outputs that a sheet is read from
+record From (bs : List ℕ) (x : RuleSheet) : Type 0 where
+  assumed : Assumed
+  header : headerOf bs ≡ Fields (x .inputs) (outputs x) assumed
+  body : readOutputs (record { version = versionOf bs; streams = streams x }) (outputs x) (drop 8 bs) ≡ trees (x .expressions)
+  required : x .required ≡ requiredOf assumed
+
+read-from : (bs : List ℕ) (x : RuleSheet) → readSheet bs ≡ accepted x → From bs x
+unfolding readSheet
+read-from bs x h = go (headerOf bs) refl h
+  where
+    with : (m n : ℕ) (a : Assumed) → headerOf bs ≡ Fields m n a → (o : Outputs) → readOutputs (record { version = versionOf bs; streams = m + n }) n (drop 8 bs) ≡ o
+        → withOutputs m n a o ≡ accepted x → From bs x
+    with m n a f (trees ts) g e =
+        let same : record { inputs = m; expressions = ts; required = requiredOf a } ≡ x = cc in
+        let size : length ts ≡ n = all-in (record { version = versionOf bs; streams = m + n }) n (drop 8 bs) ts g .0 in
+        subst (From bs) same (record { assumed = a; header = rw size f; body = rw size g; required = refl })
+    with m n a f (breaks r) g e = absurd (true≢false cc)
+
+    go : (k : Header) → headerOf bs ≡ k → withHeader bs k ≡ accepted x → From bs x
+    go (Fields m n a) f e = with m n a f _ refl e
+    go (Refused r) f e = absurd (true≢false cc)
 
 pub formed-in : (bs : List ℕ) (x : RuleSheet) → readSheet bs ≡ accepted x → FormedIn (versionOf bs) x
-unfolding readSheet
-formed-in bs x h = go (headerOf bs) refl h
-  where
-    go : (k : Header) → headerOf bs ≡ k → withHeader bs k ≡ accepted x → FormedIn (versionOf bs) x
-    go (Fields m n a) f e = formed-of (versionOf bs) m n a (fields bs m n a f .1) (drop 8 bs) _ refl x e
-    go (Refused r) f e = absurd (true≢false cc)
+formed-in bs x h =
+    let r = read-from bs x h in
+    record { ranges = fields bs (x .inputs) (outputs x) (r .assumed) (r .header) .1; each = all-in _ (outputs x) (drop 8 bs) (x .expressions) (r .body) .1 }
 
 pub read-formed : (bs : List ℕ) (x : RuleSheet) → readSheet bs ≡ accepted x → Formed x
 read-formed bs x h =
@@ -98,35 +110,8 @@ usable-formed x u =
 
 -- what is assumed is one of the sheet's outputs, or nothing
 pub assumed-of : (bs : List ℕ) (x : RuleSheet) → readSheet bs ≡ accepted x → (a : Assumed) × (x .required ≡ requiredOf a) × Below a (outputs x)
-unfolding readSheet
-assumed-of bs x h = go (headerOf bs) refl h
-  where
-    with : (m n : ℕ) (a : Assumed) → Below a n → (o : Outputs) → readOutputs (record { version = versionOf bs; streams = m + n }) n (drop 8 bs) ≡ o → withOutputs m n a o ≡ accepted x
-        → (a : Assumed) × (x .required ≡ requiredOf a) × Below a (outputs x)
-    with m n a b (trees ts) f e =
-        let same : record { inputs = m; expressions = ts; required = requiredOf a } ≡ x = cc in
-        let size : n ≡ outputs x = sym (all-in (record { version = versionOf bs; streams = m + n }) n (drop 8 bs) ts f .0) ∙ ap outputs same in
-        (a, sym (ap (λ (y : RuleSheet). y .required) same), rw size at b)
-    with m n a b (breaks r) f e = absurd (true≢false cc)
-
-    go : (k : Header) → headerOf bs ≡ k → withHeader bs k ≡ accepted x → (a : Assumed) × (x .required ≡ requiredOf a) × Below a (outputs x)
-    go (Fields m n a) f e = with m n a (fields bs m n a f .2) _ refl e
-    go (Refused r) f e = absurd (true≢false cc)
+assumed-of bs x h = let r = read-from bs x h in (r .assumed, r .required, fields bs (x .inputs) (outputs x) (r .assumed) (r .header) .2)
 
 -- the sheet's counts are those of its header
 pub counts-of : (bs : List ℕ) (x : RuleSheet) → readSheet bs ≡ accepted x → (x .inputs ≡ inputsOf bs) × (outputs x ≡ outputsOf bs)
-unfolding readSheet
-counts-of bs x h = go (headerOf bs) refl h
-  where
-    with : (m n : ℕ) (a : Assumed) (o : Outputs) → readOutputs (record { version = versionOf bs; streams = m + n }) n (drop 8 bs) ≡ o → withOutputs m n a o ≡ accepted x → (x .inputs ≡ m) × (outputs x ≡ n)
-    with m n a (trees ts) f e =
-        let same : record { inputs = m; expressions = ts; required = requiredOf a } ≡ x = cc in
-        (sym (ap (λ (y : RuleSheet). y .inputs) same), sym (ap outputs same) ∙ all-in (record { version = versionOf bs; streams = m + n }) n (drop 8 bs) ts f .0)
-    with m n a (breaks r) f e = absurd (true≢false cc)
-
-    go : (k : Header) → headerOf bs ≡ k → withHeader bs k ≡ accepted x → (x .inputs ≡ inputsOf bs) × (outputs x ≡ outputsOf bs)
-    go (Fields m n a) f e =
-        let c = with m n a _ refl e in
-        let d = fields-are bs m n a f in
-        (c .0 ∙ d .0, c .1 ∙ d .1)
-    go (Refused r) f e = absurd (true≢false cc)
+counts-of bs x h = let r = read-from bs x h in fields-are bs (x .inputs) (outputs x) (r .assumed) (r .header)

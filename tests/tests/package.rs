@@ -1,7 +1,8 @@
 //! The Rust package's journals against the book, and its sets against the outside ones: verdicts,
-//! refusals, counts and shares, whatever a round is handed.
+//! refusals, counts and shares, whatever a round is handed, and the two numbers of a preparation.
 
 use jigwaret::{Heard, Journal, LetterSet, Refusal, Sheet};
+use outside::cases;
 use outside::journal::{print, Book};
 use outside::letters;
 use outside::monitor::Monitor;
@@ -30,7 +31,7 @@ fn said(heard: letters::Heard) -> Heard {
 #[test]
 fn sets_of_masks() {
     let mut random = Random::new(62);
-    let sheets = [1, 2, 3, 4, 5, 6].map(|inputs| Sheet::new(outside::cases::plain(inputs, &["40"])).unwrap());
+    let sheets = [1, 2, 3, 4, 5, 6].map(|inputs| Sheet::new(cases::plain(inputs, &["40"])).unwrap());
     for _ in 0..20_000 {
         let (inputs, heard) = (random.below(9) as u8, random.masks());
         let set = LetterSet::from_masks(inputs, heard.known, heard.value);
@@ -78,11 +79,23 @@ fn random_journals() {
         let mut journal = Journal::prepare(Sheet::new(bytes).expect("made to be accepted")).expect("enough storage");
         let mut book = Book::new(&monitor);
         compare(&mut random, &mut journal, &mut book);
+        assert_eq!((journal.live_pairs(), journal.reach()), (monitor.live.count(), monitor.reach));
         assert_eq!((journal.rounds() as usize, journal.is_closed()), (book.rounds.len(), book.closed));
         for output in 0..9 {
             let counts = journal.counts(output);
             let four = counts.map(|c| [c.true_rounds, c.false_rounds, c.open_rounds, c.broken_rounds]);
             assert_eq!(four.as_ref(), book.counts.get(output));
         }
+    }
+}
+
+#[test]
+fn live_pairs_and_reach() {
+    let mut random = Random::new(63);
+    let drawn = (0..300).map(|_| random::accepted(&mut random));
+    for bytes in drawn.chain([cases::counter(), cases::register()]) {
+        let monitor = Monitor::new(&bytes).expect("made to be accepted");
+        let journal = Journal::prepare(Sheet::new(bytes).expect("made to be accepted")).expect("enough storage");
+        assert_eq!((journal.live_pairs(), journal.reach()), (monitor.live.count(), monitor.reach));
     }
 }

@@ -1,5 +1,5 @@
 -- Proofs of the further sentences.
-use mathlib.Core.Path.{_≡_, refl}
+use mathlib.Core.Path.{_≡_, refl, subst}
 use mathlib.Core.List.{List, [], _∷_, _++_}
 use Prim.Native.Nat.{ℕ, _≤_}
 use native.Mathlib.Omega.{arith}
@@ -17,7 +17,9 @@ use Rattle.completions.proofs.Verdicts.{one-verdict}
 use Rattle.completions.proofs.Backward.{liveWithin, settled-exact, settles, small-256}
 use Rattle.completions.proofs.Range.{wider, some-allowed}
 use Rattle.completions.proofs.ExactReach.{one-reach, end-needs-none, some-reach, reach-below, completed-within, reach-of}
+use Rattle.pairs.specs.Storage.{live}
 use Rattle.effects.specs.Results.{width}
+use Rattle.monitor.specs.Entries.{Prepares}
 use Rattle.claims.specs.Further.{LiveSet, OneVerdict, SomeVerdict, StaysBroken, OneReach, SomeReach, EndNeedsNone, ReachBelow, WithinReach, ShortCompletion, StaysInOrder}
 use Rattle.claims.proofs.BookLaws.{reached-by, reaches-round, reaches-closing}
 use Rattle.claims.proofs.ThirdDemand.{began, after-calls}
@@ -70,7 +72,12 @@ end-mark = record {
 }
 
 pub reach-bounded : ReachBelow
-reach-bounded x few = reach-below x 256 (small-256 x few)
+reach-bounded = record {
+  of-sheet = λ x few. reach-below x 256 (small-256 x few);
+  answered = λ bs s t a z o.
+      let (x, e, d) = subst (Prepares bs s t a) o (z .result) in
+      omega (arith, d .count, reach-below x 256 (small-256 x (read-formed bs x e .ranges .streams)) (live t) (d .lives) (a .reach) (d .reach));
+}
 
 pub within-reach : WithinReach
 within-reach x n p r rs ls c = let z = completed-within x r rs ls c n p in (z .0, z .1, omega (arith, z .2))
@@ -80,7 +87,7 @@ pub short-completion : ShortCompletion
 short-completion x few L live r rs ls c =
     let (n, p) = reach-of x r rs ls c 256 (small-256 x few) in
     let z = within-reach x n p r rs ls c in
-    (z .0, z .1, omega (arith, z .2, reach-bounded x few L live n p))
+    (z .0, z .1, omega (arith, z .2, reach-bounded .of-sheet x few L live n p))
 
 pub stays-in-order : StaysInOrder
 stays-in-order bs s t p z o cs as′ h run =

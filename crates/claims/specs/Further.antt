@@ -84,9 +84,10 @@ pub record EndNeedsNone : Type 0 where
   pub no-round : (x : RuleSheet) (a : ℕ) (h : Live x a none) → length (h .rest) ≡ 0
   pub some-end : (bs : List ℕ) (x : RuleSheet) → readSheet bs ≡ accepted x → (a : ℕ) × Live x a none
 
--- the exact reach is below the number of live pairs, which are those of L (02, W13)
-abbrev pub ReachBelow : Type 0
-ReachBelow = (x : RuleSheet) → streams x ≤ 8 → (L : Pairs) → Represents 256 L (Live x) → (r : ℕ) → ExactReach x r → r < countPairs 256 L
+-- the exact reach is below the number of live pairs, which are those of L, and so it is in the answer of an accepted preparation (02, W13)
+pub record ReachBelow : Type 0 where
+  pub of-sheet : (x : RuleSheet) → streams x ≤ 8 → (L : Pairs) → Represents 256 L (Live x) → (r : ℕ) → ExactReach x r → r < countPairs 256 L
+  pub answered : (bs s t : List ℕ) (a : PrepareAnswer) → PrepareCall bs s t a → a .outcome ≡ Accepted → a .reach < a .live
 
 -- a prefix of one or more rounds that has a completion has one with at most as many further rounds as the exact reach (02, W13)
 abbrev pub WithinReach : Type 0

@@ -37,7 +37,8 @@ pub record Live (x : RuleSheet) (a : ℕ) (b : Option ℕ) : Type 0 where
   pub starts : first rest ≡ b
   pub satisfies : Follows x (some a) rest
 
--- r is the exact reach (02, W13): from every live pair the end comes within r further rounds, and from one of them not sooner
+-- r is the exact reach (02, W13). The valuations of a list that makes a pair live are the further rounds to the end: for every live pair some list
+-- has at most r of them, and for one live pair no list has fewer.
 pub record ExactReach (x : RuleSheet) (r : ℕ) : Type 0 where
   pub enough : (a : ℕ) (b : Option ℕ) → Live x a b → (h : Live x a b) × (length (h .rest) ≤ r)
   pub needed : (a : ℕ) × (b : Option ℕ) × Live x a b × ((h : Live x a b) → r ≤ length (h .rest))

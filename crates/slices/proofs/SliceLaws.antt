@@ -73,10 +73,6 @@ stored-numbers a b ns counts new e f p =
     let g : length (set (set ns 0 a) 1 b) ≡ 30 = length-set (set ns 0 a) 1 b ∙ length-set ns 0 a ∙ e in
     p ∙ rw (two-set a b ns (omega (arith, e)), take-all 28 counts (omega (arith, f)), none-left 30 (set (set ns 0 a) 1 b) g) (ap (λ (z : List ℕ). a ∷ (b ∷ z)) (append-nil counts))
 
--- what is inside stays inside
-pub set-inside : (ns : List ℕ) (i v k : ℕ) → k < length ns → k < length (set ns i v)
-set-inside ns i v k h = simp length-set h
-
 -- two numbers in front
 pub set-two : (ns : List ℕ) (a b : ℕ) → 2 ≤ length ns → set (set ns 0 a) 1 b ≡ paste ns 0 (a ∷ b ∷ []) 2
 set-two [] a b h = absurd (omega arith)

@@ -1,14 +1,15 @@
 -- `jigwaret::jigwaret_prepare` meets its contract.
 use mathlib.Core.Path.{refl, sym, ap}
 use mathlib.Core.List.{_∷_, []}
+use Prim.Native.Nat.{ℕ}
 use native.Mathlib.Omega.{arith}
 use lib.ListN.{set}
 use lib.Seq.{paste}
-use borrow.Author.Needs.{needs}
+use borrow.Author.Needs.{needs, below-set}
 use denote.Ref.{now}
 use Rattle.outcomes.specs.Numbers.{outcomeNo}
 use Rattle.slices.specs.Slices.{numbersOf}
-use Rattle.slices.proofs.SliceLaws.{set-inside, set-two, Sizes, sizes-tested}
+use Rattle.slices.proofs.SliceLaws.{set-two, Sizes, sizes-tested}
 use Rattle.jigwaret.specs.Journal.{slices, PreparationNumbered}
 use Rattle.jigwaret.proofs.JournalLaws.{sizes-wrong, sizes-right, written, not-written, number-of}
 use Rattle.jigwaret.proofs.jigwaret_prepare.Statement.{statement}
@@ -50,7 +51,7 @@ slice-write-answer c = omega (arith, fits (c .before .before .before .before .be
 slice-write-answer-2 : tie.Need-slice-write-answer-2
 slice-write-answer-2 c =
     let d = c .before .before .before .before .before .before .before .before .before .before in
-    set-inside (now (entry d .args .answer)) 0 _ _ (omega (arith, fits d .sixteen))
+    below-set ℕ (now (entry d .args .answer)) _ 0 _ (omega (arith, fits d .sixteen))
 
 same-length : tie.Need-same-length
 same-length c = search needs

@@ -1,4 +1,5 @@
 // The program's talk with the system: which call is due, and what its answer makes of the run. Nothing here calls the system.
+#![tactic(auto)]
 ghost use Rattle.std.specs.Prelude.{◌+◌, ◌*◌, ◌≤◌, ◌≡◌, true, [], length};
 ghost use Rattle.circular.specs.Accepted.{IsAccepted};
 ghost use Rattle.pairs.specs.Storage.{storage_words};
@@ -12,7 +13,7 @@ use protocol::Progress;
 use sheet::Sheet;
 
 // What the system said to a call: how many bytes it moved, or why none.
-#[derive(Drop)]
+#[derive(Clone, Copy)]
 pub enum Reply {
     Moved(usize),
     Interrupted,
@@ -21,7 +22,7 @@ pub enum Reply {
 }
 
 // How a run of the program ends: with all that is to be written, with an input or an output that failed, or before its end.
-#[derive(Drop)]
+#[derive(Clone, Copy)]
 pub enum End {
     Whole,
     InputFailed,
@@ -30,7 +31,7 @@ pub enum End {
 }
 
 // Where the talk stands: the run, whether more of the input is wanted, and which bytes of the output's buffer are still to be written.
-#[derive(Drop)]
+#[derive(Clone, Copy)]
 pub struct Dialogue {
     pub state: Progress,
     pub more: bool,
@@ -39,7 +40,7 @@ pub struct Dialogue {
 }
 
 // The sheet that was read, and where the talk stands before the first call.
-#[derive(Drop)]
+#[derive(Clone, Copy)]
 pub struct Opened {
     pub sheet: Sheet,
     pub dialogue: Dialogue,

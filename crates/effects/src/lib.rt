@@ -1,4 +1,5 @@
 // What an accepted preparation, round and closing do, with a sheet that can be used.
+#![tactic(auto)]
 ghost use Rattle.std.specs.Prelude.{◌≡◌, true, List, ℕ, ◌+◌, ◌^◌, ◌<◌, ◌≤◌, length};
 ghost use Rattle.words.specs.Bits.{bit};
 ghost use Rattle.record.specs.Record.{max_rounds, record_ok};
@@ -15,7 +16,7 @@ use record::JournalRecord;
 use sheet::Sheet;
 
 // What preparation answers: a fresh record, the number of live pairs and their exact reach; where it is refused, 0 and 0.
-#[derive(Drop)]
+#[derive(Clone, Copy)]
 pub struct PrepareAnswer {
     pub outcome: Outcome,
     pub record: JournalRecord,
@@ -25,7 +26,7 @@ pub struct PrepareAnswer {
 
 // What a round answers: the record after it and each output's verdict. Where it is refused, the record is the one handed in and the
 // verdicts are false; so are those of outputs that the sheet doesn't have.
-#[derive(Drop)]
+#[derive(Clone, Copy)]
 pub struct RoundAnswer {
     pub outcome: Outcome,
     pub record: JournalRecord,
@@ -33,7 +34,7 @@ pub struct RoundAnswer {
 }
 
 // What a closing answers: the same for a journal that ends here, its record closed, with each output's share.
-#[derive(Drop)]
+#[derive(Clone, Copy)]
 pub struct ClosingAnswer {
     pub outcome: Outcome,
     pub record: JournalRecord,

@@ -1,4 +1,5 @@
 // The functions that programs in C and Rust call: 0 for accepted, or the number of the refusal. A slice passes as a pointer, then its
+#![tactic(auto)]
 // length.
 ghost use Rattle.jigwaret.specs.Numbered.{Checked, EvaluatedAs, LettersAs};
 ghost use Rattle.jigwaret.specs.Journal.{slices as Journal·slices, PreparedAs, RoundAs, ClosedAs, TogetherAs};

@@ -1,4 +1,5 @@
 // The journal program: makes the calls of the system that are due, and hands what they gave to the crate `dialogue`.
+#![tactic(auto)]
 ghost use Rattle.std.specs.Prelude.{◌+◌, ◌*◌, ◌≤◌, ◌≡◌, true, length};
 ghost use Rattle.letter_table.specs.Entry.{Sets};
 ghost use Rattle.line_scan.specs.Scan.{InTable};
@@ -12,14 +13,14 @@ use record::JournalRecord;
 use sheet::Sheet;
 
 // What the system said to a call, and where the talk stands after it.
-#[derive(Drop)]
+#[derive(Clone, Copy)]
 struct Called {
     reply: Reply,
     dialogue: Dialogue,
 }
 
 // What the system said to the call of a turn, where the talk stands after it, and whether it goes on; if not, how it ends.
-#[derive(Drop)]
+#[derive(Clone, Copy)]
 struct Turned {
     reply: Reply,
     dialogue: Dialogue,
@@ -28,7 +29,7 @@ struct Turned {
 }
 
 // How a run ended, how many calls went before its end, and where the talk then stood.
-#[derive(Drop)]
+#[derive(Clone, Copy)]
 struct Ended {
     end: End,
     calls: u64,
@@ -36,7 +37,7 @@ struct Ended {
 }
 
 // How many bytes the sheet's file gave, or why none.
-#[derive(Drop)]
+#[derive(Clone, Copy)]
 enum Loaded {
     Bytes(usize),
     Missing,
@@ -45,7 +46,7 @@ enum Loaded {
 }
 
 // What came of the sheet's file, what the system said last, and how many reads there were.
-#[derive(Drop)]
+#[derive(Clone, Copy)]
 struct Reading {
     loaded: Loaded,
     reply: Reply,

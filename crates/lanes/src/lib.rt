@@ -1,4 +1,5 @@
 // Expressions evaluated in a row of words at once, 64 lanes each: two words for up to 128 valuations, else four. What the expressions read is one
+#![tactic(auto)]
 // word, bit byte - 0x40 for the read byte. A second word has the same bit set for the reads that are of the lane's own valuation instead: those of
 // the round itself, one earlier or one later.
 ghost use Rattle.std.specs.Prelude.{◌≡◌, List, ℕ, ◌+◌, ◌*◌, ◌<◌, ◌≤◌, length, get_or};
@@ -28,7 +29,7 @@ const OWN_LATER: u64 = 0xffff_0000_0000;
 
 // What the lanes of a row of so many words read: the bits of `env`, and the lane's own valuation where `own` has a bit set. `round` is the round
 // itself, where its reads are not the lane's own.
-#[derive(Drop)]
+#[derive(Clone, Copy)]
 struct Reads {
     words: usize,
     env: u64,

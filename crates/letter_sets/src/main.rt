@@ -1,4 +1,5 @@
 // The program that prints the table of letter sets: its entries from 0 up, in decimal, one a line. It takes no input.
+#![tactic(auto)]
 use libc::STDOUT_FILENO;
 
 fn main() {

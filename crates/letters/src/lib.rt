@@ -1,4 +1,5 @@
 // A round's set of letters: bit l of the word is letter l. What it is refused for, and how it is made from masks.
+#![tactic(auto)]
 ghost use Rattle.std.specs.Prelude.{◌≡◌, ◌&&◌, ℕ, ◌%◌, ◌^◌, ◌<◌, ◌≤◌, ltb};
 ghost use Rattle.words.specs.Bits.{bit};
 ghost use Rattle.letters.specs.Masks.{bad_masks};
@@ -54,7 +55,7 @@ fn letters_of(m: u8, known: u8, value: u8) -> u64
 }
 
 // A set made from masks; 0 where it is refused.
-#[derive(Drop)]
+#[derive(Clone, Copy)]
 pub struct LettersMade {
     pub outcome: Outcome,
     pub letters: u64,

@@ -1,4 +1,5 @@
 // The end of a line: the call that it stands for is answered, and the answer written.
+#![tactic(auto)]
 ghost use Rattle.std.specs.Prelude.{◌≡◌, true, false, cond, List, ℕ, ◌+◌, ◌≤◌, ◌<◌, length};
 ghost use Rattle.outcomes.specs.declared.Refusal.TheVariants.{Closed, Line};
 ghost use Rattle.buffer.specs.Wrote.{Placed};
@@ -20,7 +21,7 @@ use record::JournalRecord;
 use sheet::Sheet;
 
 // Whether the run is over, the number of the next line, the record after the line, and the place after what was written.
-#[derive(Drop)]
+#[derive(Clone, Copy)]
 pub struct Ended {
     pub over: bool,
     pub line: u64,

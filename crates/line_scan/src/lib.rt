@@ -1,4 +1,5 @@
 // The line that is being read: what its bytes so far come to, and what it stands for once it is whole.
+#![tactic(auto)]
 ghost use Rattle.std.specs.Prelude.{◌≡◌, true, false, List, [], ◌∷◌, ◌++◌, ℕ, ◌≤◌, ◌<◌, length};
 ghost use Rattle.letter_table.specs.Entry.{Sets};
 ghost use Rattle.line_scan.specs.Lines.{is_mark, read_line, all_letters, asked};
@@ -8,7 +9,7 @@ ghost use Rattle.line_scan.specs.Meaning.{line_of};
 
 // The letters that fit one of the alternatives that a bar ended. Of the one at hand: how many marks it has, their index in the table of letter
 // sets, and what a digit of the next mark counts there, 3 to the number of marks.
-#[derive(Drop)]
+#[derive(Clone, Copy)]
 pub struct Alternatives {
     pub set: u64,
     pub count: u8,
@@ -17,7 +18,7 @@ pub struct Alternatives {
 }
 
 // What the bytes of a line are: none; marks and bars; a lone dot; or the beginning of no line that is well formed.
-#[derive(Drop)]
+#[derive(Clone, Copy)]
 pub enum Pending {
     Blank,
     Marks(Alternatives),
@@ -26,7 +27,7 @@ pub enum Pending {
 }
 
 // What a whole line is: blank, a round with its set of letters, the closing, or no call at all.
-#[derive(Drop)]
+#[derive(Clone, Copy)]
 pub enum Meaning {
     Blank,
     Round(u64),

@@ -1,9 +1,10 @@
 // Why a call is turned down, and the verdicts: the enums that every entry answers with, and the numbers they stand for.
+#![tactic(auto)]
 ghost use Rattle.std.specs.Prelude.{◌≡◌, replicate};
 ghost use Rattle.outcomes.specs.Numbers.{refusal_no, outcome_no, verdict_no, untold};
 
 // One case for each rule of the table, in the table's order. 19, 20, 22 and 23 have none.
-#[derive(Drop)]
+#[derive(Clone, Copy)]
 pub enum Refusal {
     Short,
     Mark,
@@ -28,7 +29,7 @@ pub enum Refusal {
 }
 
 // What a check says: nothing is broken, or the first rule that is.
-#[derive(Drop)]
+#[derive(Clone, Copy)]
 pub enum Outcome {
     Accepted,
     Refused(Refusal),
@@ -36,7 +37,7 @@ pub enum Outcome {
 
 // The verdict on an output in a round, or at a closing: false or true in every completion, open where they differ, broken where there is
 // no completion.
-#[derive(Drop)]
+#[derive(Clone, Copy)]
 pub enum Verdict {
     False,
     True,
@@ -45,7 +46,7 @@ pub enum Verdict {
 }
 
 // A verdict as an answer holds it: one of an array, an entry for each output.
-#[derive(Drop)]
+#[derive(Clone, Copy)]
 pub struct Told {
     pub verdict: Verdict,
 }

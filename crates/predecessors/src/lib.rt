@@ -1,4 +1,5 @@
 // Rows of valuations: those that are allowed, and those that may stand before the pairs of a row.
+#![tactic(auto)]
 ghost use Rattle.std.specs.Prelude.{◌≡◌, true, ◌&&◌, List, length, ℕ, ◌+◌, ◌*◌, ◌<◌, ◌≤◌};
 ghost use Rattle.std.proofs.Math.Option.{some};
 ghost use Rattle.words.specs.Bits.{bit};
@@ -76,7 +77,7 @@ fn gain(row: &mut [u64], ok: &[u64], x: &[u64], w: usize)
 }
 
 // A pair: b and c or, where last, b and the end.
-#[derive(Drop)]
+#[derive(Clone, Copy)]
 struct Pair {
     pub b: usize,
     pub last: bool,
@@ -108,7 +109,7 @@ fn unite(
 }
 
 // Row b of a layer, which has pairs of a sheet of that size.
-#[derive(Drop)]
+#[derive(Clone, Copy)]
 pub struct LayerRow {
     pub size: Size,
     pub layer: usize,

@@ -1,4 +1,5 @@
 // Preparation: finds the live pairs of a sheet, layer by layer backward from the end.
+#![tactic(auto)]
 ghost use Rattle.std.specs.Prelude.{◌≡◌, not, ◌&&◌, List, eqb, length, ℕ, ◌*◌, ◌<◌, ◌≤◌};
 ghost use Rattle.std.proofs.Math.Option.{none, some};
 ghost use Rattle.sheet.specs.RuleSheet.{required_of};
@@ -78,7 +79,7 @@ fn join_ends(s: &mut [u64], row: &[u64], w: usize)
 }
 
 // A stage of the search over a sheet of that size: the places of the layer whose pairs are taken up, and of the next layer.
-#[derive(Drop)]
+#[derive(Clone, Copy)]
 struct Stage {
     pub size: Size,
     pub layer: usize,
@@ -133,7 +134,7 @@ fn start(s: &mut [u64], row: &[u64], w: usize)
 }
 
 // The number of live pairs, and the greatest of the fewest rounds from a live pair to the end.
-#[derive(Drop)]
+#[derive(Clone, Copy)]
 pub struct Found {
     pub live: usize,
     pub reach: usize,

@@ -1,4 +1,5 @@
 // The line protocol of the journal program.
+#![tactic(auto)]
 ghost use Rattle.std.specs.Prelude.{◌+◌, ◌*◌, ◌≤◌, length, take};
 ghost use Rattle.circular.specs.Accepted.{IsAccepted};
 ghost use Rattle.pairs.specs.Storage.{storage_words};
@@ -12,7 +13,7 @@ use record::JournalRecord;
 use sheet::Sheet;
 
 // Where a run stands: whether it is over, the number of the line that is being read, the journal's record, and what has come of the line.
-#[derive(Drop)]
+#[derive(Clone, Copy)]
 pub struct Progress {
     pub over: bool,
     pub line: u64,
@@ -21,7 +22,7 @@ pub struct Progress {
 }
 
 // The sheet that was read and where the run stands, and how many bytes were written.
-#[derive(Drop)]
+#[derive(Clone, Copy)]
 pub struct Started {
     pub outcome: Outcome,
     pub sheet: Sheet,
@@ -30,7 +31,7 @@ pub struct Started {
 }
 
 // Where the run stands after a chunk, and how many bytes were written.
-#[derive(Drop)]
+#[derive(Clone, Copy)]
 pub struct Fed {
     pub state: Progress,
     pub at: usize,

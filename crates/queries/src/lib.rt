@@ -1,4 +1,5 @@
 // Questions about a journal, after the rounds heard, on the bytes of the sheet. They only read: no storage is written, and no record comes back.
+#![tactic(auto)]
 ghost use Rattle.std.specs.Prelude.{◌≡◌, List, ℕ};
 ghost use Rattle.circular.specs.SheetChecks.{AcceptedSheet};
 ghost use Rattle.circular.specs.Accepted.{IsAccepted};
@@ -9,7 +10,7 @@ use record::JournalRecord;
 use sheet::Sheet;
 
 // What a question about a set of outputs is answered: the verdict on all of them being true in the last round. Where it is refused, false.
-#[derive(Drop)]
+#[derive(Clone, Copy)]
 pub struct TogetherAnswer {
     pub outcome: Outcome,
     pub verdict: Verdict,

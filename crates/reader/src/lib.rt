@@ -1,4 +1,5 @@
 // Reads a rule sheet: its header, and each output's expression as its own stretch of the sheet. Rules 1 to 9.
+#![tactic(auto)]
 ghost use Rattle.std.specs.Prelude.{◌≡◌, ◌+◌, ◌≤◌, length, drop};
 ghost use Rattle.sheet.specs.Header.{mark_ok, version_of, assumed_at, header_of};
 ghost use Rattle.sheet.specs.RuleSheet.{read_sheet, read_outputs};
@@ -69,7 +70,7 @@ fn read_header(s: &[u8]) -> Header
 }
 
 // One output: the number of bytes of its expression.
-#[derive(Drop)]
+#[derive(Clone, Copy)]
 enum OutputRead {
     Bytes(usize),
     Refused(Refusal),

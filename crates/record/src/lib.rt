@@ -1,11 +1,12 @@
 // The journal record: how many rounds were accepted, whether the journal is closed, and per output how many rounds had each verdict.
+#![tactic(auto)]
 ghost use Rattle.std.specs.Prelude.{◌≡◌, true, ◌+◌, ◌*◌, ◌<◌, ◌≤◌, length};
 ghost use Rattle.record.specs.Record.{max_rounds, Fresh, column, record_ok, sum_at, Counted, share};
 
 use outcomes::{Told, Verdict};
 use sheet::OutputNo;
 
-#[derive(Drop)]
+#[derive(Clone, Copy)]
 pub struct JournalRecord {
     pub rounds: u32,
     pub closed: bool,

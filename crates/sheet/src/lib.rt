@@ -1,4 +1,5 @@
 // The language of a rule sheet: its versions, its bytes, its expressions, its counts, and the types of what is read. Rules 3, 4, 7 and 8.
+#![tactic(auto)]
 ghost use Rattle.std.specs.Prelude.{◌≡◌, ◌+◌, ◌%◌, ◌^◌, ◌<◌, []};
 ghost use Rattle.sheet.specs.Bytes.{op_of};
 ghost use Rattle.sheet.specs.Expression.{parse, outcome_of};
@@ -8,10 +9,10 @@ ghost use Rattle.sheet.specs.Header.{version_ok, counts_ok};
 use outcomes::{Outcome, Refusal};
 
 // A stream's number counts the inputs first; an output's number counts outputs alone.
-#[derive(Drop)]
+#[derive(Clone, Copy)]
 pub struct StreamNo(pub u8);
 
-#[derive(Drop)]
+#[derive(Clone, Copy)]
 pub struct OutputNo(pub u8);
 
 // Output k is stream m + k: the one place where the two counts are joined.
@@ -23,7 +24,7 @@ pub fn stream_of(m: u8, k: OutputNo) -> StreamNo
 }
 
 // The round that a read looks at, beside the round of its value.
-#[derive(Drop)]
+#[derive(Clone, Copy)]
 pub enum Offset {
     Earlier,
     Now,
@@ -32,7 +33,7 @@ pub enum Offset {
 
 // What an expression byte means: an operation, or the rule that it breaks. A read has its stream, its round, and its value where
 // there is no such round.
-#[derive(Drop)]
+#[derive(Clone, Copy)]
 pub enum Op {
     Const(bool),
     Not,
@@ -83,14 +84,14 @@ pub fn version_fits(v: u64) -> bool
 }
 
 // What a sheet says of the bytes that may stand in its expressions: its version, and how many streams there are.
-#[derive(Drop)]
+#[derive(Clone, Copy)]
 pub struct Grammar {
     pub version: u64,
     pub streams: u8,
 }
 
 // The number of values on the stack after a byte, or the rule that the byte breaks.
-#[derive(Drop)]
+#[derive(Clone, Copy)]
 enum Depth {
     Is(usize),
     Refused(Refusal),
@@ -167,21 +168,21 @@ pub fn read_expression(e: &[u8], grammar: Grammar) -> Outcome
 }
 
 // The assumption: the output that must be true in every round, where there is one.
-#[derive(Drop)]
+#[derive(Clone, Copy)]
 pub enum Assumed {
     Nothing,
     Output(OutputNo),
 }
 
 // The assumption that byte 7 names, or the rule that it breaks.
-#[derive(Drop)]
+#[derive(Clone, Copy)]
 pub enum AssumedRead {
     Is(Assumed),
     Refused(Refusal),
 }
 
 // What the first 8 bytes say: the numbers of inputs and outputs, and the assumption.
-#[derive(Drop)]
+#[derive(Clone, Copy)]
 pub enum Header {
     Fields(u8, u8, Assumed),
     Refused(Refusal),
@@ -210,7 +211,7 @@ pub fn counts_fit(m: u8, n: u8) -> bool
 
 // A sheet that was read: the numbers of inputs and outputs, the assumption, and the expressions: output k's are the first len[k]
 // of the 64 bytes from 64 k on.
-#[derive(Drop)]
+#[derive(Clone, Copy)]
 pub struct Sheet {
     pub inputs: u8,
     pub outputs: u8,
@@ -220,7 +221,7 @@ pub struct Sheet {
 }
 
 // The answer of the reader. Where it is refused, the sheet is blank.
-#[derive(Drop)]
+#[derive(Clone, Copy)]
 pub struct SheetRead {
     pub outcome: Outcome,
     pub sheet: Sheet,

@@ -139,7 +139,7 @@ pub fn settle(lead: &[u8; 7], settled: u8) -> u8
 }
 
 // The order of a sweep: `count` outputs, one after the other in each block of eight keys.
-#[derive(Drop)]
+#[derive(Clone, Copy)]
 pub struct Order {
     pub outputs: [usize; 56],
     pub count: usize,

@@ -3,7 +3,7 @@ ghost use Rattle.std.specs.Prelude.{◌≡◌, false, ◌+◌, ◌*◌, ◌<◌,
 ghost use Rattle.trace.specs.Passes.{Setting, RoundBytes, SeenRound, Environment, BitPut, sides, Renewed};
 
 // How many inputs and outputs a sheet has.
-#[derive(Drop)]
+#[derive(Clone, Copy)]
 pub struct Counts {
     pub inputs: usize,
     pub outputs: usize,

@@ -86,7 +86,7 @@ fn try_refresh(
 }
 
 // One block of a sweep, up or down, on a sheet with so many inputs and outputs, `count` of which have bounded leads.
-#[derive(Drop)]
+#[derive(Clone, Copy)]
 struct Block {
     counts: Counts,
     up: bool,

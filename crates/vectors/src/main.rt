@@ -1,4 +1,5 @@
 // Runs many sessions of the journal program, one after the other, through the crate `protocol`.
+#![tactic(auto)]
 //
 // A case in standard input is the length of a sheet in two bytes, the sheet, the length of a session in four bytes, the session.
 // Lengths have their low byte first. A sheet has at most 464 bytes, a session at most 65,535. After the text of each case comes a
@@ -16,7 +17,7 @@ use record::JournalRecord;
 use sheet::Sheet;
 
 // How many bytes a sheet or session has, and whether all of them were read.
-#[derive(Drop)]
+#[derive(Clone, Copy)]
 struct Part {
     n: usize,
     whole: bool,

@@ -1,4 +1,5 @@
 // Verdicts read off the reached set: of a round over the first parts of its pairs, of a closing over those
+#![tactic(auto)]
 // that the end mark follows.
 ghost use Rattle.std.specs.Prelude.{◌≡◌, Bool, true, false, ◌&&◌, ◌||◌, ℕ, ◌+◌, ◌*◌, ◌^◌, ◌<◌, ◌≤◌, eqb, ltb, length};
 ghost use Rattle.std.proofs.Math.Option.{none, some};

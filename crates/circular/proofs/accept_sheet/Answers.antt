@@ -1,0 +1,42 @@
+-- `circular::accept_sheet` meets its contract.
+use mathlib.Core.Path.{sym}
+use Rattle.sheet.specs.Reading.{rule_sheet}
+use Rattle.circular.specs.Circular.{CircularSheet}
+use Rattle.circular.proofs.Decided.{unread, round, level}
+use Rattle.circular.proofs.Masks.{sheet-circular, circular-sheet}
+use Rattle.circular.proofs.accept_sheet.Goals as goal
+
+pub all_reads-words-requires : goal.all_reads-words-requires
+all_reads-words-requires c =
+    let u = rw c.enum_told.given.1 at c.read-sheet.ensures.1.0 in
+    (u.ranges.outputs, u.code_size, u.sizes, u.small)
+
+pub circular-requires : goal.circular-requires
+circular-requires c =
+    let u = rw c.enum_told.given.1 at c.read-sheet.ensures.1.0 in
+    (u.ranges.inputs, u.ranges.outputs)
+
+pub returns-then-circular : goal.returns-then-circular
+returns-then-circular c =
+    let r = c.read-sheet in
+    let t = c.enum_told.given.1 in
+    let x = r.result.sheet in
+    let told = sheet-circular x (rw t at r.ensures.1.0) _ c.all_reads-words.ensures (c.circular.ensures.yes c.if-circular.taken) in
+    rw c.refused_sheet.ensures.0 (round _ (rule_sheet x) (sym (rw t at r.ensures.0)) told, (tt, c.refused_sheet.ensures.1))
+
+pub returns-else-circular : goal.returns-else-circular
+returns-else-circular c =
+    let r = c.read-sheet in
+    let t = c.enum_told.given.1 in
+    let x = r.result.sheet in
+    let e = sym (rw t at r.ensures.0) in
+    let u = rw t at r.ensures.1.0 in
+    let n : CircularSheet (rule_sheet x) → ⊥ = λ k. c.circular.ensures.no c.if-circular.left (circular-sheet x u _ c.all_reads-words.ensures k) in
+    let d = level _ (rule_sheet x) e n in
+    rw t (d, (record { decided = d; reads = e; usable = u; level = n }, tt))
+
+pub returns-in-Refused : goal.returns-in-Refused
+returns-in-Refused c =
+    let r = c.read_sheet-got in
+    let t = c.in-Refused.is in
+    rw t (unread _ _ (sym (rw t at r.ensures.0)), (tt, rw t at r.ensures.1.1))

@@ -1,0 +1,27 @@
+-- `circular::table::level_in_both` meets its contract.
+use mathlib.Core.Path.{◌≡◌, refl, sym}
+use mathlib.Core.Logic.{⊎_elim}
+use Prim.Native.Nat.{◌-◌}
+use native.Mathlib.Omega.{arith}
+use Rattle.words.specs.Below.{any_below}
+use Rattle.circular.proofs.Codes.{any_more, level-at, not_first, not-second}
+use Rattle.circular.proofs.table.level_in_both.Goals as goal
+
+pub loop-s-init : goal.loop-s-init
+unfolding any_below
+loop-s-init c = (omega arith, refl)
+
+pub returns-then-u-at-ge-LEVEL : goal.returns-then-u-at-ge-LEVEL
+returns-then-u-at-ge-LEVEL c =
+    let a = c.args in
+    sym (level-at a.t.now a.u.now c.loop-s.s a.n (omega arith) c.if-t-at-ge-LEVEL.true c.if-u-at-ge-LEVEL.true)
+
+pub loop-s-preserved : goal.loop-s-preserved
+loop-s-preserved c =
+    let a = c.args in
+    (omega arith, any_more _ c.loop-s.s c.loop-s.invariant.1 (⊎_elim (λ w. not-second a.t.now a.u.now c.loop-s.s w.2.left) (λ w. not_first a.t.now a.u.now c.loop-s.s w.left) c.if-t-at-ge-LEVEL.branch))
+
+pub returns : goal.returns
+returns c =
+    let e : c.loop-s.s ≡ c.args.n = omega arith in
+    sym (rw e at c.loop-s.invariant.1)

@@ -1,0 +1,12 @@
+-- `circular::table::looped` meets its contract.
+use borrow.Author.Tests.{le-leb, lt-leb}
+use Rattle.circular.specs.Table.{loop_n}
+use Rattle.circular.proofs.table.looped.Goals as goal
+
+pub returns-then-c-le-LEVEL : goal.returns-then-c-le-LEVEL
+unfolding loop_n
+returns-then-c-le-LEVEL c = simp (le-leb _ _ c.if-c-le-LEVEL.true)
+
+pub returns : goal.returns
+unfolding loop_n
+returns c = simp (lt-leb _ _ c.if-c-le-LEVEL.false) c.pick.ensures

@@ -1,0 +1,13 @@
+-- `lanes::enders` meets its contract.
+use mathlib.Core.Path.{◌∙◌}
+use Prim.Native.Nat.{◌+◌, ◌*◌}
+use Rattle.words.specs.Bits.{bit, digit}
+use Rattle.lanes.proofs.AroundLaws.{seen_alone, ender-look}
+use Rattle.lanes.proofs.CodeLaws.{look-holds}
+use Rattle.lanes.proofs.enders.Goals as goal
+
+pub returns : goal.returns
+unfolding bit digit
+returns c =
+    λ p h ks j i g l.
+    c.equations_row.ensures.lanes j i g l ∙ look-holds _ _ _ _ c.requires.coded _ _ _ _ (ender-look _ p 0 (seen_alone _ p h) (64 * j + i)) ks

@@ -1,0 +1,14 @@
+-- The loops of `letters::letters_of`.
+use mathlib.Core.Path.{◌≡◌}
+use mathlib.Core.Bool.{◌&&◌}
+use Prim.Native.Nat.{ℕ, ◌^◌, ◌-◌, ◌≤◌, ◌<◌}
+use lib.Dec.{ltb}
+use Rattle.words.specs.Bits.{bit}
+use Rattle.letters.specs.Matching.{matches}
+use Rattle.letters.proofs.letters_of.Given as goal
+
+abbrev pub invariant-loop-i : goal.invariant-loop-i
+invariant-loop-i l = (l.i ≤ 6) × ((l : ℕ) → l < 64 → bit l l.set ≡ (ltb l (2 ^ l.m) && matches l.known l.value l.i l))
+
+abbrev pub decreases-loop-i : goal.decreases-loop-i
+decreases-loop-i l = 6 - l.i

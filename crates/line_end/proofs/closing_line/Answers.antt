@@ -1,0 +1,29 @@
+-- `line_end::closing_line` meets its contract.
+use mathlib.Core.Path.{refl, sym}
+use native.Mathlib.Omega.{arith}
+use Rattle.sheet.proofs.Sheets.{sheet-outputs}
+use Rattle.line_end.proofs.LineEnds.{refused-ends, closing-ends, bytes-least, over_bound}
+use borrow.Author.Rules.{rules}
+use Rattle.line_end.proofs.closing_line.Goals as goal
+
+pub refused_line-requires : goal.refused_line-requires
+refused_line-requires c = omega (arith, bytes-least c.args.rec.closed)
+
+pub closing-to-requires : goal.closing-to-requires
+closing-to-requires c =
+    let k = rw c.in-Accepted.is at c.answer_closing-a.ensures.done in
+    (c.pre.0.1.usable.ranges.outputs, search (rules, c.good.1.1.0), k.3, omega (arith, rw k.0 at c.pre.1))
+
+pub returns-in-Refused : goal.returns-in-Refused
+returns-in-Refused c =
+    let r = c.refused_line.result in
+    let a = c.args in
+    let f = c.refused_line.ensures in
+    record { ended = λ sheet b part o sv l. refused-ends sheet _ b _ part _ _ _ _ _ _ _ _ l (rw c.in-Refused.is at (c.answer_closing-a.ensures.by_the_book sheet b o sv)) f.0 f.2; bound = over_bound r.over r.record.closed a.rec.closed a.at r.at f.0 f.1 }
+
+pub returns-in-Accepted : goal.returns-in-Accepted
+returns-in-Accepted c =
+    let k = rw c.in-Accepted.is at c.answer_closing-a.ensures.done in (
+      λ sheet b part o sv l. closing-ends sheet _ b _ part _ _ _ _ _ refl c.next_line.ensures _ _ _ _ (sheet-outputs c.args.x) (sym k.2) l (rw c.in-Accepted.is at (c.answer_closing-a.ensures.by_the_book sheet b o sv)) c.closing-to.ensures.placed,
+      rw (k.0, k.1) (omega (arith, c.closing-to.ensures.upper_bound)),
+    )

@@ -1,0 +1,15 @@
+-- `line_scan::mark_digit` meets its contract.
+use mathlib.Core.Path.{sym, refl}
+use borrow.Author.Tests.{ne_eqb}
+use Rattle.line_scan.proofs.mark_digit.Goals as goal
+
+pub returns-in-63 : goal.returns-in-63
+returns-in-63 c = rw c.in-63.is refl
+
+pub returns-in-49 : goal.returns-in-49
+returns-in-49 c = rw c.in-49.is refl
+
+pub returns-in_default : goal.returns-in_default
+returns-in_default c =
+    let others = c.in_default.in_default-own.rest in
+    sym (simp (ne_eqb _ 63 others.0.1, ne_eqb _ 49 others.1))

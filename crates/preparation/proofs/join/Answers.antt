@@ -1,0 +1,15 @@
+-- `preparation::join` meets its contract.
+use mathlib.Core.Path.{sym, ◌∙◌}
+use Rattle.preparation.proofs.Joining.{joined-not, joined-both, occupied_more}
+use Rattle.preparation.proofs.join.Goals as goal
+
+pub returns-then-has : goal.returns-then-has
+returns-then-has c =
+    record { joins = joined-not _ _ _ _ (sym c.has.ensures ∙ c.if-has.true); by_index = λ w hw ha o. o }
+
+pub returns : goal.returns
+returns c =
+    let p = c.before.requires in
+    let e = c.insert.ensures in
+    let f = c.insert-2.ensures in
+    record { joins = joined-both _ _ _ _ _ _ p.2 (sym c.has.ensures ∙ c.if-has.false) e f; by_index = λ w hw ha. occupied_more w _ _ _ _ _ _ _ _ ha hw p.1 p.2 e f c.note.ensures }

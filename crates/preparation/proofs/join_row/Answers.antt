@@ -1,0 +1,19 @@
+-- `preparation::join_row` meets its contract.
+use mathlib.Core.Path.{refl}
+use Prim.Native.Nat.{◌-◌}
+use native.Mathlib.Omega.{arith}
+use Rattle.preparation.proofs.Joining.{words-first, words_more, words-all}
+use Rattle.preparation.proofs.join_row.Goals as goal
+
+pub loop-j-init : goal.loop-j-init
+loop-j-init c = (omega arith, refl, refl, words-first _ _ _ _, λ o. o)
+
+pub loop-j-preserved : goal.loop-j-preserved
+loop-j-preserved c =
+    let i = c.loop-j.invariant in
+    let j = c.join_word.ensures in
+    (omega arith, omega arith, omega arith, words_more _ _ _ _ _ _ _ i.3 j.0, λ o. j.1 _ c.requires.0 c.loop-j-test.true (i.4 o))
+
+pub returns : goal.returns
+returns c =
+    record { joins = words-all _ _ _ _ _ _ _ (omega arith) c.loop-j.invariant.3; occupied = c.loop-j.invariant.4 }

@@ -1,0 +1,7 @@
+-- `preparation::start` meets its contract.
+use Rattle.preparation.proofs.Searching.{started}
+use Rattle.preparation.proofs.start.Goals as goal
+
+pub returns : goal.returns
+returns c =
+    started _ _ _ _ _ _ _ c.clear.ensures c.clear-2.ensures c.clear-3.ensures c.join_ends.ensures

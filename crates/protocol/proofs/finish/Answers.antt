@@ -1,0 +1,34 @@
+-- `protocol::finish` meets its contract.
+use mathlib.Core.Path.{sym, subst}
+use mathlib.Core.List.{List, ◌++◌}
+use Prim.Native.Nat.{ℕ}
+use native.Mathlib.Omega.{arith}
+use Rattle.line_end.specs.Printed.{Printed}
+use Rattle.protocol.proofs.Feeding.{over_last, stands-midway, none_last, line-last, bytes_most}
+use Rattle.protocol.proofs.finish.Goals as goal
+
+pub returns-then-s : goal.returns-then-s
+returns-then-s c =
+    record { finishes = λ sheet seen wrote st. over_last sheet _ _ _ seen wrote st c.if-s.taken; bound = omega arith }
+
+pub returns-then-is_blank : goal.returns-then-is_blank
+returns-then-is_blank c =
+    record { finishes = λ sheet seen wrote st.
+      let m = stands-midway sheet _ _ _ seen wrote st c.if-s.left in
+      none_last sheet _ _ _ _ seen wrote m (c.is_blank.ensures.yes c.if-is_blank.taken _ m.part m.scanned); bound = omega arith }
+
+pub asked-meaning-requires : goal.asked-meaning-requires
+asked-meaning-requires c =
+    (c.pre.2, c.pre.3, c.pre.0.1.usable.ranges.inputs)
+
+pub line_end-e-requires : goal.line_end-e-requires
+line_end-e-requires c =
+    (c.pre.0, omega (arith, bytes_most c.args.s.record.closed, c.pre.1))
+
+pub returns : goal.returns
+returns c =
+    let e = c.line_end-e in
+    record { finishes = λ sheet seen wrote st.
+          let m = stands-midway sheet _ _ _ seen wrote st c.if-s.left in
+          let le = e.ensures.0 sheet m.book m.part st.accepts m.serves (c.asked-meaning.ensures m.part m.scanned) in
+          subst (λ (z : List ℕ). Printed sheet seen (wrote ++ z)) (sym le.wrote.text) (line-last sheet _ _ _ _ seen wrote m _ _ _ _ _ le (c.is_blank.ensures.no c.if-is_blank.left _ m.part m.scanned)); bound = omega (arith, e.ensures.1, bytes_most c.args.s.record.closed, c.pre.1) }

@@ -1,0 +1,6 @@
+-- `queries::refused` meets its contract.
+use mathlib.Core.Path.{refl}
+use Rattle.queries.proofs.refused.Goals as goal
+
+pub returns : goal.returns
+returns c = (refl, refl)

@@ -1,0 +1,24 @@
+-- `queries::together_on` meets its contract.
+use native.Mathlib.Omega.{arith}
+use lib.ListN.{length}
+use Rattle.checks.proofs.Checking.{together-long}
+use Rattle.queries.proofs.Answering.{turned_down, answered}
+use Rattle.queries.proofs.together_on.Goals as goal
+
+pub set_verdict-requires : goal.set_verdict-requires
+set_verdict-requires c =
+    let a = c.args in
+    let long = together-long a.x.outputs (length a.storage.now) a.r a.outputs (rw c.in-Accepted.is at c.check_together-outcome.ensures) in
+    (omega (arith, c.pre.1.usable.ranges.streams), long)
+
+pub returns-in-Refused : goal.returns-in-Refused
+returns-in-Refused c =
+    let a = c.args in
+    let d = rw c.in-Refused.is at c.check_together-outcome.ensures in
+    λ bs ok. turned_down bs a.x ok a.storage.now a.r a.outputs _ _ c.refused.ensures d
+
+pub returns-in-Accepted : goal.returns-in-Accepted
+returns-in-Accepted c =
+    let a = c.args in
+    let d = rw c.in-Accepted.is at c.check_together-outcome.ensures in
+    λ bs ok. answered bs a.x ok a.storage.now a.r a.outputs _ d c.set_verdict.ensures

@@ -1,0 +1,60 @@
+-- `reader::read_header` meets its contract.
+use mathlib.Core.Path.{sym, ap, ◌∙◌}
+use native.Mathlib.Omega.{arith}
+use lib.ListN.{length}
+use borrow.Author.Tests.{lt-ltb, le-ltb, not-true, not-false}
+use Rattle.sheet.specs.Header.{header_of, version_ok}
+use Rattle.reader.proofs.read_header.Goals as goal
+
+pub returns-then-s-lt8 : goal.returns-then-s-lt8
+unfolding header_of
+returns-then-s-lt8 c = simp (lt-ltb _ _ c.if-s-lt8.true)
+
+pub returns-then-not-has_mark : goal.returns-then-not-has_mark
+unfolding header_of
+returns-then-not-has_mark c =
+    simp (
+      le-ltb (length c.args.s.now) 8 (omega arith),
+      sym c.has_mark.ensures ∙ not-true _ c.if-not-has_mark.true,
+    )
+
+pub returns-then-not-version_fits : goal.returns-then-not-version_fits
+unfolding header_of
+returns-then-not-version_fits c =
+    simp (
+      le-ltb (length c.args.s.now) 8 (omega arith),
+      sym c.has_mark.ensures ∙ not-false _ c.if-not-has_mark.false,
+      ap version_ok (sym c.version.ensures) ∙ sym c.version_fits.ensures ∙ not-true _ c.if-not-version_fits.true,
+    )
+
+pub returns-then-not-counts_fit : goal.returns-then-not-counts_fit
+unfolding header_of
+returns-then-not-counts_fit c =
+    simp (
+      le-ltb (length c.args.s.now) 8 (omega arith),
+      sym c.has_mark.ensures ∙ not-false _ c.if-not-has_mark.false,
+      ap version_ok (sym c.version.ensures) ∙ sym c.version_fits.ensures ∙ not-false _ c.if-not-version_fits.false,
+      sym c.counts_fit.ensures ∙ not-true _ c.if-not-counts_fit.true,
+    )
+
+pub returns-in-Is : goal.returns-in-Is
+unfolding header_of
+returns-in-Is c =
+    simp (
+      le-ltb (length c.args.s.now) 8 (omega arith),
+      sym c.has_mark.ensures ∙ not-false _ c.if-not-has_mark.false,
+      ap version_ok (sym c.version.ensures) ∙ sym c.version_fits.ensures ∙ not-false _ c.if-not-version_fits.false,
+      sym c.counts_fit.ensures ∙ not-false _ c.if-not-counts_fit.false,
+      sym c.read_assumed-a.ensures ∙ c.in-Is.is,
+    )
+
+pub returns-in-Refused : goal.returns-in-Refused
+unfolding header_of
+returns-in-Refused c =
+    simp (
+      le-ltb (length c.args.s.now) 8 (omega arith),
+      sym c.has_mark.ensures ∙ not-false _ c.if-not-has_mark.false,
+      ap version_ok (sym c.version.ensures) ∙ sym c.version_fits.ensures ∙ not-false _ c.if-not-version_fits.false,
+      sym c.counts_fit.ensures ∙ not-false _ c.if-not-counts_fit.false,
+      sym c.read_assumed-a.ensures ∙ c.in-Refused.is,
+    )

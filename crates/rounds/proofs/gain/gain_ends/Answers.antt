@@ -1,0 +1,41 @@
+-- `rounds::gain::gain_ends` meets its contract.
+use mathlib.Core.Path.{refl}
+use Prim.Native.Nat.{◌-◌}
+use native.Mathlib.Omega.{arith}
+use borrow.Author.Tests.{not-true}
+use Rattle.rounds.proofs.EndLaws.{ends-full, ends-none, ends_more, ends-all}
+use Rattle.rounds.proofs.gain.gain_ends.Goals as goal
+
+pub returns-then-not-is_end_new : goal.returns-then-not-is_end_new
+returns-then-not-is_end_new c = λ p h ks. ends-full _ _ _ _ _ p c.before.requires.1.0.wide.under (c.is_end_new.ensures (not-true _ c.if-not-is_end_new.true))
+
+pub lanes_below-low-requires : goal.lanes_below-low-requires
+lanes_below-low-requires c = (c.before.requires.1.0.most_valuations, omega arith)
+
+pub enders-requires : goal.enders-requires
+enders-requires c =
+    let q = c.before.requires in
+    let z = q.1.4.reads in
+    record { coded = q.0; words_bound = (q.1.0.wide.most, refl, q.1.1, omega (arith, z.shifted, z.beside.small)) }
+
+pub loop-j-init : goal.loop-j-init
+loop-j-init c =
+    (omega arith, refl, λ y p f. ends-none _ _ _ _ _ p c.requires.sized.0.wide c.requires.sized.3)
+
+pub overflow_add-j : goal.overflow_add-j
+overflow_add-j c = omega (arith, c.loop-test.true, c.before.before.before.requires.1.0.wide.most)
+
+pub loop-j-preserved : goal.loop-j-preserved
+loop-j-preserved c =
+    (
+      omega arith,
+      omega arith,
+      λ y p f.
+          ends_more _ _ _ _ _ p c.requires.sized.0.wide c.requires.sized.3 _ _ _ _ _ _ _ c.loop-test.true (c.loop.invariant.2 y p f) c.ends-word.ensures c.row_word.ensures
+          c.lanes-below.ensures (λ i g. f c.loop.j i c.loop-test.true g)
+          c.insert_ends.ensures,
+    )
+
+pub returns : goal.returns
+returns c =
+    λ p h ks. ends-all _ _ _ _ _ p c.requires.sized.0.wide c.requires.sized.3 _ _ (omega (arith, c.requires.sized.0.wide.under)) (c.loop-j.invariant.2 _ p (λ k i l g. c.enders.ensures p h ks k i l g))

@@ -1,0 +1,16 @@
+-- `rounds::group::group_row` meets its contract.
+use native.Mathlib.Omega.{arith}
+use Rattle.rounds.proofs.RowLaws.{sparse_noted}
+use Rattle.rounds.proofs.WordLaws.{unheard-row}
+use Rattle.rounds.proofs.group.group_row.Goals as goal
+
+pub row_lanes-requires : goal.row_lanes-requires
+row_lanes-requires c = let p = c.before.requires in (p.0, p.1, p.2, p.3, omega arith, p.6)
+
+pub returns-then-row_lanes-letters-eq0 : goal.returns-then-row_lanes-letters-eq0
+returns-then-row_lanes-letters-eq0 c =
+    record { joined = unheard-row _ _ _ _ c.before.requires.3 _ _ c.row_lanes.ensures c.if-row_lanes-letters-eq0.true; sparse = λ v h f. f }
+
+pub returns : goal.returns
+returns c =
+    record { joined = c.join_row.ensures; sparse = sparse_noted _ _ _ _ _ _ c.join_row.ensures c.note.ensures }

@@ -1,0 +1,34 @@
+-- `slices::put_verdicts` meets its contract.
+use mathlib.Core.Path.{◌≡◌, sym, ◌∙◌}
+use Prim.Native.Nat.{◌-◌}
+use native.Mathlib.Omega.{arith}
+use lib.ListN.{length}
+use borrow.Author.Rules.{rules}
+use Rattle.slices.specs.Slices.{verdict_numbers}
+use Rattle.slices.proofs.SliceLaws.{put-none, put-more, numbers-size, numbers-at}
+use Rattle.slices.proofs.put_verdicts.Goals as goal
+
+pub loop-i-init : goal.loop-i-init
+loop-i-init c = (omega arith, put-none _ _ _)
+
+pub bounds-into-at : goal.bounds-into-at
+bounds-into-at c = omega (arith, c.loop-i.invariant.1.same_length)
+
+pub loop-i-preserved : goal.loop-i-preserved
+loop-i-preserved c =
+    let a = c.args in
+    let f : length a.t3 ≡ 7 = search rules in
+    let xs = verdict_numbers a.t3 a.n in
+    let e : length xs ≡ a.n = numbers-size a.t3 a.n (omega (arith, f)) in (
+      omega arith,
+      put-more c.loop-i.i a.at xs a.into.now c.loop-i.into c.verdict_number.result (omega arith) (omega (arith, e))
+          (c.verdict_number.ensures ∙ sym (numbers-at a.t3 a.n c.loop-i.i (omega arith))) c.loop-i.invariant.1,
+    )
+
+pub shape_of-into : goal.shape_of-into
+shape_of-into c = c.loop-i.invariant.1.same_length
+
+pub returns : goal.returns
+returns c =
+    let same : c.loop-i.i ≡ c.args.n = omega arith in
+    rw same at c.loop-i.invariant.1.same

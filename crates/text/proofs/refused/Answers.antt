@@ -1,0 +1,21 @@
+-- `text::refused` meets its contract.
+use native.Mathlib.Omega.{arith}
+use borrow.Author.Rules.{rules}
+use Rattle.buffer.proofs.PlacedLaws.{placed_then}
+use Rattle.buffer.proofs.DecimalLaws.{decimal-length}
+use Rattle.outcomes.proofs.NumberLaws.{refusal_range}
+use Rattle.text.proofs.refused.Goals as goal
+
+-- no goal of today's: Need-slice-aggregate-bytes
+-- slice-aggregate-bytes : tie.Need-slice-aggregate-bytes
+-- slice-aggregate-bytes c = search rules
+
+pub decimal-requires : goal.decimal-requires
+decimal-requires c =
+    let w = c.bytes-to.ensures in
+    rw c.refusal_number.ensures (omega (arith, w.end, w.size, decimal-length 2 _ (omega arith) (refusal_range c.args.r).1))
+
+pub returns : goal.returns
+returns c =
+    let w = placed_then c.bytes-to.ensures (rw c.refusal_number.ensures at c.decimal.ensures) in
+    record { placed = w; upper_bound = omega (arith, w.end, decimal-length 2 _ (omega arith) (refusal_range c.args.r).1) }

@@ -1,0 +1,25 @@
+-- `text::verdict_line` meets its contract.
+use mathlib.Core.Path.{◌≡◌}
+use Prim.Native.Nat.{◌-◌}
+use native.Mathlib.Omega.{arith}
+use native.Mathlib.Nat.{le_antisymm}
+use lib.ListN.{length}
+use borrow.Author.Rules.{rules}
+use Rattle.buffer.proofs.PlacedLaws.{placed_none, placed_then}
+use Rattle.text.proofs.VerdictLaws.{placed_verdict}
+use Rattle.text.proofs.verdict_line.Goals as goal
+
+pub loop-i-init : goal.loop-i-init
+loop-i-init c = (omega arith, omega arith, placed_none _ _ (omega arith))
+
+pub loop-i-preserved : goal.loop-i-preserved
+loop-i-preserved c =
+    let a = c.args in
+    let l : length a.t3 ≡ 7 = search rules in
+    let w = c.byte-to.ensures in
+    (omega arith, omega (arith, w.end), placed_verdict a.t3 c.loop-i.i (omega (arith, l)) c.loop-i.invariant.2 (rw (← c.verdict_char.ensures) w))
+
+pub returns : goal.returns
+returns c =
+    let w = c.byte.ensures in
+    record { placed = placed_then (rw (le_antisymm c.loop-i.invariant.0 c.loop-i-test.false) at c.loop-i.invariant.2) w; value = omega (arith, w.end) }

@@ -1,0 +1,25 @@
+-- `trace::clear` meets its contract.
+use mathlib.Core.Path.{◌≡◌, refl, ◌∙◌}
+use Prim.Native.Nat.{◌-◌}
+use native.Mathlib.Omega.{arith}
+use lib.ListN.{length, set, length-set}
+use Rattle.words.proofs.ListLaws.{set_more}
+use Rattle.trace.proofs.clear.Goals as goal
+
+pub loop-i-init : goal.loop-i-init
+loop-i-init c = (omega arith, refl, λ k h. absurd (omega arith))
+
+pub loop-i-preserved : goal.loop-i-preserved
+loop-i-preserved c =
+    let l = c.loop-i in
+    let z : length (set l.buf l.i 0) ≡ length l.buf = length-set l.buf l.i 0 in (
+      omega arith,
+      z ∙ l.invariant.1,
+      set_more (λ k x. x ≡ 0) l.buf l.i 0 (omega arith) refl l.invariant.2,
+    )
+
+pub shape_of-buf : goal.shape_of-buf
+shape_of-buf c = c.loop-i.invariant.1
+
+pub returns : goal.returns
+returns c = (c.loop-i.invariant.1, λ i h. c.loop-i.invariant.2 i (omega arith))

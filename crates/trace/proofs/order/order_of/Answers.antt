@@ -1,0 +1,24 @@
+-- `trace::order::order_of` meets its contract.
+use mathlib.Core.Path.{refl, sym, ◌∙◌}
+use mathlib.Core.Logic.{⊎_elim}
+use mathlib.Core.Bool.{true≢false}
+use Prim.Native.Nat.{◌-◌}
+use native.Mathlib.Omega.{arith}
+use Rattle.trace.proofs.Listing.{listing_start, listing-push, listing-skip, listing-end}
+use Rattle.trace.proofs.order.order_of.Goals as goal
+
+pub loop-i-init : goal.loop-i-init
+loop-i-init c = listing_start _ _ _ refl
+
+pub loop-i-preserved : goal.loop-i-preserved
+loop-i-preserved c =
+    let n-le = c.requires in
+    let l = c.loop-i.invariant in
+    let due = c.is_due.ensures in
+    ⊎_elim
+    (λ w. rw (w.1, w.2) (listing-push _ _ _ _ _ n-le l (omega arith) (due.0 w.0.taken)))
+    (λ w. rw (w.1, w.2) (listing-skip _ _ _ _ _ n-le l (omega arith) (λ d. true≢false (sym (due.1 d) ∙ w.0.left))))
+    c.if-is_due.branch
+
+pub returns : goal.returns
+returns c = listing-end _ _ _ _ _ c.requires c.loop-i.invariant (omega arith)

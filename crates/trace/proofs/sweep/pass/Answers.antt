@@ -1,0 +1,33 @@
+-- `trace::sweep::pass` meets its contract.
+use mathlib.Core.Path.{sym, ◌∙◌}
+use mathlib.Core.Bool.{true≢false}
+use mathlib.Core.Logic.{⊎_elim}
+use Prim.Native.Nat.{◌-◌}
+use native.Mathlib.Omega.{arith}
+use Rattle.trace.proofs.Passes.{passed_none, passed_then, passed-as, bytes-kept, next-round}
+use Rattle.trace.proofs.sweep.pass.Goals as goal
+
+pub loop-t-init : goal.loop-t-init
+loop-t-init c = (omega arith, omega arith, passed_none _ _ _ _ _ _ (λ q u pl h. omega (arith, pl.t_low)))
+
+pub refresh_round-requires : goal.refresh_round-requires
+refresh_round-requires c = (c.requires.0, bytes-kept c.loop-t.invariant.2.kept c.requires.1, omega arith, omega arith)
+
+pub overflow_add-t : goal.overflow_add-t
+overflow_add-t c = omega (arith, c.requires.1.rounds)
+
+pub loop-t-preserved : goal.loop-t-preserved
+loop-t-preserved c =
+    (
+      omega arith,
+      omega arith,
+      passed_then _ _ _ _ _ _ _ _ _ _ _ _ (λ q u pl h. next-round _ u h)
+          (⊎_elim (λ w e. absurd (true≢false (sym w.1 ∙ e))) (λ w e. (sym w.1 ∙ e, w.0.left)) c.if-refresh_round.branch)
+          c.loop-t.invariant.2 c.refresh_round.ensures,
+    )
+
+pub shape_of-buf : goal.shape_of-buf
+shape_of-buf c = c.loop-t.invariant.2.kept.same_length
+
+pub returns : goal.returns
+returns c = passed-as _ _ _ _ _ _ _ _ (λ q u pl h. omega (arith, pl.t_high)) c.loop-t.invariant.2

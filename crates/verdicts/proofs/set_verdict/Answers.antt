@@ -1,0 +1,12 @@
+-- `verdicts::set_verdict` meets its contract.
+use mathlib.Core.Path.{ap, ◌∙◌}
+use native.Mathlib.Omega.{arith}
+use Rattle.words.specs.declared.Size.{Size}
+use Rattle.verdicts.proofs.VerdictLaws.{every_verdict}
+use Rattle.verdicts.proofs.set_verdict.Goals as goal
+
+pub returns : goal.returns
+returns c =
+    let size = c.type_size.ensures in
+    let v = ap (λ (z : Size). z.valuations) size.0 in
+    c.verdict.ensures _ c.set_test-test.ensures ∙ every_verdict _ _ _ _ _ _ v (omega (arith, v, size.1.wide.under)) c.every_first-f.ensures

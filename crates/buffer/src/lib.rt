@@ -1,5 +1,6 @@
 // Bytes and numbers put into a buffer from a place on. Each function answers the place after them.
 #![tactic(auto)]
+
 ghost use Rattle.std.specs.Prelude.{[], ◌∷◌, ◌+◌, ◌<◌, ◌≤◌, length};
 ghost use Rattle.buffer.specs.Decimal.{decimal};
 ghost use Rattle.buffer.specs.Wrote.{Placed};

@@ -1,5 +1,6 @@
 // The value of one expression in one round. The definitions of the language stand in specs/.
 #![tactic(auto)]
+
 ghost use Rattle.std.specs.Prelude.{◌≡◌, [], ◌<◌, ◌≤◌, ◌^◌, length};
 ghost use Rattle.sheet.specs.Expression.{Expr, parse, tree};
 ghost use Rattle.sheet.specs.declared.Grammar.{Grammar};

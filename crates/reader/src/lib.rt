@@ -1,5 +1,6 @@
 // Reads a rule sheet: its header, and each output's expression as its own stretch of the sheet. Rules 1 to 9.
 #![tactic(auto)]
+
 ghost use Rattle.std.specs.Prelude.{◌≡◌, ◌+◌, ◌≤◌, length, drop};
 ghost use Rattle.sheet.specs.Header.{mark_ok, version_of, assumed_at, header_of};
 ghost use Rattle.sheet.specs.RuleSheet.{read_sheet, read_outputs};

@@ -1,5 +1,6 @@
 // The journal record: how many rounds were accepted, whether the journal is closed, and per output how many rounds had each verdict.
 #![tactic(auto)]
+
 ghost use Rattle.std.specs.Prelude.{◌≡◌, true, ◌+◌, ◌*◌, ◌<◌, ◌≤◌, length};
 ghost use Rattle.record.specs.Record.{max_rounds, Fresh, column, record_ok, sum_at, Counted, share};
 

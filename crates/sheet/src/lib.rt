@@ -1,5 +1,6 @@
 // The language of a rule sheet: its versions, its bytes, its expressions, its counts, and the types of what is read. Rules 3, 4, 7 and 8.
 #![tactic(auto)]
+
 ghost use Rattle.std.specs.Prelude.{◌≡◌, ◌+◌, ◌%◌, ◌^◌, ◌<◌, []};
 ghost use Rattle.sheet.specs.Bytes.{op_of};
 ghost use Rattle.sheet.specs.Expression.{parse, outcome_of};

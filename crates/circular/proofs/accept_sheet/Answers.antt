@@ -18,25 +18,17 @@ circular-requires c =
 
 pub returns-then-circular : goal.returns-then-circular
 returns-then-circular c =
-    let r = c.read-sheet in
-    let t = c.enum_told.given.1 in
-    let x = r.result.sheet in
-    let told = sheet-circular x (rw t at r.ensures.1.0) _ c.all_reads-words.ensures (c.circular.ensures.yes c.if-circular.taken) in
-    rw c.refused_sheet.ensures.0 (round _ (rule_sheet x) (sym (rw t at r.ensures.0)) told, (tt, c.refused_sheet.ensures.1))
+    let told = sheet-circular c.read-sheet.result.sheet (rw c.enum_told.given.1 at c.read-sheet.ensures.1.0) _ c.all_reads-words.ensures (c.circular.ensures.yes c.if-circular.taken) in
+    rw c.refused_sheet.ensures.0 (round _ (rule_sheet c.read-sheet.result.sheet) (sym (rw c.enum_told.given.1 at c.read-sheet.ensures.0)) told, (tt, c.refused_sheet.ensures.1))
 
 pub returns-else-circular : goal.returns-else-circular
 returns-else-circular c =
-    let r = c.read-sheet in
-    let t = c.enum_told.given.1 in
-    let x = r.result.sheet in
-    let e = sym (rw t at r.ensures.0) in
-    let u = rw t at r.ensures.1.0 in
-    let n : CircularSheet (rule_sheet x) → ⊥ = λ k. c.circular.ensures.no c.if-circular.left (circular-sheet x u _ c.all_reads-words.ensures k) in
-    let d = level _ (rule_sheet x) e n in
-    rw t (d, (record { decided = d; reads = e; usable = u; level = n }, tt))
+    let e = sym (rw c.enum_told.given.1 at c.read-sheet.ensures.0) in
+    let u = rw c.enum_told.given.1 at c.read-sheet.ensures.1.0 in
+    let n : CircularSheet (rule_sheet c.read-sheet.result.sheet) → ⊥ = λ k. c.circular.ensures.no c.if-circular.left (circular-sheet c.read-sheet.result.sheet u _ c.all_reads-words.ensures k) in
+    let d = level _ (rule_sheet c.read-sheet.result.sheet) e n in
+    rw c.enum_told.given.1 (d, (record { decided = d; reads = e; usable = u; level = n }, tt))
 
 pub returns-in-Refused : goal.returns-in-Refused
 returns-in-Refused c =
-    let r = c.read_sheet-got in
-    let t = c.in-Refused.is in
-    rw t (unread _ _ (sym (rw t at r.ensures.0)), (tt, rw t at r.ensures.1.1))
+    rw c.in-Refused.is (unread _ _ (sym (rw c.in-Refused.is at c.read_sheet-got.ensures.reading)), (tt, rw c.in-Refused.is at c.read_sheet-got.ensures.refused))

@@ -5,10 +5,8 @@ use Rattle.dialogue.proofs.heard.Goals as goal
 
 pub returns-then-chunk-eq0 : goal.returns-then-chunk-eq0
 returns-then-chunk-eq0 c =
-    let f = c.finish-to in
-    record { steps = (λ sheet h talks. heard-end sheet _ _ _ _ h talks c.requires.2 c.requires.3 f.result _ _ _ c.if-chunk-eq0.true f.ensures.0); within = (omega arith, f.ensures.1); in_table = c.requires.5 }
+    record { steps = (λ sheet h talks. heard-end sheet _ _ _ _ h talks c.requires.2 c.requires.3 c.finish-to.result _ _ _ c.if-chunk-eq0.true c.finish-to.ensures.finishes); within = (omega arith, c.finish-to.ensures.bound); in_table = c.requires.5 }
 
 pub returns : goal.returns
 returns c =
-    let f = c.feed-fed in
-    record { steps = (λ sheet h talks. heard-more sheet _ _ _ _ h talks c.requires.2 c.requires.3 f.result.state f.result.at _ _ _ c.if-chunk-eq0.false f.ensures.0); within = (omega arith, f.ensures.1.0); in_table = f.ensures.1.1 }
+    record { steps = (λ sheet h talks. heard-more sheet _ _ _ _ h talks c.requires.2 c.requires.3 c.feed-fed.result.state c.feed-fed.result.at _ _ _ c.if-chunk-eq0.false c.feed-fed.ensures.goes); within = (omega arith, c.feed-fed.ensures.bound); in_table = c.feed-fed.ensures.in_table }

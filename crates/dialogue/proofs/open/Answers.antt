@@ -7,12 +7,10 @@ use Rattle.dialogue.proofs.open.Goals as goal
 
 pub returns-in-Accepted : goal.returns-in-Accepted
 returns-in-Accepted c =
-    let s = c.start-begun in
-    let begun = rw c.in-Accepted.is at s.ensures.0 in
-    (opened _ _ _ _ _ _ begun.1 begun.2, (((λ e. begun.0), s.ensures.1.1), (omega arith, s.ensures.1.0)))
+    let begun = rw c.in-Accepted.is at c.start-begun.ensures.begun in
+    record { talks = opened _ _ _ _ _ _ begun.1 begun.2; wants = ((λ e. begun.0), c.start-begun.ensures.in_table); within = (omega arith, c.start-begun.ensures.bound) }
 
 pub returns-in-Refused : goal.returns-in-Refused
 returns-in-Refused c =
-    let s = c.start-begun in
-    let begun = rw c.in-Refused.is at s.ensures.0 in
-    (turned_down _ _ _ _ _ _ begun, (((λ e. absurd (true≢false (sym e))), s.ensures.1.1), (omega arith, s.ensures.1.0)))
+    let begun = rw c.in-Refused.is at c.start-begun.ensures.begun in
+    record { talks = turned_down _ _ _ _ _ _ begun; wants = ((λ e. absurd (true≢false (sym e))), c.start-begun.ensures.in_table); within = (omega arith, c.start-begun.ensures.bound) }

@@ -6,14 +6,9 @@ use Rattle.effects.proofs.round.Goals as goal
 
 pub returns : goal.returns
 returns c =
-    let a = c.args in
-    let x = a.t1 in
-    let u = c.requires.0 in
-    let h = c.repeated in
-    let t = c.step.new.0 in
-    let d = c.step.ensures (required_of x.assumed) in
-    let w = c.with_round-next.ensures in (
+    let d = c.step.ensures (required_of c.args.x.assumed) in
+    (
       refl,
-      round-done x u a.storage.now t a.r a.letters h.result _ h.ensures d
-          (c.round_verdicts-verdicts.ensures (heard-firsts x u a.storage.now t a.r.rounds h.result d)) w.0 w.1 w.2,
+      round-done c.args.x c.requires.0 c.args.storage.now c.step.new.0 c.args.r c.args.letters c.repeated.result _ c.repeated.ensures d
+          (c.round_verdicts-verdicts.ensures (heard-firsts c.args.x c.requires.0 c.args.storage.now c.step.new.0 c.args.r.rounds c.repeated.result d)) c.with_round-next.ensures.0 c.with_round-next.ensures.1 c.with_round-next.ensures.2,
     )

@@ -13,10 +13,9 @@ loop-k-init c = (omega arith, shares-none _ _)
 
 pub share_of-requires : goal.share_of-requires
 share_of-requires c =
-    let a = c.args in
-    let ok = record_is a.n a.r c.requires.1 in
+    let ok = record_is c.args.n c.args.r c.requires.1 in
     let same : 4 * c.loop-k.k + 0 ≡ 4 * c.loop-k.k = omega arith in
-    let e = ap (λ (z : ℕ). get_or a.r.counts z 0) same in
+    let e = ap (λ (z : ℕ). get_or c.args.r.counts z 0) same in
     (omega arith, omega (arith, e, ok.sums c.loop-k.k (omega arith)))
 
 pub loop-k-preserved : goal.loop-k-preserved

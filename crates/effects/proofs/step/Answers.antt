@@ -13,19 +13,13 @@ use Rattle.effects.proofs.step.Goals as goal
 
 pub returns-then-rounds-eq0 : goal.returns-then-rounds-eq0
 returns-then-rounds-eq0 c = λ ks.
-    let a = c.args in
-    let s = a.storage.now in
-    let r = c.first_round in
-    subst (λ (R : Pairs). Rounded (2 ^ (a.m + a.n)) s r.new.0 R)
-    (sym (next-first (sheet_of a.m a.n a.code.now a.len.now ks) (live s) (reached s) (among a.letters) a.rounds c.if-rounds-eq0.true)) (r.ensures ks)
+    subst (λ (R : Pairs). Rounded (2 ^ (c.args.m + c.args.n)) c.args.storage.now c.first_round.new.s R)
+    (sym (next-first (sheet_of c.args.m c.args.n c.args.code.now c.args.len.now ks) (live c.args.storage.now) (reached c.args.storage.now) (among c.args.letters) c.args.rounds c.if-rounds-eq0.true)) (c.first_round.ensures ks)
 
 pub returns-then-rounds-gt0 : goal.returns-then-rounds-gt0
 returns-then-rounds-gt0 c = λ ks.
-    let a = c.args in
-    let s = a.storage.now in
-    let r = c.later_round in
-    subst (λ (R : Pairs). Rounded (2 ^ (a.m + a.n)) s r.new.0 R)
-    (sym (later-step a.m a.n a.code.now a.len.now ks (live s) (reached s) (among a.letters) a.rounds c.if-rounds-eq0.false)) (r.ensures ks)
+    subst (λ (R : Pairs). Rounded (2 ^ (c.args.m + c.args.n)) c.args.storage.now c.later_round.new.s R)
+    (sym (later-step c.args.m c.args.n c.args.code.now c.args.len.now ks (live c.args.storage.now) (reached c.args.storage.now) (among c.args.letters) c.args.rounds c.if-rounds-eq0.false)) (c.later_round.ensures ks)
 
 pub returns-else-rounds-gt0 : goal.returns-else-rounds-gt0
 returns-else-rounds-gt0 c = absurd (c.if-rounds-eq0.false (omega arith))

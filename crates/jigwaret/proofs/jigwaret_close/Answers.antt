@@ -41,10 +41,9 @@ seven-shares c = search rules
 
 pub returns-then-not-sized : goal.returns-then-not-sized
 returns-then-not-sized c =
-    let a = c.args in
-    let z = slices a.record.now a.record.now a.answer.now a.answer.now in
-    sizes_wrong (ByMark (marked a.record.now) (ClosingNumbered a.sheet.now a.storage.now z 255) (MarkRefused a.sheet.now a.storage.now a.storage.now z 255))
-    a.storage.now a.record.now a.answer.now c.sized.result c.sized.ensures c.if-not-sized.true
+    let z = slices c.args.record.now c.args.record.now c.args.answer.now c.args.answer.now in
+    sizes_wrong (ByMark (marked c.args.record.now) (ClosingNumbered c.args.sheet.now c.args.storage.now z 255) (MarkRefused c.args.sheet.now c.args.storage.now c.args.storage.now z 255))
+    c.args.storage.now c.args.record.now c.args.answer.now c.sized.result c.sized.ensures c.if-not-sized.true
 
 pub load-before-requires : goal.load-before-requires
 load-before-requires c = (fits c.before).thirty
@@ -69,36 +68,28 @@ pub put_numbers-requires : goal.put_numbers-requires
 put_numbers-requires c =
     let a = (entry d).args in
     let n = outputs_of a.sheet.now in
-    let put = c.put_verdicts in
-    let same = front_size n a.answer.now put.new.0 (verdict_numbers c.close-a.result.verdicts n) (omega (arith, few t, (fits d).sixteen)) (omega (arith, numbers-size c.close-a.result.verdicts n (omega (arith, few t, seven-verdicts t)))) put.ensures in
+    let same = front_size n a.answer.now c.put_verdicts.new.into (verdict_numbers c.close-a.result.verdicts n) (omega (arith, few t, (fits d).sixteen)) (omega (arith, numbers-size c.close-a.result.verdicts n (omega (arith, few t, seven-verdicts t)))) c.put_verdicts.ensures in
     (omega (arith, few t, seven-shares p), omega (arith, few t, (fits d).sixteen, same))
 
 pub returns-in-Refused : goal.returns-in-Refused
 returns-in-Refused c =
     let a = (entry d).args in
-    let p = c.close-a in
     let z = slices a.record.now a.record.now a.answer.now a.answer.now in
-    let e = c.in-Refused.is in
-    let r = c.refusal_number.result in
     let n = outputs_of a.sheet.now in
-    sizes-right (ByMark (marked a.record.now) (ClosingNumbered a.sheet.now a.storage.now z r) (MarkRefused a.sheet.now a.storage.now a.storage.now z r)) a.storage.now a.storage.now z r (fits d)
-    (closing-by-mark a.sheet.now a.storage.now z r p.result
-    (subst (λ (q : JournalRecord). CloseCall a.sheet.now a.storage.now q p.result) c.load-before.ensures p.ensures)
-    (number_of p.result.outcome _ r e c.refusal_number.ensures)
-    (not_written (numbers_of p.result.record) (paste (paste a.answer.now 0 (verdict_numbers p.result.verdicts n) n) n p.result.shares n) z p.result.outcome _ e refl refl))
+    sizes-right (ByMark (marked a.record.now) (ClosingNumbered a.sheet.now a.storage.now z c.refusal_number.result) (MarkRefused a.sheet.now a.storage.now a.storage.now z c.refusal_number.result)) a.storage.now a.storage.now z c.refusal_number.result (fits d)
+    (closing-by-mark a.sheet.now a.storage.now z c.refusal_number.result c.close-a.result
+    (subst (λ (q : JournalRecord). CloseCall a.sheet.now a.storage.now q c.close-a.result) c.load-before.ensures c.close-a.ensures)
+    (number_of c.close-a.result.outcome _ c.refusal_number.result c.in-Refused.is c.refusal_number.ensures)
+    (not_written (numbers_of c.close-a.result.record) (paste (paste a.answer.now 0 (verdict_numbers c.close-a.result.verdicts n) n) n c.close-a.result.shares n) z c.close-a.result.outcome _ c.in-Refused.is refl refl))
 
 pub returns-in-Accepted : goal.returns-in-Accepted
 returns-in-Accepted c =
     let a = (entry d).args in
-    let p = c.close-a in
-    let e = c.in-Accepted.is in
     let n = outputs_of a.sheet.now in
-    let front = c.put_verdicts in
-    let put = c.put_numbers in
-    let z = slices a.record.now c.store.new.ns a.answer.now put.new.0 in
+    let z = slices a.record.now c.store.new.ns a.answer.now c.put_numbers.new.into in
     sizes-right (ByMark (marked a.record.now) (ClosingNumbered a.sheet.now a.storage.now z 0) (MarkRefused a.sheet.now a.storage.now a.storage.now z 0)) a.storage.now a.storage.now z 0 (fits d)
-    (closing-by-mark a.sheet.now a.storage.now z 0 p.result
-    (subst (λ (q : JournalRecord). CloseCall a.sheet.now a.storage.now q p.result) c.load-before.ensures p.ensures)
-    (sym (ap outcome_no e))
-    (written (numbers_of p.result.record) (paste (paste a.answer.now 0 (verdict_numbers p.result.verdicts n) n) n p.result.shares n) z p.result.outcome e c.store.ensures
-    (put_behind n a.answer.now front.new.0 put.new.0 (verdict_numbers p.result.verdicts n) p.result.shares front.ensures put.ensures)))
+    (closing-by-mark a.sheet.now a.storage.now z 0 c.close-a.result
+    (subst (λ (q : JournalRecord). CloseCall a.sheet.now a.storage.now q c.close-a.result) c.load-before.ensures c.close-a.ensures)
+    (sym (ap outcome_no c.in-Accepted.is))
+    (written (numbers_of c.close-a.result.record) (paste (paste a.answer.now 0 (verdict_numbers c.close-a.result.verdicts n) n) n c.close-a.result.shares n) z c.close-a.result.outcome c.in-Accepted.is c.store.ensures
+    (put_behind n a.answer.now c.put_verdicts.new.into c.put_numbers.new.into (verdict_numbers c.close-a.result.verdicts n) c.close-a.result.shares c.put_verdicts.ensures c.put_numbers.ensures)))

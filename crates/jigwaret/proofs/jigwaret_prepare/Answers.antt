@@ -22,8 +22,7 @@ fits c = sizes_tested (entry c).args.record.now (entry c).args.answer.now c.befo
 
 pub returns-then-not-sized : goal.returns-then-not-sized
 returns-then-not-sized c =
-    let a = c.args in
-    sizes_wrong (PreparationNumbered a.sheet.now a.storage.now a.storage.now (slices a.record.now a.record.now a.answer.now a.answer.now) 255) a.storage.now a.record.now a.answer.now c.sized.result c.sized.ensures c.if-not-sized.true
+    sizes_wrong (PreparationNumbered c.args.sheet.now c.args.storage.now c.args.storage.now (slices c.args.record.now c.args.record.now c.args.answer.now c.args.answer.now) 255) c.args.storage.now c.args.record.now c.args.answer.now c.sized.result c.sized.ensures c.if-not-sized.true
 
 pub store-requires : goal.store-requires
 store-requires c = (fits c.before.before.before.before.before.before.before).thirty
@@ -38,28 +37,23 @@ bounds-answer-1 c =
 pub returns-in-Refused : goal.returns-in-Refused
 returns-in-Refused c =
     let a = (entry d).args in
-    let p = c.prepare-a in
     let z = slices a.record.now a.record.now a.answer.now a.answer.now in
-    let e = c.in-Refused.is in
-    sizes-right (PreparationNumbered a.sheet.now a.storage.now p.new.1.0 z c.refusal_number.result) a.storage.now p.new.1.0 z c.refusal_number.result (fits d)
+    sizes-right (PreparationNumbered a.sheet.now a.storage.now c.prepare-a.new.storage z c.refusal_number.result) a.storage.now c.prepare-a.new.storage z c.refusal_number.result (fits d)
     (record {
-      answer = p.result;
-      result = p.ensures;
-      number = number_of p.result.outcome _ c.refusal_number.result e c.refusal_number.ensures;
-      written = not_written (numbers_of p.result.record) (paste a.answer.now 0 (p.result.live ∷ p.result.reach ∷ []) 2) z p.result.outcome _ e refl refl;
+      answer = c.prepare-a.result;
+      result = c.prepare-a.ensures;
+      number = number_of c.prepare-a.result.outcome _ c.refusal_number.result c.in-Refused.is c.refusal_number.ensures;
+      written = not_written (numbers_of c.prepare-a.result.record) (paste a.answer.now 0 (c.prepare-a.result.live ∷ c.prepare-a.result.reach ∷ []) 2) z c.prepare-a.result.outcome _ c.in-Refused.is refl refl;
     })
 
 pub returns-in-Accepted : goal.returns-in-Accepted
 returns-in-Accepted c =
     let a = (entry d).args in
-    let p = c.prepare-a in
-    let n = c.store.new.ns in
-    let z = slices a.record.now n a.answer.now (set (set a.answer.now 0 p.result.live) 1 p.result.reach) in
-    let e = c.in-Accepted.is in
-    sizes-right (PreparationNumbered a.sheet.now a.storage.now p.new.1.0 z 0) a.storage.now p.new.1.0 z 0 (fits d)
+    let z = slices a.record.now c.store.new.ns a.answer.now (set (set a.answer.now 0 c.prepare-a.result.live) 1 c.prepare-a.result.reach) in
+    sizes-right (PreparationNumbered a.sheet.now a.storage.now c.prepare-a.new.storage z 0) a.storage.now c.prepare-a.new.storage z 0 (fits d)
     (record {
-      answer = p.result;
-      result = p.ensures;
-      number = sym (ap outcome_no e);
-      written = written (numbers_of p.result.record) (paste a.answer.now 0 (p.result.live ∷ p.result.reach ∷ []) 2) z p.result.outcome e c.store.ensures (set_two a.answer.now p.result.live p.result.reach (omega (arith, (fits d).sixteen)));
+      answer = c.prepare-a.result;
+      result = c.prepare-a.ensures;
+      number = sym (ap outcome_no c.in-Accepted.is);
+      written = written (numbers_of c.prepare-a.result.record) (paste a.answer.now 0 (c.prepare-a.result.live ∷ c.prepare-a.result.reach ∷ []) 2) z c.prepare-a.result.outcome c.in-Accepted.is c.store.ensures (set_two a.answer.now c.prepare-a.result.live c.prepare-a.result.reach (omega (arith, (fits d).sixteen)));
     })

@@ -39,10 +39,9 @@ few c =
 
 pub returns-then-not-sized : goal.returns-then-not-sized
 returns-then-not-sized c =
-    let a = c.args in
-    let z = slices a.record.now a.record.now a.answer.now a.answer.now in
-    sizes_wrong (ByMark (marked a.record.now) (RoundNumbered a.sheet.now a.storage.now a.storage.now a.letters z 255) (MarkRefused a.sheet.now a.storage.now a.storage.now z 255))
-    a.storage.now a.record.now a.answer.now c.sized.result c.sized.ensures c.if-not-sized.true
+    let z = slices c.args.record.now c.args.record.now c.args.answer.now c.args.answer.now in
+    sizes_wrong (ByMark (marked c.args.record.now) (RoundNumbered c.args.sheet.now c.args.storage.now c.args.storage.now c.args.letters z 255) (MarkRefused c.args.sheet.now c.args.storage.now c.args.storage.now z 255))
+    c.args.storage.now c.args.record.now c.args.answer.now c.sized.result c.sized.ensures c.if-not-sized.true
 
 pub load-before-requires : goal.load-before-requires
 load-before-requires c = (fits c.before).thirty
@@ -62,25 +61,19 @@ put_verdicts-requires c = (omega (arith, few c.before.before.before.before.befor
 pub returns-in-Refused : goal.returns-in-Refused
 returns-in-Refused c =
     let a = (entry d).args in
-    let p = c.round-a in
     let z = slices a.record.now a.record.now a.answer.now a.answer.now in
-    let e = c.in-Refused.is in
-    let r = c.refusal_number.result in
-    sizes-right (ByMark (marked a.record.now) (RoundNumbered a.sheet.now a.storage.now p.new.1.0 a.letters z r) (MarkRefused a.sheet.now a.storage.now p.new.1.0 z r)) a.storage.now p.new.1.0 z r (fits d)
-    (round-by-mark a.sheet.now a.storage.now p.new.1.0 z r a.letters p.result
-    (subst (λ (q : JournalRecord). RoundCall a.sheet.now a.storage.now p.new.1.0 q a.letters p.result) c.load-before.ensures p.ensures)
-    (number_of p.result.outcome _ r e c.refusal_number.ensures)
-    (not_written (numbers_of p.result.record) (paste a.answer.now 0 (verdict_numbers p.result.verdicts (outputs_of a.sheet.now)) (outputs_of a.sheet.now)) z p.result.outcome _ e refl refl))
+    sizes-right (ByMark (marked a.record.now) (RoundNumbered a.sheet.now a.storage.now c.round-a.new.storage a.letters z c.refusal_number.result) (MarkRefused a.sheet.now a.storage.now c.round-a.new.storage z c.refusal_number.result)) a.storage.now c.round-a.new.storage z c.refusal_number.result (fits d)
+    (round-by-mark a.sheet.now a.storage.now c.round-a.new.storage z c.refusal_number.result a.letters c.round-a.result
+    (subst (λ (q : JournalRecord). RoundCall a.sheet.now a.storage.now c.round-a.new.storage q a.letters c.round-a.result) c.load-before.ensures c.round-a.ensures)
+    (number_of c.round-a.result.outcome _ c.refusal_number.result c.in-Refused.is c.refusal_number.ensures)
+    (not_written (numbers_of c.round-a.result.record) (paste a.answer.now 0 (verdict_numbers c.round-a.result.verdicts (outputs_of a.sheet.now)) (outputs_of a.sheet.now)) z c.round-a.result.outcome _ c.in-Refused.is refl refl))
 
 pub returns-in-Accepted : goal.returns-in-Accepted
 returns-in-Accepted c =
     let a = (entry d).args in
-    let p = c.round-a in
-    let e = c.in-Accepted.is in
-    let put = c.put_verdicts in
-    let z = slices a.record.now c.store.new.ns a.answer.now put.new.0 in
-    sizes-right (ByMark (marked a.record.now) (RoundNumbered a.sheet.now a.storage.now p.new.1.0 a.letters z 0) (MarkRefused a.sheet.now a.storage.now p.new.1.0 z 0)) a.storage.now p.new.1.0 z 0 (fits d)
-    (round-by-mark a.sheet.now a.storage.now p.new.1.0 z 0 a.letters p.result
-    (subst (λ (q : JournalRecord). RoundCall a.sheet.now a.storage.now p.new.1.0 q a.letters p.result) c.load-before.ensures p.ensures)
-    (sym (ap outcome_no e))
-    (written (numbers_of p.result.record) (paste a.answer.now 0 (verdict_numbers p.result.verdicts (outputs_of a.sheet.now)) (outputs_of a.sheet.now)) z p.result.outcome e c.store.ensures put.ensures))
+    let z = slices a.record.now c.store.new.ns a.answer.now c.put_verdicts.new.into in
+    sizes-right (ByMark (marked a.record.now) (RoundNumbered a.sheet.now a.storage.now c.round-a.new.storage a.letters z 0) (MarkRefused a.sheet.now a.storage.now c.round-a.new.storage z 0)) a.storage.now c.round-a.new.storage z 0 (fits d)
+    (round-by-mark a.sheet.now a.storage.now c.round-a.new.storage z 0 a.letters c.round-a.result
+    (subst (λ (q : JournalRecord). RoundCall a.sheet.now a.storage.now c.round-a.new.storage q a.letters c.round-a.result) c.load-before.ensures c.round-a.ensures)
+    (sym (ap outcome_no c.in-Accepted.is))
+    (written (numbers_of c.round-a.result.record) (paste a.answer.now 0 (verdict_numbers c.round-a.result.verdicts (outputs_of a.sheet.now)) (outputs_of a.sheet.now)) z c.round-a.result.outcome c.in-Accepted.is c.store.ensures c.put_verdicts.ensures))

@@ -23,10 +23,9 @@ fits c = sizes_tested (entry c).args.record.now (entry c).args.answer.now c.befo
 
 pub returns-then-not-sized : goal.returns-then-not-sized
 returns-then-not-sized c =
-    let a = c.args in
-    let z = slices a.record.now a.record.now a.answer.now a.answer.now in
-    sizes_wrong (ByMark (marked a.record.now) (TogetherNumbered a.sheet.now a.storage.now a.outputs z 255) (MarkRefused a.sheet.now a.storage.now a.storage.now z 255))
-    a.storage.now a.record.now a.answer.now c.sized.result c.sized.ensures c.if-not-sized.true
+    let z = slices c.args.record.now c.args.record.now c.args.answer.now c.args.answer.now in
+    sizes_wrong (ByMark (marked c.args.record.now) (TogetherNumbered c.args.sheet.now c.args.storage.now c.args.outputs z 255) (MarkRefused c.args.sheet.now c.args.storage.now c.args.storage.now z 255))
+    c.args.storage.now c.args.record.now c.args.answer.now c.sized.result c.sized.ensures c.if-not-sized.true
 
 pub load-before-requires : goal.load-before-requires
 load-before-requires c = (fits c).thirty
@@ -37,26 +36,20 @@ bounds-answer-0 c = omega (arith, (fits c.before.before.before.before.before).si
 pub returns-in-Refused : goal.returns-in-Refused
 returns-in-Refused c =
     let a = (entry d).args in
-    let p = c.together-a in
     let z = slices a.record.now a.record.now a.answer.now a.answer.now in
-    let e = c.in-Refused.is in
-    let r = c.refusal_number.result in
-    sizes-right (ByMark (marked a.record.now) (TogetherNumbered a.sheet.now a.storage.now a.outputs z r) (MarkRefused a.sheet.now a.storage.now a.storage.now z r)) a.storage.now a.storage.now z r (fits d)
-    (together-by-mark a.sheet.now a.storage.now z r a.outputs p.result
-    (subst (λ (q : JournalRecord). TogetherCall a.sheet.now a.storage.now q a.outputs p.result) c.load-before.ensures p.ensures)
-    (number_of p.result.outcome _ r e c.refusal_number.ensures)
-    (not_written a.record.now (paste a.answer.now 0 (verdict_no p.result.verdict ∷ []) 1) z p.result.outcome _ e refl refl))
+    sizes-right (ByMark (marked a.record.now) (TogetherNumbered a.sheet.now a.storage.now a.outputs z c.refusal_number.result) (MarkRefused a.sheet.now a.storage.now a.storage.now z c.refusal_number.result)) a.storage.now a.storage.now z c.refusal_number.result (fits d)
+    (together-by-mark a.sheet.now a.storage.now z c.refusal_number.result a.outputs c.together-a.result
+    (subst (λ (q : JournalRecord). TogetherCall a.sheet.now a.storage.now q a.outputs c.together-a.result) c.load-before.ensures c.together-a.ensures)
+    (number_of c.together-a.result.outcome _ c.refusal_number.result c.in-Refused.is c.refusal_number.ensures)
+    (not_written a.record.now (paste a.answer.now 0 (verdict_no c.together-a.result.verdict ∷ []) 1) z c.together-a.result.outcome _ c.in-Refused.is refl refl))
 
 pub returns-in-Accepted : goal.returns-in-Accepted
 returns-in-Accepted c =
     let a = (entry d).args in
-    let p = c.together-a in
-    let v = c.verdict_number in
-    let z = slices a.record.now a.record.now a.answer.now (set a.answer.now 0 v.result) in
-    let e = c.in-Accepted.is in
+    let z = slices a.record.now a.record.now a.answer.now (set a.answer.now 0 c.verdict_number.result) in
     sizes-right (ByMark (marked a.record.now) (TogetherNumbered a.sheet.now a.storage.now a.outputs z 0) (MarkRefused a.sheet.now a.storage.now a.storage.now z 0)) a.storage.now a.storage.now z 0 (fits d)
-    (together-by-mark a.sheet.now a.storage.now z 0 a.outputs p.result
-    (subst (λ (q : JournalRecord). TogetherCall a.sheet.now a.storage.now q a.outputs p.result) c.load-before.ensures p.ensures)
-    (sym (ap outcome_no e))
-    (written a.record.now (paste a.answer.now 0 (verdict_no p.result.verdict ∷ []) 1) z p.result.outcome e refl
-    (ap (λ (n : ℕ). set a.answer.now 0 n) v.ensures ∙ set-one a.answer.now (verdict_no p.result.verdict) (omega (arith, (fits d).sixteen)))))
+    (together-by-mark a.sheet.now a.storage.now z 0 a.outputs c.together-a.result
+    (subst (λ (q : JournalRecord). TogetherCall a.sheet.now a.storage.now q a.outputs c.together-a.result) c.load-before.ensures c.together-a.ensures)
+    (sym (ap outcome_no c.in-Accepted.is))
+    (written a.record.now (paste a.answer.now 0 (verdict_no c.together-a.result.verdict ∷ []) 1) z c.together-a.result.outcome c.in-Accepted.is refl
+    (ap (λ (n : ℕ). set a.answer.now 0 n) c.verdict_number.ensures ∙ set-one a.answer.now (verdict_no c.together-a.result.verdict) (omega (arith, (fits d).sixteen)))))

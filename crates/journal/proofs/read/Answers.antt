@@ -17,8 +17,7 @@ heard-heard-requires c =
 
 pub returns-in-Moved : goal.returns-in-Moved
 returns-in-Moved c =
-    let h = c.heard-heard.ensures in
-    record { read = h.0; within = (h.1.0, h.1.1) }
+    record { read = c.heard-heard.ensures.steps; within = (c.heard-heard.ensures.within, c.heard-heard.ensures.in_table) }
 
 pub returns-in_default : goal.returns-in_default
 returns-in_default c =

@@ -12,30 +12,21 @@ loop-calls-init c = (refl, omega arith, given_none)
 
 pub returns-then-k-eq0 : goal.returns-then-k-eq0
 returns-then-k-eq0 c =
-    let l = c.loop-calls in
-    let r = c.read_more-reply in
-    (omega (arith, l.invariant.1, r.auto.1.0), (λ h. ap (λ (k : ℕ). Moved k) c.if-k-eq0.true), given-end _ _ l.n l.calls l.invariant.2 r.ensures.0 _)
+    (omega (arith, c.loop-calls.invariant.1, c.read_more-reply.auto.1.0), (λ h. ap (λ (k : ℕ). Moved k) c.if-k-eq0.true), given-end _ _ c.loop-calls.n c.loop-calls.calls c.loop-calls.invariant.2 c.read_more-reply.ensures.0 _)
 
 pub overflow_add-n : goal.overflow_add-n
 overflow_add-n c =
-    let l = c.loop-calls in
-    let r = c.read_more-reply in
-    omega (arith, r.ensures.1 _ c.in-Moved.is, r.auto.1.0)
+    omega (arith, c.read_more-reply.ensures.1 _ c.in-Moved.is, c.read_more-reply.auto.1.0)
 
 pub loop-calls-preserved-in-Moved : goal.loop-calls-preserved-in-Moved
 loop-calls-preserved-in-Moved c =
-    let l = c.loop-calls in
-    let r = c.read_more-reply in
-    let most = r.ensures.1 _ c.in-Moved.is in
-    (search rules, most, given-more _ _ l.n l.calls l.invariant.2 r.ensures.0 _ c.if-k-eq0.false most)
+    let most = c.read_more-reply.ensures.1 _ c.in-Moved.is in
+    (search rules, most, given-more _ _ c.loop-calls.n c.loop-calls.calls c.loop-calls.invariant.2 c.read_more-reply.ensures.0 _ c.if-k-eq0.false most)
 
 pub loop-calls-preserved : goal.loop-calls-preserved
 loop-calls-preserved c =
-    let l = c.loop-calls in
-    let r = c.read_more-reply in
-    (search rules, omega (arith, l.invariant.1, r.auto.1.0), given-again _ _ l.n l.calls l.invariant.2 r.ensures.0)
+    (search rules, omega (arith, c.loop-calls.invariant.1, c.read_more-reply.auto.1.0), given-again _ _ c.loop-calls.n c.loop-calls.calls c.loop-calls.invariant.2 c.read_more-reply.ensures.0)
 
 pub returns : goal.returns
 returns c =
-    let l = c.loop-calls in
-    (l.invariant.1, (λ h. absurd (omega (arith, h, c.if-n-bytes-2.false))), given_full _ l.n l.calls l.invariant.2 l.invariant.1 c.if-n-bytes-2.false)
+    (c.loop-calls.invariant.1, (λ h. absurd (omega (arith, h, c.if-n-bytes-2.false))), given_full _ c.loop-calls.n c.loop-calls.calls c.loop-calls.invariant.2 c.loop-calls.invariant.1 c.if-n-bytes-2.false)

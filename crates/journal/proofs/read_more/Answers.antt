@@ -8,8 +8,7 @@ use Rattle.journal.proofs.read_more.Goals as goal
 
 pub returns : goal.returns
 returns c =
-    let r = c.read-got in
-    let bytes = c.args.bytes.now in (
-      take_put c.args.n (length bytes - c.args.n) bytes r.new.1.0 c.requires,
-      λ k e. omega (arith, read-within r.result _ _ _ k _ (same_number r.result r.type-inv) r.ensures e c.of.ensures, length-take (length bytes - c.args.n) (drop c.args.n bytes), same_len_mid c.args.n (length bytes - c.args.n) bytes r.new.1.0 r.auto.1.0, c.requires),
+    (
+      take_put c.args.n (length c.args.bytes.now - c.args.n) c.args.bytes.now c.read-got.new.buf c.requires,
+      λ k e. omega (arith, read-within c.read-got.result _ _ _ k _ (same_number c.read-got.result c.read-got.type-inv) c.read-got.ensures e c.of.ensures, length-take (length c.args.bytes.now - c.args.n) (drop c.args.n c.args.bytes.now), same_len_mid c.args.n (length c.args.bytes.now - c.args.n) c.args.bytes.now c.read-got.new.buf c.read-got.auto.1.0, c.requires),
     )

@@ -9,14 +9,11 @@ use Rattle.journal.proofs.turn.Goals as goal
 
 pub returns-then-d : goal.returns-then-d
 returns-then-d c =
-    let w = c.write-called in
-    record { turned = rw c.wait-going.ensures (write_turn c.args.x c.args.d w.result.dialogue c.args.storage.now c.args.out.now c.args.buf.now w.result.reply (goes_on w.result.reply) c.if1.true w.ensures.0); within = (((λ e. c.requires.0.0 (sym w.ensures.1.1 ∙ e)), subst (λ (s : Progress). InTable s.pending) (sym w.ensures.1.2) c.requires.0.1), w.ensures.1.0) }
+    record { turned = rw c.wait-going.ensures (write_turn c.args.x c.args.d c.write-called.result.dialogue c.args.storage.now c.args.out.now c.args.buf.now c.write-called.result.reply (goes_on c.write-called.result.reply) c.if1.true c.write-called.ensures.wrote); within = (((λ e. c.requires.0.0 (sym c.write-called.ensures.within.1 ∙ e)), subst (λ (s : Progress). InTable s.pending) (sym c.write-called.ensures.within.2) c.requires.0.1), c.write-called.ensures.within.0) }
 
 pub returns-then-d-2 : goal.returns-then-d-2
 returns-then-d-2 c =
-    let r = c.read-called in
-    let more = c.if-d-2.true in
-    record { turned = rw c.wait-going-then-d-2.ensures (read_turn c.args.x c.args.d r.result.dialogue c.args.storage.now c.args.out.now r.new.1.1.1.0 r.new.1.1.1.1.1.0 r.new.1.1.1.1.0 r.result.reply (goes_on r.result.reply) more c.if-d.false r.ensures.0); within = (((λ e. c.requires.0.0 more), r.ensures.1.1), r.ensures.1.0) }
+    record { turned = rw c.wait-going-then-d-2.ensures (read_turn c.args.x c.args.d c.read-called.result.dialogue c.args.storage.now c.args.out.now c.read-called.new.storage c.read-called.new.out c.read-called.new.buf c.read-called.result.reply (goes_on c.read-called.result.reply) c.if-d-2.true c.if-d.false c.read-called.ensures.read); within = (((λ e. c.requires.0.0 c.if-d-2.true), c.read-called.ensures.within.1), c.read-called.ensures.within.0) }
 
 pub returns : goal.returns
 returns c =

@@ -11,15 +11,12 @@ returns-then-n-eq0 c =
 
 pub told-told-requires : goal.told-told-requires
 told-told-requires c =
-    let w = c.write-got in
-    write_within c.args.d c.args.out.now w.result _ _ _ _ c.requires (same_number w.result w.type-inv) w.ensures c.in-Moved.is c.of-reply.ensures
+    write_within c.args.d c.args.out.now c.write-got.result _ _ _ _ c.requires (same_number c.write-got.result c.write-got.type-inv) c.write-got.ensures c.in-Moved.is c.of-reply.ensures
 
 pub returns-else-n-eq0 : goal.returns-else-n-eq0
 returns-else-n-eq0 c =
-    let w = c.write-got in
-    let t = c.told-told.ensures in
-    let most = write_within c.args.d c.args.out.now w.result _ _ _ _ c.requires (same_number w.result w.type-inv) w.ensures c.in-Moved.is c.of-reply.ensures in
-    ((λ x u. t.0 x u c.args.out.now), ((omega (arith, t.1.2, t.1.3, most), omega (arith, t.1.3, c.requires.1)), t.1.1, t.1.0))
+    let most = write_within c.args.d c.args.out.now c.write-got.result _ _ _ _ c.requires (same_number c.write-got.result c.write-got.type-inv) c.write-got.ensures c.in-Moved.is c.of-reply.ensures in
+    record { wrote = (λ x u. c.told-told.ensures.told x u c.args.out.now); within = ((omega (arith, c.told-told.ensures.left.2, c.told-told.ensures.left.3, most), omega (arith, c.told-told.ensures.left.3, c.requires.1)), c.told-told.ensures.left.1, c.told-told.ensures.left.0) }
 
 pub returns-in_default : goal.returns-in_default
 returns-in_default c =

@@ -11,26 +11,17 @@ loop-e-init c = (omega arith, omega arith, placed_no_line _ _ (omega arith))
 
 pub decimal-digits-requires : goal.decimal-digits-requires
 decimal-digits-requires c =
-    let l = c.loop-e in
     let most = decimal-length 20 c.entry.result (omega arith) (omega arith) in
-    omega (arith, l.invariant.2.size, most)
+    omega (arith, c.loop-e.invariant.2.size, most)
 
 pub byte-to-requires : goal.byte-to-requires
 byte-to-requires c =
-    let w = c.decimal-digits.ensures in
-    let e = c.entry in
-    let l = c.loop-e in
-    omega (arith, l.invariant.2.size, w.end, w.size, decimal-length 20 e.result (omega arith) (omega arith))
+    omega (arith, c.loop-e.invariant.2.size, c.decimal-digits.ensures.end, c.decimal-digits.ensures.size, decimal-length 20 c.entry.result (omega arith) (omega arith))
 
 pub loop-e-preserved : goal.loop-e-preserved
 loop-e-preserved c =
-    let b = c.byte-to.ensures in
-    let w = c.decimal-digits.ensures in
-    let e = c.entry in
-    let l = c.loop-e in
-    (omega arith, omega (arith, b.end, w.end, decimal-length 20 e.result (omega arith) (omega arith)), placed_line l.e e.result e.ensures l.invariant.2 w b)
+    (omega arith, omega (arith, c.byte-to.ensures.end, c.decimal-digits.ensures.end, decimal-length 20 c.entry.result (omega arith) (omega arith)), placed_line c.loop-e.e c.entry.result c.entry.ensures c.loop-e.invariant.2 c.decimal-digits.ensures c.byte-to.ensures)
 
 pub returns : goal.returns
 returns c =
-    let l = c.loop-e in
-    record { text = rw (← le_antisymm l.invariant.0 c.loop-e-test.false) l.invariant.2; bound = omega (arith, l.invariant.2.size) }
+    record { text = rw (← le_antisymm c.loop-e.invariant.0 c.loop-e-test.false) c.loop-e.invariant.2; bound = omega (arith, c.loop-e.invariant.2.size) }

@@ -9,13 +9,11 @@ use Rattle.letters.proofs.bad_masks.Goals as goal
 pub returns-then-known-size : goal.returns-then-known-size
 unfolding bad_masks
 returns-then-known-size c =
-    let a = c.args in
-    let g : 2 ^ a.m ≤ 2 ^ 6 = pow_mono c.requires in
-    rw (lt-leb (2 ^ a.m) a.known (omega arith))
+    let g : 2 ^ c.args.m ≤ 2 ^ 6 = pow_mono c.requires in
+    rw (lt-leb (2 ^ c.args.m) c.args.known (omega arith))
 
 pub returns : goal.returns
 unfolding bad_masks
 returns c =
-    let a = c.args in
-    let g : 2 ^ a.m ≤ 2 ^ 6 = pow_mono c.requires in
-    rw (le-leb (2 ^ a.m) a.known (omega arith))
+    let g : 2 ^ c.args.m ≤ 2 ^ 6 = pow_mono c.requires in
+    rw (le-leb (2 ^ c.args.m) c.args.known (omega arith))

@@ -19,11 +19,9 @@ returns-then-set-eq0 c = bad_empty _ _ c.if-set-eq0.true
 
 pub returns-then-m-eq6 : goal.returns-then-m-eq6
 returns-then-m-eq6 c =
-    let m = c.args.m in
-    let w = c.args.set in
-    let e : m ≡ 6 = c.if-m-eq6.true in
-    let most : w < 2 ^ 64 = omega arith in
-    sym (bad_within m w c.if-set-eq0.false (rw e most))
+    let e : c.args.m ≡ 6 = c.if-m-eq6.true in
+    let most : c.args.set < 2 ^ 64 = omega arith in
+    sym (bad_within c.args.m c.args.set c.if-set-eq0.false (rw e most))
 
 pub overflow_shr-result : goal.overflow_shr-result
 overflow_shr-result c =
@@ -32,6 +30,4 @@ overflow_shr-result c =
 
 pub returns : goal.returns
 returns c =
-    let m = c.args.m in
-    let w = c.args.set in
-    ap (λ (k : ℕ). not (eqb (w / 2 ^ k) 0)) (size m c.requires c.if-m-eq6.false).0 ∙ bad_shift m w c.if-set-eq0.false
+    ap (λ (k : ℕ). not (eqb (c.args.set / 2 ^ k) 0)) (size c.args.m c.requires c.if-m-eq6.false).0 ∙ bad_shift c.args.m c.args.set c.if-set-eq0.false

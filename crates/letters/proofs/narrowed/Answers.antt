@@ -10,13 +10,11 @@ use Rattle.letters.proofs.narrowed.Goals as goal
 pub returns-then-bit_of : goal.returns-then-bit_of
 returns-then-bit_of c =
     λ l h.
-    let known = c.args.known in
-    let i = c.args.i in
     let zero : 64 * 0 + l ≡ l = omega arith in
     bit-and l c.args.set c.agree.result
     ∙ ap (λ (z : Bool). bit l c.args.set && z)
-    (c.agree.ensures l h ∙ ap₂ beq (c.stream_word.ensures l h ∙ ap (bit i) zero) c.bit_of-want.ensures
-    ∙ sym (ap (λ (z : Bool). cond z (beq (bit i l) (bit i c.args.value)) true) (sym c.bit_of.ensures ∙ c.if-bit_of.true)))
+    (c.agree.ensures l h ∙ ap₂ beq (c.stream_word.ensures l h ∙ ap (bit c.args.i) zero) c.bit_of-want.ensures
+    ∙ sym (ap (λ (z : Bool). cond z (beq (bit c.args.i l) (bit c.args.i c.args.value)) true) (sym c.bit_of.ensures ∙ c.if-bit_of.true)))
 
 pub returns : goal.returns
 returns c = λ l h.

@@ -5,9 +5,4 @@ use Rattle.line_end.proofs.answer_round.Goals as goal
 
 pub returns : goal.returns
 returns c =
-    let a = c.args in
-    let s = a.storage.now in
-    let call = c.round_on in
-    let t = call.new.1.0 in
-    let p = call.result in
-    record { by_the_book = λ sheet b o sv. serves-step sheet (rule_sheet a.x) b _ sv _ _ _ (round-step sheet a.x o s t a.r a.letters p (call.ensures sheet o)); done = round-kept c.requires.0 s t a.r a.letters p (call.ensures c.requires.0 c.requires.1) }
+    record { by_the_book = λ sheet b o sv. serves-step sheet (rule_sheet c.args.x) b _ sv _ _ _ (round-step sheet c.args.x o c.args.storage.now c.round_on.new.storage c.args.r c.args.letters c.round_on.result (c.round_on.ensures sheet o)); done = round-kept c.requires.0 c.args.storage.now c.round_on.new.storage c.args.r c.args.letters c.round_on.result (c.round_on.ensures c.requires.0 c.requires.1) }

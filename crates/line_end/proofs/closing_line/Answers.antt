@@ -16,14 +16,9 @@ closing-to-requires c =
 
 pub returns-in-Refused : goal.returns-in-Refused
 returns-in-Refused c =
-    let r = c.refused_line.result in
-    let a = c.args in
-    let f = c.refused_line.ensures in
-    record { ended = λ sheet b part o sv l. refused-ends sheet _ b _ part _ _ _ _ _ _ _ _ l (rw c.in-Refused.is at (c.answer_closing-a.ensures.by_the_book sheet b o sv)) f.0 f.2; bound = over_bound r.over r.record.closed a.rec.closed a.at r.at f.0 f.1 }
+    record { ended = λ sheet b part o sv l. refused-ends sheet _ b _ part _ _ _ _ _ _ _ _ l (rw c.in-Refused.is at (c.answer_closing-a.ensures.by_the_book sheet b o sv)) c.refused_line.ensures.0 c.refused_line.ensures.2; bound = over_bound c.refused_line.result.over c.refused_line.result.record.closed c.args.rec.closed c.args.at c.refused_line.result.at c.refused_line.ensures.0 c.refused_line.ensures.1 }
 
 pub returns-in-Accepted : goal.returns-in-Accepted
 returns-in-Accepted c =
-    let k = rw c.in-Accepted.is at c.answer_closing-a.ensures.done in (
-      λ sheet b part o sv l. closing-ends sheet _ b _ part _ _ _ _ _ refl c.next_line.ensures _ _ _ _ (sheet-outputs c.args.x) (sym k.2) l (rw c.in-Accepted.is at (c.answer_closing-a.ensures.by_the_book sheet b o sv)) c.closing-to.ensures.placed,
-      rw (k.0, k.1) (omega (arith, c.closing-to.ensures.upper_bound)),
-    )
+    let k = rw c.in-Accepted.is at c.answer_closing-a.ensures.done in
+    record { ended = λ sheet b part o sv l. closing-ends sheet _ b _ part _ _ _ _ _ refl c.next_line.ensures _ _ _ _ (sheet-outputs c.args.x) (sym k.2) l (rw c.in-Accepted.is at (c.answer_closing-a.ensures.by_the_book sheet b o sv)) c.closing-to.ensures.placed; bound = rw (k.0, k.1) (omega (arith, c.closing-to.ensures.upper_bound)) }

@@ -14,20 +14,12 @@ returns-in-Blank c =
 
 pub returns-in-Round : goal.returns-in-Round
 returns-in-Round c =
-    let told = c.in-Round.is in
-    (λ sheet b part o sv h. c.round_line.ensures.ended sheet b part o sv (asks-told sheet _ b _ _ part _ _ sv h told), c.round_line.ensures.bound)
+    record { ended = λ sheet b part o sv h. c.round_line.ensures.ended sheet b part o sv (asks-told sheet _ b _ _ part _ _ sv h c.in-Round.is); bound = c.round_line.ensures.bound }
 
 pub returns-in-Closing : goal.returns-in-Closing
 returns-in-Closing c =
-    let told = c.enum-told2.given.1 in
-    record { ended = λ sheet b part o sv h. c.closing_line.ensures.ended sheet b part o sv (asks-told sheet _ b _ _ part _ _ sv h told); bound = c.closing_line.ensures.bound }
+    record { ended = λ sheet b part o sv h. c.closing_line.ensures.ended sheet b part o sv (asks-told sheet _ b _ _ part _ _ sv h c.enum-told2.given.1); bound = c.closing_line.ensures.bound }
 
 pub returns-in-Malformed : goal.returns-in-Malformed
 returns-in-Malformed c =
-    let told = c.in-Malformed.is in
-    let r = c.malformed_line.result in
-    let a = c.args in
-    let f = c.malformed_line.ensures in (
-      λ sheet b part o sv h. malformed-ends sheet _ b _ part _ _ _ _ _ _ _ sv (asks-told sheet _ b _ _ part _ _ sv h told) f.0 f.2,
-      over_bound r.over r.record.closed a.rec.closed a.at r.at f.0 f.1,
-    )
+    record { ended = λ sheet b part o sv h. malformed-ends sheet _ b _ part _ _ _ _ _ _ _ sv (asks-told sheet _ b _ _ part _ _ sv h c.in-Malformed.is) c.malformed_line.ensures.0 c.malformed_line.ensures.2; bound = over_bound c.malformed_line.result.over c.malformed_line.result.record.closed c.args.rec.closed c.args.at c.malformed_line.result.at c.malformed_line.ensures.0 c.malformed_line.ensures.1 }

@@ -9,15 +9,9 @@ refused_line-requires c = omega (arith, bytes-least c.args.rec.closed)
 
 pub returns-in-Refused : goal.returns-in-Refused
 returns-in-Refused c =
-    let r = c.refused_line.result in
-    let a = c.args in
-    let f = c.refused_line.ensures in
-    record { ended = λ sheet b part o sv l. refused-ends sheet _ b _ part _ _ _ _ _ _ _ _ l (rw c.in-Refused.is at (c.answer_round-a.ensures.by_the_book sheet b o sv)) f.0 f.2; bound = over_bound r.over r.record.closed a.rec.closed a.at r.at f.0 f.1 }
+    record { ended = λ sheet b part o sv l. refused-ends sheet _ b _ part _ _ _ _ _ _ _ _ l (rw c.in-Refused.is at (c.answer_round-a.ensures.by_the_book sheet b o sv)) c.refused_line.ensures.0 c.refused_line.ensures.2; bound = over_bound c.refused_line.result.over c.refused_line.result.record.closed c.args.rec.closed c.args.at c.refused_line.result.at c.refused_line.ensures.0 c.refused_line.ensures.1 }
 
 pub returns-in-Accepted : goal.returns-in-Accepted
 returns-in-Accepted c =
     let k = rw c.in-Accepted.is at c.answer_round-a.ensures.done in
-    let n = c.pre.0.1.usable.ranges.outputs in (
-      λ sheet b part o sv l. round-ends sheet _ b _ part _ _ _ _ _ refl c.next_line.ensures _ _ l (rw c.in-Accepted.is at (c.answer_round-a.ensures.by_the_book sheet b o sv)) c.verdict_line-to.ensures.placed,
-      rw k (omega (arith, c.verdict_line-to.ensures.value)),
-    )
+    record { ended = λ sheet b part o sv l. round-ends sheet _ b _ part _ _ _ _ _ refl c.next_line.ensures _ _ l (rw c.in-Accepted.is at (c.answer_round-a.ensures.by_the_book sheet b o sv)) c.verdict_line-to.ensures.placed; bound = rw k (omega (arith, c.verdict_line-to.ensures.value)) }

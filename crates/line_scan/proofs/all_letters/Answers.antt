@@ -9,13 +9,11 @@ use Rattle.line_scan.proofs.all_letters.Goals as goal
 
 pub lanes_below-requires : goal.lanes_below-requires
 lanes_below-requires c =
-    let m = c.args.m in
-    let fit : 2 ^ m ≤ 2 ^ 6 = pow_mono c.requires in
+    let fit : 2 ^ c.args.m ≤ 2 ^ 6 = pow_mono c.requires in
     (omega arith, omega arith)
 
 pub returns : goal.returns
 returns c =
-    let m = c.args.m in
-    let fit : 2 ^ m ≤ 2 ^ 6 = pow_mono c.requires in
-    let size : 1 * 2 ^ m % 2 ^ 64 ≡ 2 ^ m = omega arith in
-    all-letters m _ c.requires (omega arith) (λ l h. let low : 64 * 0 + l ≡ l = omega arith in c.lanes_below.ensures l h ∙ ap₂ ltb low size)
+    let fit : 2 ^ c.args.m ≤ 2 ^ 6 = pow_mono c.requires in
+    let size : 1 * 2 ^ c.args.m % 2 ^ 64 ≡ 2 ^ c.args.m = omega arith in
+    all-letters c.args.m _ c.requires (omega arith) (λ l h. let low : 64 * 0 + l ≡ l = omega arith in c.lanes_below.ensures l h ∙ ap₂ ltb low size)

@@ -14,5 +14,4 @@ returns-in-63 c = rw c.in-63.is refl
 
 pub returns-in_default : goal.returns-in_default
 returns-in_default c =
-    let others = c.in_default.in_default-own.rest in
-    sym (simp (ne_eqb _ 48 others.0.0.1, ne_eqb _ 49 others.0.1, ne_eqb _ 63 others.1))
+    sym (simp (ne_eqb _ 48 c.in_default.in_default-own.rest.0.0.1, ne_eqb _ 49 c.in_default.in_default-own.rest.0.1, ne_eqb _ 63 c.in_default.in_default-own.rest.1))

@@ -8,9 +8,8 @@ close_on-requires c = (_, rw c.in-Accepted.is at c.accept_sheet-got.ensures.shee
 
 pub returns-in-Refused : goal.returns-in-Refused
 returns-in-Refused c =
-    let a = c.args in
-    closing_refused a.sheet.now a.storage.now a.before _ _ c.refused_closing.ensures
-    (closing-unread a.sheet.now (length a.storage.now) a.before _ (rw c.in-Refused.is at c.accept_sheet-got.ensures.decided))
+    closing_refused c.args.sheet.now c.args.storage.now c.args.before _ _ c.refused_closing.ensures
+    (closing-unread c.args.sheet.now (length c.args.storage.now) c.args.before _ (rw c.in-Refused.is at c.accept_sheet-got.ensures.decided))
 
 pub returns-in-Accepted : goal.returns-in-Accepted
 returns-in-Accepted c = c.close_on.ensures _ (rw c.in-Accepted.is at c.accept_sheet-got.ensures.sheet)

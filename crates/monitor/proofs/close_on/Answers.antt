@@ -6,19 +6,15 @@ use Rattle.monitor.proofs.close_on.Goals as goal
 
 pub closing-requires : goal.closing-requires
 closing-requires c =
-    let a = c.args in
-    let y = closing_ready a.x.outputs (length a.storage.now) a.r (rw c.in-Accepted.is at c.check_closing-outcome.ensures) in
+    let y = closing_ready c.args.x.outputs (length c.args.storage.now) c.args.r (rw c.in-Accepted.is at c.check_closing-outcome.ensures) in
     (c.requires.1.usable, y.long, y.right, y.some)
 
 pub returns-in-Refused : goal.returns-in-Refused
 returns-in-Refused c =
-    let a = c.args in
     let d = rw c.in-Refused.is at c.check_closing-outcome.ensures in
-    λ bs ok. closing-turned-down bs a.x ok a.r a.storage.now _ _ c.refused_closing.ensures d
+    λ bs ok. closing-turned-down bs c.args.x ok c.args.r c.args.storage.now _ _ c.refused_closing.ensures d
 
 pub returns-in-Accepted : goal.returns-in-Accepted
 returns-in-Accepted c =
-    let a = c.args in
-    let p = c.closing in
     let d = rw c.in-Accepted.is at c.check_closing-outcome.ensures in
-    λ bs ok. closing-done bs a.x ok a.r a.storage.now p.result p.ensures.0 d p.ensures.1
+    λ bs ok. closing-done bs c.args.x ok c.args.r c.args.storage.now c.closing.result c.closing.ensures.0 d c.closing.ensures.1

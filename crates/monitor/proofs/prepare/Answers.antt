@@ -8,9 +8,8 @@ prepare_on-requires c = (_, rw c.in-Accepted.is at c.accept_sheet-got.ensures.sh
 
 pub returns-in-Refused : goal.returns-in-Refused
 returns-in-Refused c =
-    let a = c.args in
-    prepare_refused a.sheet.now a.storage.now _ _ c.refused_preparation.ensures
-    (prepare_unread a.sheet.now (length a.storage.now) _ (rw c.in-Refused.is at c.accept_sheet-got.ensures.decided))
+    prepare_refused c.args.sheet.now c.args.storage.now _ _ c.refused_preparation.ensures
+    (prepare_unread c.args.sheet.now (length c.args.storage.now) _ (rw c.in-Refused.is at c.accept_sheet-got.ensures.decided))
 
 pub returns-in-Accepted : goal.returns-in-Accepted
 returns-in-Accepted c = c.prepare_on.ensures _ (rw c.in-Accepted.is at c.accept_sheet-got.ensures.sheet)

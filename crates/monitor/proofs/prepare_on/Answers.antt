@@ -7,12 +7,8 @@ use Rattle.monitor.proofs.prepare_on.Goals as goal
 
 pub returns-then-storage-lt-STORAGE_WORDS : goal.returns-then-storage-lt-STORAGE_WORDS
 returns-then-storage-lt-STORAGE_WORDS c =
-    let a = c.args in
-    λ bs ok. too_short bs a.x ok a.storage.now _ c.refused_preparation.ensures (inl (c.if-storage-lt-STORAGE_WORDS.true, refl))
+    λ bs ok. too_short bs c.args.x ok c.args.storage.now _ c.refused_preparation.ensures (inl (c.if-storage-lt-STORAGE_WORDS.true, refl))
 
 pub returns : goal.returns
 returns c =
-    let a = c.args in
-    let p = c.preparation in
-    let long = c.if-storage-lt-STORAGE_WORDS.false in
-    λ bs ok. prepare-done bs a.x ok a.storage.now p.new.1.0 p.result p.ensures.0 (inr ((λ h. omega arith), refl)) p.ensures.1
+    λ bs ok. prepare-done bs c.args.x ok c.args.storage.now c.preparation.new.storage c.preparation.result c.preparation.ensures.0 (inr ((λ h. omega arith), refl)) c.preparation.ensures.1

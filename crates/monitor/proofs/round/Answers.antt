@@ -8,9 +8,8 @@ round_on-requires c = (_, rw c.in-Accepted.is at c.accept_sheet-got.ensures.shee
 
 pub returns-in-Refused : goal.returns-in-Refused
 returns-in-Refused c =
-    let a = c.args in
-    round_refused a.sheet.now a.storage.now a.before a.letters _ _ c.refused_round.ensures
-    (round-unread a.sheet.now (length a.storage.now) a.before a.letters _ (rw c.in-Refused.is at c.accept_sheet-got.ensures.decided))
+    round_refused c.args.sheet.now c.args.storage.now c.args.before c.args.letters _ _ c.refused_round.ensures
+    (round-unread c.args.sheet.now (length c.args.storage.now) c.args.before c.args.letters _ (rw c.in-Refused.is at c.accept_sheet-got.ensures.decided))
 
 pub returns-in-Accepted : goal.returns-in-Accepted
 returns-in-Accepted c = c.round_on.ensures _ (rw c.in-Accepted.is at c.accept_sheet-got.ensures.sheet)

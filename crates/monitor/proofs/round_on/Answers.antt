@@ -6,20 +6,16 @@ use Rattle.monitor.proofs.round_on.Goals as goal
 
 pub round-requires : goal.round-requires
 round-requires c =
-    let a = c.args in
     let d = rw c.in-Accepted.is at c.check_round-outcome.ensures in
-    let y = round_ready a.x.inputs a.x.outputs (length a.storage.now) a.r a.letters d in
+    let y = round_ready c.args.x.inputs c.args.x.outputs (length c.args.storage.now) c.args.r c.args.letters d in
     (c.requires.1.usable, y.long, y.right, y.rounds-left)
 
 pub returns-in-Refused : goal.returns-in-Refused
 returns-in-Refused c =
-    let a = c.args in
     let d = rw c.in-Refused.is at c.check_round-outcome.ensures in
-    λ bs ok. round-turned-down bs a.x ok a.r a.letters a.storage.now _ _ c.refused_round.ensures d
+    λ bs ok. round-turned-down bs c.args.x ok c.args.r c.args.letters c.args.storage.now _ _ c.refused_round.ensures d
 
 pub returns-in-Accepted : goal.returns-in-Accepted
 returns-in-Accepted c =
-    let a = c.args in
-    let p = c.round in
     let d = rw c.in-Accepted.is at c.check_round-outcome.ensures in
-    λ bs ok. round-done bs a.x ok a.r a.letters a.storage.now p.new.1.0 p.result p.ensures.0 d p.ensures.1
+    λ bs ok. round-done bs c.args.x ok c.args.r c.args.letters c.args.storage.now c.round.new.storage c.round.result c.round.ensures.0 d c.round.ensures.1

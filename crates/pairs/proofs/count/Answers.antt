@@ -26,10 +26,9 @@ loop-i-preserved c = (omega arith, omega (arith, ones-le 64 (get_or c.args.s.now
 
 pub returns : goal.returns
 returns c =
-    let a = c.args in
     let e : c.loop-i.i ≡ set_words = omega arith in
-    let r : c.loop-i.n ≡ count_pairs 256 (live a.s.now) =
-    c.loop-i.invariant.2 ∙ ap (λ (k : ℕ). sum_below k (λ j. ones (get_or a.s.now j 0))) e
-    ∙ pair-count a.s.now (λ k h. c.loop-i.invariant.3 k (omega arith))
+    let r : c.loop-i.n ≡ count_pairs 256 (live c.args.s.now) =
+    c.loop-i.invariant.2 ∙ ap (λ (k : ℕ). sum_below k (λ j. ones (get_or c.args.s.now j 0))) e
+    ∙ pair-count c.args.s.now (λ k h. c.loop-i.invariant.3 k (omega arith))
     in
     (r, omega arith)

@@ -9,7 +9,4 @@ returns-then-has c =
 
 pub returns : goal.returns
 returns c =
-    let p = c.before.requires in
-    let e = c.insert.ensures in
-    let f = c.insert-2.ensures in
-    record { joins = joined-both _ _ _ _ _ _ p.2 (sym c.has.ensures ∙ c.if-has.false) e f; by_index = λ w hw ha. occupied_more w _ _ _ _ _ _ _ _ ha hw p.1 p.2 e f c.note.ensures }
+    record { joins = joined-both _ _ _ _ _ _ c.before.requires.2 (sym c.has.ensures ∙ c.if-has.false) c.insert.ensures c.insert-2.ensures; by_index = λ w hw ha. occupied_more w _ _ _ _ _ _ _ _ ha hw c.before.requires.1 c.before.requires.2 c.insert.ensures c.insert-2.ensures c.note.ensures }

@@ -10,9 +10,7 @@ loop-j-init c = (omega arith, refl, refl, words-first _ _ _ _, λ o. o)
 
 pub loop-j-preserved : goal.loop-j-preserved
 loop-j-preserved c =
-    let i = c.loop-j.invariant in
-    let j = c.join_word.ensures in
-    (omega arith, omega arith, omega arith, words_more _ _ _ _ _ _ _ i.3 j.0, λ o. j.1 _ c.requires.0 c.loop-j-test.true (i.4 o))
+    (omega arith, omega arith, omega arith, words_more _ _ _ _ _ _ _ c.loop-j.invariant.3 c.join_word.ensures.joins, λ o. c.join_word.ensures.by_index _ c.requires.0 c.loop-j-test.true (c.loop-j.invariant.4 o))
 
 pub returns : goal.returns
 returns c =

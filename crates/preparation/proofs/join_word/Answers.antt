@@ -30,10 +30,8 @@ loop-rest-smaller c =
 
 pub loop-rest-preserved : goal.loop-rest-preserved
 loop-rest-preserved c =
-    let i = c.loop-rest.invariant in
-    let l = lanes_next _ _ _ _ _ _ _ i.2 c.loop-rest-test.true in
-    let j = c.join.ensures in
-    (omega arith, omega arith, lanes-more _ _ _ _ _ _ _ i.2 _ _ l.under_k l.is_set j.0, λ w h g o. j.1 w h (omega (arith, l.under_k)) (i.3 w h g o))
+    let l = lanes_next _ _ _ _ _ _ _ c.loop-rest.invariant.2 c.loop-rest-test.true in
+    (omega arith, omega arith, lanes-more _ _ _ _ _ _ _ c.loop-rest.invariant.2 _ _ l.under_k l.is_set c.join.ensures.joins, λ w h g o. c.join.ensures.by_index w h (omega (arith, l.under_k)) (c.loop-rest.invariant.3 w h g o))
 
 pub returns : goal.returns
 returns c =

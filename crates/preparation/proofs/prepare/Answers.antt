@@ -11,14 +11,8 @@ use Rattle.preparation.proofs.prepare.Goals as goal
 
 pub search-requires : goal.search-requires
 search-requires c =
-    let a = c.args in
-    let e = c.type_size.ensures.is in
-    record { coded_by = record { sized = c.type_size.ensures.sized; coded = subst (λ (z : Size). Coded z.inputs z.outputs a.code.now a.len.now) (sym e) c.requires.coded }; below = (subst (λ (z : Size). Below a.assumed z.outputs) (sym e) c.requires.below, search rules) }
+    record { coded_by = record { sized = c.type_size.ensures.sized; coded = subst (λ (z : Size). Coded z.inputs z.outputs c.args.code.now c.args.len.now) (sym c.type_size.ensures.is) c.requires.coded }; below = (subst (λ (z : Size). Below c.args.assumed z.outputs) (sym c.type_size.ensures.is) c.requires.below, search rules) }
 
 pub returns : goal.returns
 returns c =
-    let a = c.args in
-    let e = c.type_size.ensures.is in
-    let r = c.search.ensures in
-    let f = c.search.result in
-    record { searched = subst (λ (z : Size). Searched (sheet_by z a.code.now a.len.now (required_of a.assumed)) a.s.now c.search.new.s f.live) e r.0; exact_reach = (subst (λ (z : Size). ExactReach (sheet_by z a.code.now a.len.now (required_of a.assumed)) f.reach) e r.1.0, r.1.1) }
+    record { searched = subst (λ (z : Size). Searched (sheet_by z c.args.code.now c.args.len.now (required_of c.args.assumed)) c.args.s.now c.search.new.s c.search.result.live) c.type_size.ensures.is c.search.ensures.searched; exact_reach = (subst (λ (z : Size). ExactReach (sheet_by z c.args.code.now c.args.len.now (required_of c.args.assumed)) c.search.result.reach) c.type_size.ensures.is c.search.ensures.exact_reach.0, c.search.ensures.exact_reach.1) }

@@ -12,19 +12,17 @@ use Rattle.preparation.proofs.search.Goals as goal
 
 pub fill_allowed-requires : goal.fill_allowed-requires
 fill_allowed-requires c =
-    let q = c.requires in
-    record { sized = (q.0.sized, search rules); below = q.1.0 }
+    record { sized = (c.requires.coded_by.sized, search rules); below = c.requires.below.0 }
 
 pub start-requires : goal.start-requires
-start-requires c = let z = c.requires.coded_by.sized in (z.wide.most, search rules, search rules)
+start-requires c = (c.requires.coded_by.sized.wide.most, search rules, search rules)
 
 pub loop-size-init : goal.loop-size-init
 loop-size-init c =
-    let z = c.requires.coded_by.sized in
-    let st = c.start.ensures in (
-      z.power,
-      z.wide.under,
-      z.wide.most,
+    (
+      c.requires.coded_by.sized.power,
+      c.requires.coded_by.sized.wide.under,
+      c.requires.coded_by.sized.wide.most,
       search rules,
       search rules,
       search rules,
@@ -33,21 +31,19 @@ loop-size-init c =
       (omega arith, omega arith, omega arith, omega arith),
       inl (omega arith),
       λ k. (c.type_inv.s k).fits,
-      rows_started _ _ _ _ z.wide.most st,
-      λ ks r. search-begin _ _ _ _ z.streams _ _ z.power z.wide.under z.wide.most ks _ _ _ r st,
+      rows_started _ _ _ _ c.requires.coded_by.sized.wide.most c.start.ensures,
+      λ ks r. search-begin _ _ _ _ c.requires.coded_by.sized.streams _ _ c.requires.coded_by.sized.power c.requires.coded_by.sized.wide.under c.requires.coded_by.sized.wide.most ks _ _ _ r c.start.ensures,
     )
 
 pub next_bit-requires : goal.next_bit-requires
-next_bit-requires c = let i = c.loop-size.invariant in (omega arith, i.2, omega arith, omega arith)
+next_bit-requires c = (omega arith, c.loop-size.invariant.2, omega arith, omega arith)
 
 pub overflow_mul-w : goal.overflow_mul-w
-overflow_mul-w c = let i = c.loop-size.invariant in omega arith
+overflow_mul-w c = omega arith
 
 pub sweep-occupied-requires : goal.sweep-occupied-requires
 sweep-occupied-requires c =
-    let i = c.loop-size.invariant in
-    let q = c.requires in
-    record { coded_by = q.0; occupied_len = (i.4, i.3, omega arith, i.6); reached_at_le_layer = (i.8.0, i.8.1, i.8.2, i.8.3, i.9); occupied = i.11 }
+    record { coded_by = c.requires.coded_by; occupied_len = (c.loop-size.invariant.4, c.loop-size.invariant.3, omega arith, c.loop-size.invariant.6); reached_at_le_layer = (c.loop-size.invariant.8.0, c.loop-size.invariant.8.1, c.loop-size.invariant.8.2, c.loop-size.invariant.8.3, c.loop-size.invariant.9); occupied = c.loop-size.invariant.11 }
 
 pub overflow_add-layers : goal.overflow_add-layers
 overflow_add-layers c =
@@ -59,38 +55,34 @@ loop-size-smaller c =
 
 pub loop-size-preserved : goal.loop-size-preserved
 loop-size-preserved c =
-    let i = c.loop-size.invariant in
-    let q = i.12 (required_of c.args.assumed) (c.fill_allowed.ensures _ _) in
-    let w = c.sweep-occupied.ensures in (
-      i.0,
-      i.1,
-      i.2,
-      i.3,
+    let q = c.loop-size.invariant.12 (required_of c.args.assumed) (c.fill_allowed.ensures _ _) in
+    (
+      c.loop-size.invariant.0,
+      c.loop-size.invariant.1,
+      c.loop-size.invariant.2,
+      c.loop-size.invariant.3,
       search (rules, c.sweep-occupied.type-inv),
       omega arith,
       omega arith,
       omega arith,
-      (i.8.2, i.8.3, i.8.0, i.8.1),
-      apart_turned _ _ i.9,
+      (c.loop-size.invariant.8.2, c.loop-size.invariant.8.3, c.loop-size.invariant.8.0, c.loop-size.invariant.8.1),
+      apart_turned _ _ c.loop-size.invariant.9,
       λ k. (c.type_inv.s k).fits,
-      w.1 q.free,
+      c.sweep-occupied.ensures.occupied_2 q.free,
       λ ks r.
-          search-step _ _ _ _ c.requires.coded_by.sized.streams _ _ i.0 i.1 i.2 ks _ _ _ _ _ _ _ _ (i.12 ks r) i.11 c.next_bit.ensures c.loop-size-test.true (w.0 ks r),
+          search-step _ _ _ _ c.requires.coded_by.sized.streams _ _ c.loop-size.invariant.0 c.loop-size.invariant.1 c.loop-size.invariant.2 ks _ _ _ _ _ _ _ _ (c.loop-size.invariant.12 ks r) c.loop-size.invariant.11 c.next_bit.ensures c.loop-size-test.true (c.sweep-occupied.ensures.by_index ks r),
     )
 
 pub count-live-requires : goal.count-live-requires
-count-live-requires c = let i = c.loop.invariant in i.6
+count-live-requires c = c.loop.invariant.6
 
 pub overflow_sub-reach : goal.overflow_sub-reach
 overflow_sub-reach c =
-    let i = c.loop.invariant in
-    omega (arith, layers-some _ _ _ _ c.requires.coded_by.sized.streams c.args.assumed c.requires.below.0 _ _ _ _ _ _ _ _ (i.12 (required_of c.args.assumed) (c.fill-allowed.ensures _ _)) i.11 c.next_bit.ensures c.if1.false)
+    omega (arith, layers-some _ _ _ _ c.requires.coded_by.sized.streams c.args.assumed c.requires.below.0 _ _ _ _ _ _ _ _ (c.loop.invariant.12 (required_of c.args.assumed) (c.fill-allowed.ensures _ _)) c.loop.invariant.11 c.next_bit.ensures c.if1.false)
 
 pub returns : goal.returns
 returns c =
-    let i = c.loop.invariant in
-    let n = c.count-live.ensures in
     let f =
-    search-finish _ _ _ _ c.requires.coded_by.sized.streams c.args.assumed c.requires.below.0 _ _ _ _ _ _ _ _ (i.12 (required_of c.args.assumed) (c.fill-allowed.ensures _ _)) i.11
-    c.next_bit.ensures c.if1.false _ _ _ i.9 i.8 i.10 c.start.ensures n.0 n.1 in
+    search-finish _ _ _ _ c.requires.coded_by.sized.streams c.args.assumed c.requires.below.0 _ _ _ _ _ _ _ _ (c.loop.invariant.12 (required_of c.args.assumed) (c.fill-allowed.ensures _ _)) c.loop.invariant.11
+    c.next_bit.ensures c.if1.false _ _ _ c.loop.invariant.9 c.loop.invariant.8 c.loop.invariant.10 c.start.ensures c.count-live.ensures.0 c.count-live.ensures.1 in
     record { searched = f.0; exact_reach = (subst (ExactReach _) (omega arith) f.1, omega (arith, f.2)) }

@@ -27,8 +27,7 @@ line_end-e-requires c =
 
 pub returns : goal.returns
 returns c =
-    let e = c.line_end-e in
     record { finishes = λ sheet seen wrote st.
           let m = stands-midway sheet _ _ _ seen wrote st c.if-s.left in
-          let le = e.ensures.0 sheet m.book m.part st.accepts m.serves (c.asked-meaning.ensures m.part m.scanned) in
-          subst (λ (z : List ℕ). Printed sheet seen (wrote ++ z)) (sym le.wrote.text) (line-last sheet _ _ _ _ seen wrote m _ _ _ _ _ le (c.is_blank.ensures.no c.if-is_blank.left _ m.part m.scanned)); bound = omega (arith, e.ensures.1, bytes_most c.args.s.record.closed, c.pre.1) }
+          let le = c.line_end-e.ensures.ended sheet m.book m.part st.accepts m.serves (c.asked-meaning.ensures m.part m.scanned) in
+          subst (λ (z : List ℕ). Printed sheet seen (wrote ++ z)) (sym le.wrote.text) (line-last sheet _ _ _ _ seen wrote m _ _ _ _ _ le (c.is_blank.ensures.no c.if-is_blank.left _ m.part m.scanned)); bound = omega (arith, c.line_end-e.ensures.bound, bytes_most c.args.s.record.closed, c.pre.1) }

@@ -10,15 +10,9 @@ prepare_on-prepared-requires c = (_, rw c.in-Accepted.is at c.accept_sheet-got.e
 
 pub returns-in-Refused : goal.returns-in-Refused
 returns-in-Refused c =
-    let e = c.in-Refused.is in
-    let w = c.sheet_refusal-to.ensures in
-    ((λ input. refused_start _ input _ _ _ _ (rw e at c.accept_sheet-got.ensures.decided) w.0), (omega (arith, w.0.size, w.1, c.requires.1), c.empty-pending.ensures.in_table))
+    record { begun = (λ input. refused_start _ input _ _ _ _ (rw c.in-Refused.is at c.accept_sheet-got.ensures.decided) c.sheet_refusal-to.ensures.placed); bound = omega (arith, c.sheet_refusal-to.ensures.placed.size, c.sheet_refusal-to.ensures.upper_bound, c.requires.1); in_table = c.empty-pending.ensures.in_table }
 
 pub returns-in-Accepted : goal.returns-in-Accepted
 returns-in-Accepted c =
-    let e = c.in-Accepted.is in
-    let acc = rw e at c.accept_sheet-got.ensures.sheet in
-    let bs = c.args.sheet.now in
-    let x = c.accept_sheet-got.result.sheet in
-    let p = c.prepare_on-prepared in
-    (rw e ((bs, acc), refl, record { accepts = acc; stage = midway_start bs x _ _ acc (serves-prepared bs x acc _ _ p.result c.requires.0 (p.ensures bs acc)) (c.empty-pending.ensures.scanned _) }), (omega arith, c.empty-pending.ensures.in_table))
+    let acc = rw c.in-Accepted.is at c.accept_sheet-got.ensures.sheet in
+    record { begun = rw c.in-Accepted.is ((c.args.sheet.now, acc), refl, record { accepts = acc; stage = midway_start c.args.sheet.now c.accept_sheet-got.result.sheet _ _ acc (serves-prepared c.args.sheet.now c.accept_sheet-got.result.sheet acc _ _ c.prepare_on-prepared.result c.requires.0 (c.prepare_on-prepared.ensures c.args.sheet.now acc)) (c.empty-pending.ensures.scanned _) }); bound = omega arith; in_table = c.empty-pending.ensures.in_table }

@@ -8,9 +8,8 @@ together_on-requires c = (_, rw c.in-Accepted.is at c.accept_sheet-got.ensures.s
 
 pub returns-in-Refused : goal.returns-in-Refused
 returns-in-Refused c =
-    let a = c.args in
-    refused-call a.sheet.now a.storage.now a.before a.outputs _ _ c.refused.ensures
-    (unread a.sheet.now (length a.storage.now) a.before a.outputs _ (rw c.in-Refused.is at c.accept_sheet-got.ensures.decided))
+    refused-call c.args.sheet.now c.args.storage.now c.args.before c.args.outputs _ _ c.refused.ensures
+    (unread c.args.sheet.now (length c.args.storage.now) c.args.before c.args.outputs _ (rw c.in-Refused.is at c.accept_sheet-got.ensures.decided))
 
 pub returns-in-Accepted : goal.returns-in-Accepted
 returns-in-Accepted c = c.together_on.ensures _ (rw c.in-Accepted.is at c.accept_sheet-got.ensures.sheet)

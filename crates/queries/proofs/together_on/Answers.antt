@@ -7,18 +7,15 @@ use Rattle.queries.proofs.together_on.Goals as goal
 
 pub set_verdict-requires : goal.set_verdict-requires
 set_verdict-requires c =
-    let a = c.args in
-    let long = together-long a.x.outputs (length a.storage.now) a.r a.outputs (rw c.in-Accepted.is at c.check_together-outcome.ensures) in
+    let long = together-long c.args.x.outputs (length c.args.storage.now) c.args.r c.args.outputs (rw c.in-Accepted.is at c.check_together-outcome.ensures) in
     (omega (arith, c.pre.1.usable.ranges.streams), long)
 
 pub returns-in-Refused : goal.returns-in-Refused
 returns-in-Refused c =
-    let a = c.args in
     let d = rw c.in-Refused.is at c.check_together-outcome.ensures in
-    λ bs ok. turned_down bs a.x ok a.storage.now a.r a.outputs _ _ c.refused.ensures d
+    λ bs ok. turned_down bs c.args.x ok c.args.storage.now c.args.r c.args.outputs _ _ c.refused.ensures d
 
 pub returns-in-Accepted : goal.returns-in-Accepted
 returns-in-Accepted c =
-    let a = c.args in
     let d = rw c.in-Accepted.is at c.check_together-outcome.ensures in
-    λ bs ok. answered bs a.x ok a.storage.now a.r a.outputs _ d c.set_verdict.ensures
+    λ bs ok. answered bs c.args.x ok c.args.storage.now c.args.r c.args.outputs _ d c.set_verdict.ensures

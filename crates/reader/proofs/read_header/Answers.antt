@@ -2,7 +2,7 @@
 use mathlib.Core.Path.{sym, ap, ◌∙◌}
 use native.Mathlib.Omega.{arith}
 use lib.ListN.{length}
-use borrow.Author.Tests.{lt-ltb, le-ltb, not-true, not-false}
+use borrow.Author.Tests.{lt-ltb, le-ltb}
 use Rattle.sheet.specs.Header.{header_of, version_ok}
 use Rattle.reader.proofs.read_header.Goals as goal
 
@@ -15,7 +15,7 @@ unfolding header_of
 returns-then-not-has_mark c =
     simp (
       le-ltb (length c.args.s.now) 8 (omega arith),
-      sym c.has_mark.ensures ∙ not-true _ c.if-not-has_mark.true,
+      sym c.has_mark.ensures ∙ c.if-not-has_mark.true,
     )
 
 pub returns-then-not-version_fits : goal.returns-then-not-version_fits
@@ -23,8 +23,8 @@ unfolding header_of
 returns-then-not-version_fits c =
     simp (
       le-ltb (length c.args.s.now) 8 (omega arith),
-      sym c.has_mark.ensures ∙ not-false _ c.if-not-has_mark.false,
-      ap version_ok (sym c.version.ensures) ∙ sym c.version_fits.ensures ∙ not-true _ c.if-not-version_fits.true,
+      sym c.has_mark.ensures ∙ c.if-not-has_mark.false,
+      ap version_ok (sym c.version.ensures) ∙ sym c.version_fits.ensures ∙ c.if-not-version_fits.true,
     )
 
 pub returns-then-not-counts_fit : goal.returns-then-not-counts_fit
@@ -32,9 +32,9 @@ unfolding header_of
 returns-then-not-counts_fit c =
     simp (
       le-ltb (length c.args.s.now) 8 (omega arith),
-      sym c.has_mark.ensures ∙ not-false _ c.if-not-has_mark.false,
-      ap version_ok (sym c.version.ensures) ∙ sym c.version_fits.ensures ∙ not-false _ c.if-not-version_fits.false,
-      sym c.counts_fit.ensures ∙ not-true _ c.if-not-counts_fit.true,
+      sym c.has_mark.ensures ∙ c.if-not-has_mark.false,
+      ap version_ok (sym c.version.ensures) ∙ sym c.version_fits.ensures ∙ c.if-not-version_fits.false,
+      sym c.counts_fit.ensures ∙ c.if-not-counts_fit.true,
     )
 
 pub returns-in-Is : goal.returns-in-Is
@@ -42,9 +42,9 @@ unfolding header_of
 returns-in-Is c =
     simp (
       le-ltb (length c.args.s.now) 8 (omega arith),
-      sym c.has_mark.ensures ∙ not-false _ c.if-not-has_mark.false,
-      ap version_ok (sym c.version.ensures) ∙ sym c.version_fits.ensures ∙ not-false _ c.if-not-version_fits.false,
-      sym c.counts_fit.ensures ∙ not-false _ c.if-not-counts_fit.false,
+      sym c.has_mark.ensures ∙ c.if-not-has_mark.false,
+      ap version_ok (sym c.version.ensures) ∙ sym c.version_fits.ensures ∙ c.if-not-version_fits.false,
+      sym c.counts_fit.ensures ∙ c.if-not-counts_fit.false,
       sym c.read_assumed-a.ensures ∙ c.in-Is.is,
     )
 
@@ -53,8 +53,8 @@ unfolding header_of
 returns-in-Refused c =
     simp (
       le-ltb (length c.args.s.now) 8 (omega arith),
-      sym c.has_mark.ensures ∙ not-false _ c.if-not-has_mark.false,
-      ap version_ok (sym c.version.ensures) ∙ sym c.version_fits.ensures ∙ not-false _ c.if-not-version_fits.false,
-      sym c.counts_fit.ensures ∙ not-false _ c.if-not-counts_fit.false,
+      sym c.has_mark.ensures ∙ c.if-not-has_mark.false,
+      ap version_ok (sym c.version.ensures) ∙ sym c.version_fits.ensures ∙ c.if-not-version_fits.false,
+      sym c.counts_fit.ensures ∙ c.if-not-counts_fit.false,
       sym c.read_assumed-a.ensures ∙ c.in-Refused.is,
     )

@@ -10,34 +10,32 @@ use Rattle.reader.proofs.Outputs.{no_byte, too_small, too_large, too_far, one-ou
 use Rattle.reader.proofs.read_output.Goals as goal
 
 pub returns-then-s-at : goal.returns-then-s-at
-returns-then-s-at c = let a = c.args in sym (no_byte a.grammar a.at a.s.now c.if-s-at.true)
+returns-then-s-at c = sym (no_byte c.args.grammar c.args.at c.args.s.now c.if-s-at.true)
 
 pub overflow_cast-len : goal.overflow_cast-len
 overflow_cast-len c = omega (arith, c.type_inv.s c.args.at)
 
 pub returns-then-len-lt1 : goal.returns-then-len-lt1
-returns-then-len-lt1 c = let a = c.args in sym (too_small a.grammar a.at a.s.now c.if-s-at.false c.if-len-lt1.true)
+returns-then-len-lt1 c = sym (too_small c.args.grammar c.args.at c.args.s.now c.if-s-at.false c.if-len-lt1.true)
 
 pub returns-then-len-gt64 : goal.returns-then-len-gt64
-returns-then-len-gt64 c = let a = c.args in sym (too_large a.grammar a.at a.s.now c.if-s-at.false c.if-len-gt64.true)
+returns-then-len-gt64 c = sym (too_large c.args.grammar c.args.at c.args.s.now c.if-s-at.false c.if-len-gt64.true)
 
 pub returns-then-s-start : goal.returns-then-s-start
-returns-then-s-start c = let a = c.args in sym (too_far a.grammar a.at a.s.now c.if-s-at.false c.if-s-start.true)
+returns-then-s-start c = sym (too_far c.args.grammar c.args.at c.args.s.now c.if-s-at.false c.if-s-start.true)
 
 pub returns-in-Accepted : goal.returns-in-Accepted
 returns-in-Accepted c =
-    let a = c.args in
-    let l = get_or a.s.now a.at 0 in
+    let l = get_or c.args.s.now c.args.at 0 in
     let q = sym c.in-Accepted.is ∙ c.read_expression-got.ensures in
     sym
-    (one-output a.grammar a.at a.s.now c.if-s-at.false c.if-len-lt1.false c.if-len-gt64.false c.if-s-start.false
-    ∙ is-accepted l (parse a.grammar [] (take l (drop (a.at + 1) a.s.now))) (rw (add-sub_cancel_left (a.at + 1) l) at q))
+    (one-output c.args.grammar c.args.at c.args.s.now c.if-s-at.false c.if-len-lt1.false c.if-len-gt64.false c.if-s-start.false
+    ∙ is-accepted l (parse c.args.grammar [] (take l (drop (c.args.at + 1) c.args.s.now))) (rw (add-sub_cancel_left (c.args.at + 1) l) at q))
 
 pub returns-in-Refused : goal.returns-in-Refused
 returns-in-Refused c =
-    let a = c.args in
-    let l = get_or a.s.now a.at 0 in
+    let l = get_or c.args.s.now c.args.at 0 in
     let q = sym c.in-Refused.is ∙ c.read_expression-got.ensures in
     sym
-    (one-output a.grammar a.at a.s.now c.if-s-at.false c.if-len-lt1.false c.if-len-gt64.false c.if-s-start.false
-    ∙ is-refused l _ (parse a.grammar [] (take l (drop (a.at + 1) a.s.now))) (rw (add-sub_cancel_left (a.at + 1) l) at q))
+    (one-output c.args.grammar c.args.at c.args.s.now c.if-s-at.false c.if-len-lt1.false c.if-len-gt64.false c.if-s-start.false
+    ∙ is-refused l _ (parse c.args.grammar [] (take l (drop (c.args.at + 1) c.args.s.now))) (rw (add-sub_cancel_left (c.args.at + 1) l) at q))

@@ -11,8 +11,7 @@ loop-k-init c = begins c.args.s.now c.args.grammar c.args.n _ _ c.requires.0 c.r
 
 pub overflow_add-at : goal.overflow_add-at
 overflow_add-at c =
-    let a = c.args in
-    let i = lies a.s.now a.grammar a.n c.loop-k.len c.loop-k.code c.loop-k.at c.loop-k.k c.loop-k.invariant _ (sym c.read_output-got.ensures ∙ c.in-Bytes.is) in
+    let i = lies c.args.s.now c.args.grammar c.args.n c.loop-k.len c.loop-k.code c.loop-k.at c.loop-k.k c.loop-k.invariant _ (sym c.read_output-got.ensures ∙ c.in-Bytes.is) in
     omega (arith, i.inside)
 
 pub bounds-len-k : goal.bounds-len-k
@@ -20,14 +19,12 @@ bounds-len-k c = omega (arith, c.loop-k.invariant.held.sizes)
 
 pub slice_bounds-put-end : goal.slice_bounds-put-end
 slice_bounds-put-end c =
-    let a = c.args in
-    let i = lies a.s.now a.grammar a.n c.loop-k.len c.loop-k.code c.loop-k.at c.loop-k.k c.loop-k.invariant _ (sym c.read_output-got.ensures ∙ c.in-Bytes.is) in
+    let i = lies c.args.s.now c.args.grammar c.args.n c.loop-k.len c.loop-k.code c.loop-k.at c.loop-k.k c.loop-k.invariant _ (sym c.read_output-got.ensures ∙ c.in-Bytes.is) in
     omega (arith, i.inside)
 
 pub put-requires : goal.put-requires
 put-requires c =
-    let a = c.args in
-    let i = lies a.s.now a.grammar a.n c.loop-k.len c.loop-k.code c.loop-k.at c.loop-k.k c.loop-k.invariant _ (sym c.read_output-got.ensures ∙ c.in-Bytes.is) in
+    let i = lies c.args.s.now c.args.grammar c.args.n c.loop-k.len c.loop-k.code c.loop-k.at c.loop-k.k c.loop-k.invariant _ (sym c.read_output-got.ensures ∙ c.in-Bytes.is) in
     simp add-sub_cancel_left (omega (arith, i.size, i.short, c.loop-k.invariant.held.code_size))
 
 pub shape_of-len-in-Refused : goal.shape_of-len-in-Refused
@@ -40,13 +37,11 @@ shape_of-code-in-Refused c =
 
 pub returns-in-Refused : goal.returns-in-Refused
 returns-in-Refused c =
-    let a = c.args in
-    record { reading = rw (stopped a.s.now a.grammar a.n c.loop-k.len c.loop-k.code c.loop-k.at c.loop-k.k c.loop-k.invariant (omega arith) _ (sym c.read_output-got.ensures ∙ c.in-Refused.is)) refl; held = tt }
+    record { reading = rw (stopped c.args.s.now c.args.grammar c.args.n c.loop-k.len c.loop-k.code c.loop-k.at c.loop-k.k c.loop-k.invariant (omega arith) _ (sym c.read_output-got.ensures ∙ c.in-Refused.is)) refl; held = tt }
 
 pub loop-k-preserved : goal.loop-k-preserved
 loop-k-preserved c =
-    let a = c.args in
-    next a.s.now a.grammar a.n c.loop-k.len c.loop-k.code c.loop-k.at c.loop-k.k c.loop-k.invariant
+    next c.args.s.now c.args.grammar c.args.n c.loop-k.len c.loop-k.code c.loop-k.at c.loop-k.k c.loop-k.invariant
     (omega arith) (omega arith) _ (sym c.read_output-got.ensures ∙ c.in-Bytes.is) c.put.new.buffer (rw add-sub_cancel_left at c.put.ensures)
 
 pub shape_of-len-then-at-s : goal.shape_of-len-then-at-s
@@ -57,8 +52,7 @@ shape_of-code-then-at-s c = c.loop-k.invariant.held.code_size ∙ sym c.requires
 
 pub returns-then-at-s : goal.returns-then-at-s
 returns-then-at-s c =
-    let a = c.args in
-    record { reading = rw (left_over a.s.now a.grammar a.n c.loop-k.len c.loop-k.code c.loop-k.at c.loop-k.k c.loop-k.invariant (omega arith) (omega arith)) refl; held = tt }
+    record { reading = rw (left_over c.args.s.now c.args.grammar c.args.n c.loop-k.len c.loop-k.code c.loop-k.at c.loop-k.k c.loop-k.invariant (omega arith) (omega arith)) refl; held = tt }
 
 pub shape_of-len : goal.shape_of-len
 shape_of-len c = c.loop-k.invariant.held.sizes ∙ sym c.requires.2
@@ -68,5 +62,4 @@ shape_of-code c = c.loop-k.invariant.held.code_size ∙ sym c.requires.3
 
 pub returns : goal.returns
 returns c =
-    let a = c.args in
-    record { reading = rw (nothing_left a.s.now a.grammar a.n c.loop-k.len c.loop-k.code c.loop-k.at c.loop-k.k c.loop-k.invariant (omega arith) (omega arith)) refl; held = all_held a.s.now a.grammar a.n c.loop-k.len c.loop-k.code c.loop-k.at c.loop-k.k c.loop-k.invariant (omega arith) }
+    record { reading = rw (nothing_left c.args.s.now c.args.grammar c.args.n c.loop-k.len c.loop-k.code c.loop-k.at c.loop-k.k c.loop-k.invariant (omega arith) (omega arith)) refl; held = all_held c.args.s.now c.args.grammar c.args.n c.loop-k.len c.loop-k.code c.loop-k.at c.loop-k.k c.loop-k.invariant (omega arith) }

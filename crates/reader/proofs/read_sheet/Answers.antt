@@ -22,31 +22,17 @@ pub returns-in-Accepted : goal.returns-in-Accepted
 unfolding read_sheet
 returns-in-Accepted c =
     let e = sym c.read_header-h.ensures ∙ c.in-Fields.is in
-    let d = c.h-1.given.0 in
     let f = fields _ _ _ _ e in
-    let r = c.read_outputs-outcome in
-    let v = c.version.ensures in
-    let t = c.in-Accepted.is in (
-      rw e (rw t at (reading_by_lem d.0 d.1.0 d.1.1.0 r.result (trees_of (d.0 + d.1.0) r.new.1.1.1.1.0 r.new.1.1.1.0 d.1.0) _ (rw v at r.ensures.0))),
-      (usable d.0 d.1.0 d.1.1.0 _ _ f.1 f.2 (rw t at r.ensures.1), tt),
-    )
+    record { reading = rw e (rw c.in-Accepted.is at (reading_by_lem c.in-Fields.m c.in-Fields.n c.in-Fields.a c.read_outputs-outcome.result (trees_of (c.in-Fields.m + c.in-Fields.n) c.read_outputs-outcome.new.code c.read_outputs-outcome.new.len c.in-Fields.n) _ (rw c.version.ensures at c.read_outputs-outcome.ensures.reading))); usable = usable c.in-Fields.m c.in-Fields.n c.in-Fields.a _ _ f.1 f.2 (rw c.in-Accepted.is at c.read_outputs-outcome.ensures.held); refused = tt }
 
 pub returns-in-Refused-outcome : goal.returns-in-Refused-outcome
 unfolding read_sheet
 returns-in-Refused-outcome c =
     let e = sym c.read_header-h.ensures ∙ c.in-Fields.is in
-    let d = c.h-1.given.0 in
-    let r = c.read_outputs-outcome in
-    let v = c.version.ensures in
-    let t = c.in-Refused-outcome.is in
-    let n = c.refused_sheet.ensures in (
-      rw (n.0, e) (rw t at (reading_by_lem d.0 d.1.0 d.1.1.0 r.result (trees_of (d.0 + d.1.0) r.new.1.1.1.1.0 r.new.1.1.1.0 d.1.0) _ (rw v at r.ensures.0))),
-      (rw n.0 tt, rw n.0 n.1),
-    )
+    record { reading = rw (c.refused_sheet.ensures.0, e) (rw c.in-Refused-outcome.is at (reading_by_lem c.in-Fields.m c.in-Fields.n c.in-Fields.a c.read_outputs-outcome.result (trees_of (c.in-Fields.m + c.in-Fields.n) c.read_outputs-outcome.new.code c.read_outputs-outcome.new.len c.in-Fields.n) _ (rw c.version.ensures at c.read_outputs-outcome.ensures.reading))); usable = rw c.refused_sheet.ensures.0 tt; refused = rw c.refused_sheet.ensures.0 c.refused_sheet.ensures.1 }
 
 pub returns-in-Refused : goal.returns-in-Refused
 unfolding read_sheet
 returns-in-Refused c =
     let e = sym c.read_header-h.ensures ∙ c.in-Refused.is in
-    let n = c.refused_sheet-in-Refused.ensures in
-    (rw (n.0, e), (rw n.0 tt, rw n.0 n.1))
+    record { reading = rw (c.refused_sheet-in-Refused.ensures.0, e); usable = rw c.refused_sheet-in-Refused.ensures.0 tt; refused = rw c.refused_sheet-in-Refused.ensures.0 c.refused_sheet-in-Refused.ensures.1 }

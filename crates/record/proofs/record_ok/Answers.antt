@@ -30,7 +30,6 @@ loop-k-preserved c =
 
 pub returns : goal.returns
 returns c =
-    let a = c.args in
-    let e : c.loop-k.k ≡ a.n = omega arith in
-    sym (by_counts a.n a.r true (omega arith)
-    (ap (add_up a.r.counts a.r.rounds) (sym e) ∙ c.loop-k.invariant.1))
+    let e : c.loop-k.k ≡ c.args.n = omega arith in
+    sym (by_counts c.args.n c.args.r true (omega arith)
+    (ap (add_up c.args.r.counts c.args.r.rounds) (sym e) ∙ c.loop-k.invariant.1))

@@ -34,5 +34,4 @@ overflow_add-result-6 c =
 
 pub returns : goal.returns
 returns c =
-    let a = c.args in
-    ap (λ (z : ℕ). get_or a.counts.now z 0 + get_or a.counts.now (4 * a.k.0 + 1) 0 + get_or a.counts.now (4 * a.k.0 + 2) 0 + get_or a.counts.now (4 * a.k.0 + 3) 0) (omega arith)
+    ap (λ (z : ℕ). get_or c.args.counts.now z 0 + get_or c.args.counts.now (4 * c.args.k.0 + 1) 0 + get_or c.args.counts.now (4 * c.args.k.0 + 2) 0 + get_or c.args.counts.now (4 * c.args.k.0 + 3) 0) (omega arith)

@@ -14,37 +14,34 @@ loop-k-init c = (omega arith, counted_none _ _)
 
 pub offset_bounds-counts-at : goal.offset_bounds-counts-at
 offset_bounds-counts-at c =
-    omega (arith, column_lt (told_at c.args.t3 c.loop-k.k))
+    omega (arith, column_lt (told_at c.args.verdicts c.loop-k.k))
 
 pub bounds-counts-at : goal.bounds-counts-at
 bounds-counts-at c =
-    omega (arith, column_lt (told_at c.args.t3 c.loop-k.k))
+    omega (arith, column_lt (told_at c.args.verdicts c.loop-k.k))
 
 pub overflow_add-counts : goal.overflow_add-counts
 overflow_add-counts c =
-    let a = c.args in
-    let v = told_at a.t3 c.loop-k.k in
+    let v = told_at c.args.verdicts c.loop-k.k in
     let at = 4 * c.loop-k.k + column v in
     let l = column_lt v in
     rw c.count_index-at.ensures
-    (omega (arith, c.loop-k.invariant.1.beyond at (omega arith), countable a.n a.r (record_is a.n a.r c.requires.1) c.requires.2 at (omega arith)))
+    (omega (arith, c.loop-k.invariant.1.beyond at (omega arith), countable c.args.n c.args.r (record_is c.args.n c.args.r c.requires.1) c.requires.2 at (omega arith)))
 
 pub offset_bounds-counts-at-in-loop-k : goal.offset_bounds-counts-at-in-loop-k
 offset_bounds-counts-at-in-loop-k c =
-    omega (arith, column_lt (told_at c.args.t3 c.loop-k.k))
+    omega (arith, column_lt (told_at c.args.verdicts c.loop-k.k))
 
 pub bounds-counts-at-in-loop-k : goal.bounds-counts-at-in-loop-k
 bounds-counts-at-in-loop-k c =
-    omega (arith, column_lt (told_at c.args.t3 c.loop-k.k))
+    omega (arith, column_lt (told_at c.args.verdicts c.loop-k.k))
 
 pub loop-k-preserved : goal.loop-k-preserved
 loop-k-preserved c =
-    let a = c.args in
-    let f : length a.r.counts ≡ 28 = search rules in
-    rw c.count_index-at.ensures (omega arith, counted-more c.loop-k.k a.t3 a.r.counts c.loop-k.counts (omega (arith, f)) c.loop-k.invariant.1)
+    let f : length c.args.r.counts ≡ 28 = search rules in
+    rw c.count_index-at.ensures (omega arith, counted-more c.loop-k.k c.args.verdicts c.args.r.counts c.loop-k.counts (omega (arith, f)) c.loop-k.invariant.1)
 
 pub returns : goal.returns
 returns c =
-    let a = c.args in
-    let f : length a.r.counts ≡ 28 = search rules in
-    (refl, refl, counted-all a.n c.loop-k.k _ _ _ (omega arith) f c.loop-k.invariant.1)
+    let f : length c.args.r.counts ≡ 28 = search rules in
+    (refl, refl, counted-all c.args.n c.loop-k.k _ _ _ (omega arith) f c.loop-k.invariant.1)

@@ -8,8 +8,7 @@ use Rattle.rounds.proofs.bring_first.Goals as goal
 pub bring_row-requires : goal.bring_row-requires
 unfolding unless
 bring_row-requires c =
-    let q = c.requires in
-    record { coded = q.0; sized = (q.1.0, stack-most _, q.1.1, omega arith, record { round = none; reads = c.before-2.ensures }) }
+    record { coded = c.requires.coded; sized = (c.requires.sized.0, stack-most _, c.requires.sized.1, omega arith, record { round = none; reads = c.before-2.ensures }) }
 
 pub returns : goal.returns
 unfolding unless

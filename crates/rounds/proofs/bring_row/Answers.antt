@@ -15,39 +15,32 @@ loop-b-init c = (
 
 pub seen-env-requires : goal.seen-env-requires
 seen-env-requires c =
-    let q = c.before.requires.1 in
-    let z = q.4.reads in
-    (omega (arith, q.0.most_valuations), omega (arith, z.shifted, z.beside.small))
+    (omega (arith, c.before.requires.1.0.most_valuations), omega (arith, c.before.requires.1.4.reads.shifted, c.before.requires.1.4.reads.beside.small))
 
 pub gain_row-requires : goal.gain_row-requires
 gain_row-requires c =
-    let q = c.before.requires in
-    let l = c.loop-b.invariant in
-    record { coded = q.0; sized = (q.1.0, omega (arith, l.2, q.1.1), omega (arith, l.1, q.1.2), omega (arith, q.1.0.most_valuations)) }
+    record { coded = c.before.requires.0; sized = (c.before.requires.1.0, omega (arith, c.loop-b.invariant.2, c.before.requires.1.1), omega (arith, c.loop-b.invariant.1, c.before.requires.1.2), omega (arith, c.before.requires.1.0.most_valuations)) }
 
 pub loop-b-smaller : goal.loop-b-smaller
 loop-b-smaller c = omega (arith, c.next_member-b-in-loop-b.ensures.onward)
 
 pub loop-b-preserved : goal.loop-b-preserved
 loop-b-preserved c =
-    let z = c.requires.sized.0 in (
+    (
       c.next_member-b-in-loop-b.ensures.inside,
       omega arith,
       omega arith,
       λ p r ks.
-          bring-more _ _ _ _ p z.most_valuations c.requires.sized.3 _ _ _ _ _ z.wide.under c.loop-b-test.true (c.loop.invariant.3 p r ks)
+          bring-more _ _ _ _ p c.requires.sized.0.most_valuations c.requires.sized.3 _ _ _ _ _ c.requires.sized.0.wide.under c.loop-b-test.true (c.loop.invariant.3 p r ks)
           (c.gain-row.ensures p (c.seen.ensures p r) ks) c.next_member-b-in-loop-b.ensures,
     )
 
 pub gain_ends-requires : goal.gain_ends-requires
 gain_ends-requires c =
-    let q = c.before.requires in
-    let l = c.loop-b.invariant in
-    record { coded = q.0; sized = (q.1.0, omega (arith, l.2, q.1.1), omega (arith, l.1, q.1.2), q.1.3, q.1.4) }
+    record { coded = c.before.requires.0; sized = (c.before.requires.1.0, omega (arith, c.loop-b.invariant.2, c.before.requires.1.1), omega (arith, c.loop-b.invariant.1, c.before.requires.1.2), c.before.requires.1.3, c.before.requires.1.4) }
 
 pub returns : goal.returns
 returns c =
     λ p r ks.
-    let z = c.requires.sized.0 in
-    rows_end _ _ _ _ p z.most_valuations c.requires.sized.3 _ _ (bring-all _ _ _ _ p z.most_valuations c.requires.sized.3 _ _ c.loop-b-test.false (c.loop-b.invariant.3 p r ks))
+    rows_end _ _ _ _ p c.requires.sized.0.most_valuations c.requires.sized.3 _ _ (bring-all _ _ _ _ p c.requires.sized.0.most_valuations c.requires.sized.3 _ _ c.loop-b-test.false (c.loop-b.invariant.3 p r ks))
     (c.gain_ends.ensures p r ks)

@@ -18,27 +18,21 @@ group_rows-requires c = (c.type_size.ensures.1, search rules, omega arith)
 
 pub bring_pairs-requires : goal.bring_pairs-requires
 bring_pairs-requires c =
-    let r = c.type_size.ensures in
-    let most = r.1.most_valuations in
-    record { coded = subst (λ (z : Size). Coded z.inputs z.outputs c.args.code.now c.args.len.now) (sym r.0) c.requires.coded; sized = (r.1, search rules, omega (arith, c.clear_rows-2.ensures.frame.same_length, c.group_rows.ensures.joined.frame.same_length, c.clear_rows.ensures.frame.same_length, c.requires.storage_words_in_bounds), sparse_kept _ _ _ _ most c.clear_rows-2.ensures (c.group_rows.ensures.sparse (cleared_sparse _ _ _ _ most c.clear_rows.ensures))) }
+    record { coded = subst (λ (z : Size). Coded z.inputs z.outputs c.args.code.now c.args.len.now) (sym c.type_size.ensures.is) c.requires.coded; sized = (c.type_size.ensures.sized, search rules, omega (arith, c.clear_rows-2.ensures.frame.same_length, c.group_rows.ensures.joined.frame.same_length, c.clear_rows.ensures.frame.same_length, c.requires.storage_words_in_bounds), sparse_kept _ _ _ _ c.type_size.ensures.sized.most_valuations c.clear_rows-2.ensures (c.group_rows.ensures.sparse (cleared_sparse _ _ _ _ c.type_size.ensures.sized.most_valuations c.clear_rows.ensures))) }
 
 pub clear_groups-requires : goal.clear_groups-requires
 clear_groups-requires c =
-    let r = c.type_size.ensures.sized in
-    let most = r.most_valuations in
-    let sparse = c.group_rows.ensures.sparse (cleared_sparse _ _ _ _ most c.clear_rows.ensures) in (
-      r,
+    let sparse = c.group_rows.ensures.sparse (cleared_sparse _ _ _ _ c.type_size.ensures.sized.most_valuations c.clear_rows.ensures) in (
+      c.type_size.ensures.sized,
       search rules,
       omega (arith, (c.bring_pairs.ensures []).frame.same_length, c.clear_rows-2.ensures.frame.same_length, c.group_rows.ensures.joined.frame.same_length, c.clear_rows.ensures.frame.same_length, c.requires.storage_words_in_bounds),
-      sparse_brought _ _ _ _ _ most (c.bring_pairs.ensures []) (sparse_kept _ _ _ _ most c.clear_rows-2.ensures sparse),
+      sparse_brought _ _ _ _ _ c.type_size.ensures.sized.most_valuations (c.bring_pairs.ensures []) (sparse_kept _ _ _ _ c.type_size.ensures.sized.most_valuations c.clear_rows-2.ensures sparse),
       no_ends _ _ _ _ _ _ _ _ _ _ _ c.clear_rows.ensures c.group_rows.ensures.joined c.clear_rows-2.ensures (c.bring_pairs.ensures []),
     )
 
 pub returns : goal.returns
 returns c = λ ks.
-    let a = c.args in
-    let r = c.type_size.ensures in
-    let blind = subst (λ (z : Size). Blind (sheet_of z.inputs z.outputs a.code.now a.len.now ks) c.earlier_mask-mask.result) (sym r.0) (c.earlier_mask-mask.ensures ks) in
-    subst (λ (z : Size). Rounded z.valuations a.s.now c.clear_groups.new.s (step_set (sheet_of z.inputs z.outputs a.code.now a.len.now ks) z.valuations (live a.s.now) (reached a.s.now) (among a.letters))) r.0
-    (rounded-later _ _ blind _ _ _ r.1.most_valuations r.1.wide.under _ _ _ _ _ _
+    let blind = subst (λ (z : Size). Blind (sheet_of z.inputs z.outputs c.args.code.now c.args.len.now ks) c.earlier_mask-mask.result) (sym c.type_size.ensures.is) (c.earlier_mask-mask.ensures ks) in
+    subst (λ (z : Size). Rounded z.valuations c.args.s.now c.clear_groups.new.s (step_set (sheet_of z.inputs z.outputs c.args.code.now c.args.len.now ks) z.valuations (live c.args.s.now) (reached c.args.s.now) (among c.args.letters))) c.type_size.ensures.is
+    (rounded-later _ _ blind _ _ _ c.type_size.ensures.sized.most_valuations c.type_size.ensures.sized.wide.under _ _ _ _ _ _
     c.clear_rows.ensures c.group_rows.ensures.joined c.clear_rows-2.ensures (c.bring_pairs.ensures ks) c.clear_groups.ensures)

@@ -14,8 +14,6 @@ loop-i-preserved c = (omega arith, taken_more c.loop-i.i c.args.ns.now c.loop-i.
 
 pub returns : goal.returns
 returns c =
-    let ns = c.args.ns.now in
-    let l = c.loop-i in
-    let same : l.i ≡ 28 = omega arith in
-    let e : l.counts ≡ drop 2 ns = taken-all ns l.counts c.requires (rw same at l.invariant.1) in
+    let same : c.loop-i.i ≡ 28 = omega arith in
+    let e : c.loop-i.counts ≡ drop 2 c.args.ns.now = taken-all c.args.ns.now c.loop-i.counts c.requires (rw same at c.loop-i.invariant.1) in
     rw (e, c.rounds_by.ensures)

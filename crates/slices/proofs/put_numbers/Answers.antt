@@ -13,9 +13,7 @@ bounds-into-at c = omega (arith, c.loop-i.invariant.1.same_length)
 
 pub loop-i-preserved : goal.loop-i-preserved
 loop-i-preserved c =
-    let a = c.args in
-    let l = c.loop-i in
-    (omega arith, put-more l.i a.at a.xs.now a.into.now l.into _ (omega arith) (omega arith) refl l.invariant.1)
+    (omega arith, put-more c.loop-i.i c.args.at c.args.xs.now c.args.into.now c.loop-i.into _ (omega arith) (omega arith) refl c.loop-i.invariant.1)
 
 pub shape_of-into : goal.shape_of-into
 shape_of-into c = c.loop-i.invariant.1.same_length

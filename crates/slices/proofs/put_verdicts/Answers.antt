@@ -16,13 +16,12 @@ bounds-into-at c = omega (arith, c.loop-i.invariant.1.same_length)
 
 pub loop-i-preserved : goal.loop-i-preserved
 loop-i-preserved c =
-    let a = c.args in
-    let f : length a.t3 ≡ 7 = search rules in
-    let xs = verdict_numbers a.t3 a.n in
-    let e : length xs ≡ a.n = numbers-size a.t3 a.n (omega (arith, f)) in (
+    let f : length c.args.verdicts ≡ 7 = search rules in
+    let xs = verdict_numbers c.args.verdicts c.args.n in
+    let e : length xs ≡ c.args.n = numbers-size c.args.verdicts c.args.n (omega (arith, f)) in (
       omega arith,
-      put-more c.loop-i.i a.at xs a.into.now c.loop-i.into c.verdict_number.result (omega arith) (omega (arith, e))
-          (c.verdict_number.ensures ∙ sym (numbers-at a.t3 a.n c.loop-i.i (omega arith))) c.loop-i.invariant.1,
+      put-more c.loop-i.i c.args.at xs c.args.into.now c.loop-i.into c.verdict_number.result (omega arith) (omega (arith, e))
+          (c.verdict_number.ensures ∙ sym (numbers-at c.args.verdicts c.args.n c.loop-i.i (omega arith))) c.loop-i.invariant.1,
     )
 
 pub shape_of-into : goal.shape_of-into

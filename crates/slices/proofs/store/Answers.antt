@@ -9,20 +9,17 @@ use Rattle.slices.proofs.store.Goals as goal
 
 pub put_numbers-requires : goal.put_numbers-requires
 put_numbers-requires c =
-    let a = c.args in
-    let f : length a.r.counts ≡ 28 = search rules in
+    let f : length c.args.r.counts ≡ 28 = search rules in
     (omega (arith, f), simp length-set (omega (arith, c.requires)))
 
 pub shape_of-ns : goal.shape_of-ns
 shape_of-ns c =
-    let a = c.args in
-    let f : length a.r.counts ≡ 28 = search rules in
-    let d = set (set a.ns.now 0 a.r.rounds) 1 c.mark_of.result in
-    let e : length d ≡ length a.ns.now = simp length-set (omega arith) in
-    ap length c.put_numbers.ensures ∙ length-paste d 2 a.r.counts 28 (omega (arith, e, c.requires)) (omega (arith, f)) ∙ e
+    let f : length c.args.r.counts ≡ 28 = search rules in
+    let d = set (set c.args.ns.now 0 c.args.r.rounds) 1 c.mark_of.result in
+    let e : length d ≡ length c.args.ns.now = simp length-set (omega arith) in
+    ap length c.put_numbers.ensures ∙ length-paste d 2 c.args.r.counts 28 (omega (arith, e, c.requires)) (omega (arith, f)) ∙ e
 
 pub returns : goal.returns
 returns c =
-    let a = c.args in
-    let f : length a.r.counts ≡ 28 = search rules in
-    rw (sym c.mark_of.ensures) (stored-numbers a.r.rounds c.mark_of.result a.ns.now a.r.counts c.put_numbers.new.into c.requires f c.put_numbers.ensures)
+    let f : length c.args.r.counts ≡ 28 = search rules in
+    rw (sym c.mark_of.ensures) (stored-numbers c.args.r.rounds c.mark_of.result c.args.ns.now c.args.r.counts c.put_numbers.new.into c.requires f c.put_numbers.ensures)

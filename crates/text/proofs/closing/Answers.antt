@@ -5,7 +5,4 @@ use Rattle.text.proofs.closing.Goals as goal
 
 pub returns : goal.returns
 returns c =
-    let u = c.byte-start.ensures in
-    let v = c.verdict_line-line.ensures in
-    let w = c.tally_lines.ensures in
-    record { placed = placed_then u (placed_then v.0 w.0); upper_bound = omega (arith, u.end, v.1, w.1) }
+    record { placed = placed_then c.byte-start.ensures (placed_then c.verdict_line-line.ensures.placed c.tally_lines.ensures.placed); upper_bound = omega (arith, c.byte-start.ensures.end, c.verdict_line-line.ensures.value, c.tally_lines.ensures.upper_bound) }

@@ -11,21 +11,12 @@ use Rattle.text.proofs.line_refusal.Goals as goal
 
 pub decimal-index-requires : goal.decimal-index-requires
 decimal-index-requires c =
-    let v = c.refused-start.ensures in
-    let w = c.bytes-word.ensures in
-    omega (arith, v.0.size, v.1, w.end, w.size, decimal-length 20 c.args.line (omega arith) (omega arith))
+    omega (arith, c.refused-start.ensures.placed.size, c.refused-start.ensures.upper_bound, c.bytes-word.ensures.end, c.bytes-word.ensures.size, decimal-length 20 c.args.line (omega arith) (omega arith))
 
 pub byte-requires : goal.byte-requires
 byte-requires c =
-    let u = c.refused-start.ensures in
-    let v = c.bytes-word.ensures in
-    let w = c.decimal-index.ensures in
-    omega (arith, u.0.size, u.1, v.end, v.size, w.end, w.size, decimal-length 20 c.args.line (omega arith) (omega arith))
+    omega (arith, c.refused-start.ensures.placed.size, c.refused-start.ensures.upper_bound, c.bytes-word.ensures.end, c.bytes-word.ensures.size, c.decimal-index.ensures.end, c.decimal-index.ensures.size, decimal-length 20 c.args.line (omega arith) (omega arith))
 
 pub returns : goal.returns
 returns c =
-    let u = c.refused-start.ensures in
-    let v = c.bytes-word.ensures in
-    let w = c.decimal-index.ensures in
-    let x = c.byte.ensures in
-    record { placed = placed_then u.0 (placed_then v (placed_then w x)); upper_bound = omega (arith, u.1, v.end, w.end, x.end, decimal-length 20 c.args.line (omega arith) (omega arith)) }
+    record { placed = placed_then c.refused-start.ensures.placed (placed_then c.bytes-word.ensures (placed_then c.decimal-index.ensures c.byte.ensures)); upper_bound = omega (arith, c.refused-start.ensures.upper_bound, c.bytes-word.ensures.end, c.decimal-index.ensures.end, c.byte.ensures.end, decimal-length 20 c.args.line (omega arith) (omega arith)) }

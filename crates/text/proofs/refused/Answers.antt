@@ -12,8 +12,7 @@ use Rattle.text.proofs.refused.Goals as goal
 
 pub decimal-requires : goal.decimal-requires
 decimal-requires c =
-    let w = c.bytes-to.ensures in
-    rw c.refusal_number.ensures (omega (arith, w.end, w.size, decimal-length 2 _ (omega arith) (refusal_range c.args.r).1))
+    rw c.refusal_number.ensures (omega (arith, c.bytes-to.ensures.end, c.bytes-to.ensures.size, decimal-length 2 _ (omega arith) (refusal_range c.args.r).1))
 
 pub returns : goal.returns
 returns c =

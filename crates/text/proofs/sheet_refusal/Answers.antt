@@ -10,7 +10,4 @@ use Rattle.text.proofs.sheet_refusal.Goals as goal
 
 pub returns : goal.returns
 returns c =
-    let u = c.refused-start.ensures in
-    let v = c.bytes-word.ensures in
-    let w = c.byte.ensures in
-    record { placed = placed_then u.0 (placed_then v w); upper_bound = omega (arith, u.1, v.end, w.end) }
+    record { placed = placed_then c.refused-start.ensures.placed (placed_then c.bytes-word.ensures c.byte.ensures); upper_bound = omega (arith, c.refused-start.ensures.upper_bound, c.bytes-word.ensures.end, c.byte.ensures.end) }

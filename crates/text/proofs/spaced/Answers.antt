@@ -6,8 +6,7 @@ use Rattle.text.proofs.spaced.Goals as goal
 
 pub decimal-requires : goal.decimal-requires
 decimal-requires c =
-    let w = c.byte-to.ensures in
-    omega (arith, w.end, w.size, decimal-length 10 c.args.n (omega arith) (omega arith))
+    omega (arith, c.byte-to.ensures.end, c.byte-to.ensures.size, decimal-length 10 c.args.n (omega arith) (omega arith))
 
 pub returns : goal.returns
 returns c =

@@ -13,8 +13,7 @@ tally_line-to-requires c = (omega arith, omega arith, omega arith, omega arith)
 
 pub loop-k-preserved : goal.loop-k-preserved
 loop-k-preserved c =
-    let w = c.tally_line-to.ensures in
-    (omega arith, omega (arith, w.1), placed_tally _ _ c.loop-k.k c.loop-k.invariant.2 w.0)
+    (omega arith, omega (arith, c.tally_line-to.ensures.upper_bound), placed_tally _ _ c.loop-k.k c.loop-k.invariant.2 c.tally_line-to.ensures.placed)
 
 pub returns : goal.returns
 returns c =

@@ -14,12 +14,9 @@ loop-i-init c = (omega arith, omega arith, placed_none _ _ (omega arith))
 
 pub loop-i-preserved : goal.loop-i-preserved
 loop-i-preserved c =
-    let a = c.args in
-    let l : length a.t3 ≡ 7 = search rules in
-    let w = c.byte-to.ensures in
-    (omega arith, omega (arith, w.end), placed_verdict a.t3 c.loop-i.i (omega (arith, l)) c.loop-i.invariant.2 (rw (← c.verdict_char.ensures) w))
+    let l : length c.args.verdicts ≡ 7 = search rules in
+    (omega arith, omega (arith, c.byte-to.ensures.end), placed_verdict c.args.verdicts c.loop-i.i (omega (arith, l)) c.loop-i.invariant.2 (rw (← c.verdict_char.ensures) c.byte-to.ensures))
 
 pub returns : goal.returns
 returns c =
-    let w = c.byte.ensures in
-    record { placed = placed_then (rw (le_antisymm c.loop-i.invariant.0 c.loop-i-test.false) at c.loop-i.invariant.2) w; value = omega (arith, w.end) }
+    record { placed = placed_then (rw (le_antisymm c.loop-i.invariant.0 c.loop-i-test.false) at c.loop-i.invariant.2) c.byte.ensures; value = omega (arith, c.byte.ensures.end) }

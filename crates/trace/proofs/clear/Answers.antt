@@ -11,11 +11,10 @@ loop-i-init c = (omega arith, refl, λ k h. absurd (omega arith))
 
 pub loop-i-preserved : goal.loop-i-preserved
 loop-i-preserved c =
-    let l = c.loop-i in
-    let z : length (set l.buf l.i 0) ≡ length l.buf = length-set l.buf l.i 0 in (
+    let z : length (set c.loop-i.buf c.loop-i.i 0) ≡ length c.loop-i.buf = length-set c.loop-i.buf c.loop-i.i 0 in (
       omega arith,
-      z ∙ l.invariant.1,
-      set_more (λ k x. x ≡ 0) l.buf l.i 0 (omega arith) refl l.invariant.2,
+      z ∙ c.loop-i.invariant.1,
+      set_more (λ k x. x ≡ 0) c.loop-i.buf c.loop-i.i 0 (omega arith) refl c.loop-i.invariant.2,
     )
 
 pub shape_of-buf : goal.shape_of-buf

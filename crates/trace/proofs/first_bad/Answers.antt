@@ -14,10 +14,9 @@ returns-then-wide-m-ne0 c = record { within = omega arith; before = c.loop-i.inv
 
 pub loop-i-preserved : goal.loop-i-preserved
 loop-i-preserved c =
-    let a = c.args in
-    let l = c.loop-i in (
+    (
       omega arith,
-      below_more (λ (k : ℕ). get_or a.letters.now k 0 < 2 ^ a.m) l.i l.invariant.1 (letter-small _ _ _ c.wide.ensures c.if-wide-m-ne0.false),
+      below_more (λ (k : ℕ). get_or c.args.letters.now k 0 < 2 ^ c.args.m) c.loop-i.i c.loop-i.invariant.1 (letter-small _ _ _ c.wide.ensures c.if-wide-m-ne0.false),
     )
 
 pub returns : goal.returns

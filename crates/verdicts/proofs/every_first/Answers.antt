@@ -8,7 +8,7 @@ pub loop-j-init : goal.loop-j-init
 loop-j-init c = filling_none _ _ _ refl
 
 pub every_first_word-requires : goal.every_first_word-requires
-every_first_word-requires c = let p = c.requires in (p.0, c.loop-j-test.true, p.1)
+every_first_word-requires c = (c.requires.0, c.loop-j-test.true, c.requires.1)
 
 pub loop-j-preserved : goal.loop-j-preserved
 loop-j-preserved c = filling_more _ _ _ _ _ c.requires.0.most c.loop-j-test.true c.loop-j.invariant c.every_first_word.ensures

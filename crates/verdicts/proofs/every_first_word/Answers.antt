@@ -9,22 +9,22 @@ lane : (c : tie.In-loop invariant-loop decreases-loop) → c.before.loop.i < 64
 lane c = omega (arith, c.loop-test.true, c.before.before.Lanes-Taken.ensures.0)
 
 pub ends_word-requires : goal.ends_word-requires
-ends_word-requires c = let p = c.requires in (omega (arith, p.0.most), omega arith, p.2)
+ends_word-requires c = (omega (arith, c.requires.0.most), omega arith, c.requires.2)
 
 pub lanes_below-requires : goal.lanes_below-requires
-lanes_below-requires c = let p = c.requires in (omega (arith, p.0.under, p.0.most), omega (arith, p.0.most))
+lanes_below-requires c = (omega (arith, c.requires.0.under, c.requires.0.most), omega (arith, c.requires.0.most))
 
 pub loop-i-init : goal.loop-i-init
 loop-i-init c = filled_none _ _
 
 pub overflow_mul-j : goal.overflow_mul-j
-overflow_mul-j c = let p = c.requires in omega (arith, p.0.most)
+overflow_mul-j c = omega (arith, c.requires.0.most)
 
 pub overflow_add-j : goal.overflow_add-j
-overflow_add-j c = let p = c.requires in omega (arith, p.0.most, lane c)
+overflow_add-j c = omega (arith, c.requires.0.most, lane c)
 
 pub is_followed-b-requires : goal.is_followed-b-requires
-is_followed-b-requires c = let p = c.requires in (p.0, omega (arith, p.0.most, lane c), p.2)
+is_followed-b-requires c = (c.requires.0, omega (arith, c.requires.0.most, lane c), c.requires.2)
 
 pub with_lane-word-requires : goal.with_lane-word-requires
 with_lane-word-requires c = lane c.before
@@ -37,6 +37,5 @@ loop-i-preserved c = filled_more _ _ _ _ _ _ c.loop-i-test.true c.loop-i.invaria
 
 pub returns : goal.returns
 returns c =
-    let p = c.requires in
-    every_lane _ _ _ _ _ _ _ _ p.0 p.1 c.Lanes-Taken.ensures c.loop-i-test.false
+    every_lane _ _ _ _ _ _ _ _ c.requires.0 c.requires.1 c.Lanes-Taken.ensures c.loop-i-test.false
     (ends_lane _ _ _ _ _ c.ends_word.ensures c.lanes_below.ensures) c.loop-i.invariant

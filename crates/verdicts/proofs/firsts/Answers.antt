@@ -9,7 +9,7 @@ pub loop-j-init : goal.loop-j-init
 loop-j-init c = filling_none _ _ _ refl
 
 pub firsts_word-requires : goal.firsts_word-requires
-firsts_word-requires c = let p = c.requires in (p.0, omega (arith, p.0.most), p.1)
+firsts_word-requires c = (c.requires.0, omega (arith, c.requires.0.most), c.requires.1)
 
 pub loop-j-preserved : goal.loop-j-preserved
 loop-j-preserved c = filling_more _ _ _ _ _ c.requires.0.most c.loop-j-test.true c.loop-j.invariant c.firsts_word.ensures

@@ -42,6 +42,5 @@ loop-rest-preserved c =
 
 pub returns : goal.returns
 returns c = λ i h.
-    let a = c.args in
     looking_done _ _ _ _ c.loop-rest-test.false c.loop-rest.invariant i h
-    ∙ ap (λ (u : Bool). u && any_next a.v (reached a.s.now (64 * a.j + i))) (heard-below _ _ _ _ c.lanes_below.ensures i h)
+    ∙ ap (λ (u : Bool). u && any_next c.args.v (reached c.args.s.now (64 * c.args.j + i))) (heard-below _ _ _ _ c.lanes_below.ensures i h)

@@ -7,6 +7,5 @@ use Rattle.verdicts.proofs.set_verdict.Goals as goal
 
 pub returns : goal.returns
 returns c =
-    let size = c.type_size.ensures in
-    let v = ap (λ (z : Size). z.valuations) size.0 in
-    c.verdict.ensures _ c.set_test-test.ensures ∙ every_verdict _ _ _ _ _ _ v (omega (arith, v, size.1.wide.under)) c.every_first-f.ensures
+    let v = ap (λ (z : Size). z.valuations) c.type_size.ensures.0 in
+    c.verdict.ensures _ c.set_test-test.ensures ∙ every_verdict _ _ _ _ _ _ v (omega (arith, v, c.type_size.ensures.1.wide.under)) c.every_first-f.ensures

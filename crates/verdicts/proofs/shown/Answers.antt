@@ -16,28 +16,23 @@ loop-j-init c = (omega arith, refl)
 
 pub returns-then-f-j-ne0 : goal.returns-then-f-j-ne0
 returns-then-f-j-ne0 c =
-    let a = c.args in
-    let j = c.loop-j.j in
-    let G = row_bit a.test.now 0 in
-    sym (shows-words a.f.now G a.b a.w ∙ some_any a.w (shownIn a.f.now G a.b) j c.loop-j-test.true
-    (shown-word a.f.now G a.b j c.agree-p.result (c.type_inv.f j).fits c.agree-p.type-inv
-    (λ i h. c.agree-p.ensures i h ∙ ap (λ (u : Bool). beq u a.b) (sym (row_lane a.test.now j i h))) ∙ ap not (ne_eqb _ _ c.if-f-j-ne0.true)))
+    let G = row_bit c.args.test.now 0 in
+    sym (shows-words c.args.f.now G c.args.b c.args.w ∙ some_any c.args.w (shownIn c.args.f.now G c.args.b) c.loop-j.j c.loop-j-test.true
+    (shown-word c.args.f.now G c.args.b c.loop-j.j c.agree-p.result (c.type_inv.f c.loop-j.j).fits c.agree-p.type-inv
+    (λ i h. c.agree-p.ensures i h ∙ ap (λ (u : Bool). beq u c.args.b) (sym (row_lane c.args.test.now c.loop-j.j i h))) ∙ ap not (ne_eqb _ _ c.if-f-j-ne0.true)))
 
 pub loop-j-preserved : goal.loop-j-preserved
 loop-j-preserved c =
-    let a = c.args in
-    let j = c.loop-j.j in
-    let G = row_bit a.test.now 0 in (
+    let G = row_bit c.args.test.now 0 in (
       omega arith,
-      any_one j (shownIn a.f.now G a.b) ∙ ap₂ ◌||◌
-          (shown-word a.f.now G a.b j c.agree-p.result (c.type_inv.f j).fits c.agree-p.type-inv
-          (λ i h. c.agree-p.ensures i h ∙ ap (λ (u : Bool). beq u a.b) (sym (row_lane a.test.now j i h))) ∙ ap not (eq-eqb _ _ c.if-f-j-ne0.false))
+      any_one c.loop-j.j (shownIn c.args.f.now G c.args.b) ∙ ap₂ ◌||◌
+          (shown-word c.args.f.now G c.args.b c.loop-j.j c.agree-p.result (c.type_inv.f c.loop-j.j).fits c.agree-p.type-inv
+          (λ i h. c.agree-p.ensures i h ∙ ap (λ (u : Bool). beq u c.args.b) (sym (row_lane c.args.test.now c.loop-j.j i h))) ∙ ap not (eq-eqb _ _ c.if-f-j-ne0.false))
           c.loop-j.invariant.1,
     )
 
 pub returns : goal.returns
 returns c =
-    let a = c.args in
-    let G = row_bit a.test.now 0 in
-    let e : c.loop-j.j ≡ a.w = omega arith in
-    sym (shows-words a.f.now G a.b a.w ∙ ap (λ (k : ℕ). any_below k (shownIn a.f.now G a.b)) (sym e) ∙ c.loop-j.invariant.1)
+    let G = row_bit c.args.test.now 0 in
+    let e : c.loop-j.j ≡ c.args.w = omega arith in
+    sym (shows-words c.args.f.now G c.args.b c.args.w ∙ ap (λ (k : ℕ). any_below k (shownIn c.args.f.now G c.args.b)) (sym e) ∙ c.loop-j.invariant.1)

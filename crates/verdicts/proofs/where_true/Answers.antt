@@ -8,6 +8,5 @@ use Rattle.verdicts.proofs.where_true.Goals as goal
 
 pub returns : goal.returns
 returns c = λ i h.
-    let a = c.args in
-    bit-and i a.x c.stream_word.result
-    ∙ ap (λ (u : Bool). bit i a.x && u) (c.stream_word.ensures i h ∙ ap (λ (q : ℕ). bit q (64 * a.j + i)) c.stream_of-q.ensures)
+    bit-and i c.args.x c.stream_word.result
+    ∙ ap (λ (u : Bool). bit i c.args.x && u) (c.stream_word.ensures i h ∙ ap (λ (q : ℕ). bit q (64 * c.args.j + i)) c.stream_of-q.ensures)

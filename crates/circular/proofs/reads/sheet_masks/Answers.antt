@@ -4,4 +4,4 @@ use Rattle.circular.proofs.reads.sheet_masks.Goals as goal
 
 pub returns : goal.returns
 returns c =
-    tells c.args.t1 c.requires c.all_reads-words.result c.all_reads-words.ensures c.masks_of.result c.masks_of.ensures
+    tells c.args.x c.requires c.all_reads-words.result c.all_reads-words.ensures c.masks_of.result c.masks_of.ensures

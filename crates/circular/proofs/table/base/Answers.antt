@@ -13,11 +13,9 @@ by_one x = omega arith
 pub returns-then-up : goal.returns-then-up
 unfolding base_n bit digit
 returns-then-up c =
-    let x = c.args.x in
-    rw c.if-up.true (c.top.ensures ∙ ap (λ (z : ℕ). top_n (eqb (z % 2) 1) (eqb (x / 2 % 2) 1) (eqb (x / 4 % 2) 1)) (by_one x))
+    rw c.if-up.true (c.top.ensures ∙ ap (λ (z : ℕ). top_n (eqb (z % 2) 1) (eqb (c.args.x / 2 % 2) 1) (eqb (c.args.x / 4 % 2) 1)) (by_one c.args.x))
 
 pub returns : goal.returns
 unfolding base_n bit digit
 returns c =
-    let x = c.args.x in
-    rw c.if-up.false (c.top-2.ensures ∙ ap (λ (z : ℕ). top_n (eqb (x / 4 % 2) 1) (eqb (x / 2 % 2) 1) (eqb (z % 2) 1)) (by_one x))
+    rw c.if-up.false (c.top-2.ensures ∙ ap (λ (z : ℕ). top_n (eqb (c.args.x / 4 % 2) 1) (eqb (c.args.x / 2 % 2) 1) (eqb (z % 2) 1)) (by_one c.args.x))

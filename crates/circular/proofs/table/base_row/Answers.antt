@@ -31,6 +31,5 @@ shape_of-t c = c.loop-q.invariant.1.size ∙ sym c.requires.3.size
 
 pub returns : goal.returns
 returns c =
-    let l = c.loop-q in
-    let e : l.q ≡ c.args.n = omega arith in
-    (l.invariant.1, rw e at l.invariant.2)
+    let e : c.loop-q.q ≡ c.args.n = omega arith in
+    (c.loop-q.invariant.1, rw e at c.loop-q.invariant.2)

@@ -12,10 +12,8 @@ base_row-requires c = (omega arith, omega arith, omega arith, c.loop-s.invariant
 
 pub loop-s-preserved : goal.loop-s-preserved
 loop-s-preserved c =
-    let x = c.base_row.ensures in
-    (omega arith, x.0, rows_more _ _ _ _ _ _ (omega arith) c.loop-s.invariant.2 x.1)
+    (omega arith, c.base_row.ensures.0, rows_more _ _ _ _ _ _ (omega arith) c.loop-s.invariant.2 c.base_row.ensures.1)
 
 pub returns : goal.returns
 returns c =
-    let l = c.loop-s in
-    (l.invariant.1, record { cells = λ i j h b. l.invariant.2.done i j (omega arith) b })
+    (c.loop-s.invariant.1, record { cells = λ i j h b. c.loop-s.invariant.2.done i j (omega arith) b })

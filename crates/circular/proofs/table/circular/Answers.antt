@@ -1,20 +1,17 @@
 -- `circular::table::circular` meets its contract.
 use mathlib.Core.Path.{sym, ◌∙◌}
 use mathlib.Core.Bool.{false≢true}
-use borrow.Author.Tests.{not-true}
 use Rattle.circular.proofs.Codes.{none_reads, none-rises, scan-circular, scan-not-circular}
 use Rattle.circular.proofs.table.circular.Goals as goal
 
 pub returns-then-not-has_reads : goal.returns-then-not-has_reads
 returns-then-not-has_reads c =
-    record { yes = (λ e. absurd (false≢true e)); no = λ _. none_reads _ _ (c.has_reads.ensures (not-true _ c.if-not-has_reads.true)) }
+    record { yes = (λ e. absurd (false≢true e)); no = λ _. none_reads _ _ (c.has_reads.ensures (c.if-not-has_reads.true)) }
 
 pub returns-then-not-level_in_both : goal.returns-then-not-level_in_both
 returns-then-not-level_in_both c =
-    record { yes = (λ e. absurd (false≢true e)); no = λ _. none-rises _ c.requires.1 _ _ c.closed-rising.ensures (sym c.level_in_both.ensures ∙ not-true _ c.if-not-level_in_both.true) }
+    record { yes = (λ e. absurd (false≢true e)); no = λ _. none-rises _ c.requires.1 _ _ c.closed-rising.ensures (sym c.level_in_both.ensures ∙ c.if-not-level_in_both.true) }
 
 pub returns : goal.returns
 returns c =
-    let r = c.closed-rising.ensures in
-    let f = c.closed-falling.ensures in
-    record { yes = (λ e. scan-circular _ c.requires.1 _ _ r _ f (sym c.level_in_both-2.ensures ∙ e)); no = λ e. scan-not-circular _ c.requires.1 _ _ r _ f (sym c.level_in_both-2.ensures ∙ e) }
+    record { yes = (λ e. scan-circular _ c.requires.1 _ _ c.closed-rising.ensures _ c.closed-falling.ensures (sym c.level_in_both-2.ensures ∙ e)); no = λ e. scan-not-circular _ c.requires.1 _ _ c.closed-rising.ensures _ c.closed-falling.ensures (sym c.level_in_both-2.ensures ∙ e) }

@@ -6,7 +6,7 @@ use Rattle.circular.proofs.table.clip.Goals as goal
 
 pub returns-then-s-lt-LEVEL : goal.returns-then-s-lt-LEVEL
 unfolding clip_n
-returns-then-s-lt-LEVEL c = let s = c.args.s in simp (lt-leb 5120 s (omega arith)) (omega arith)
+returns-then-s-lt-LEVEL c = simp (lt-leb 5120 c.args.s (omega arith)) (omega arith)
 
 pub returns : goal.returns
 unfolding clip_n

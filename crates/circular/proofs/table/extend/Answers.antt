@@ -33,6 +33,5 @@ shape_of-t c = c.loop-q.invariant.1.size ∙ sym c.requires.2.size
 
 pub returns : goal.returns
 returns c =
-    let l = c.loop-q in
-    let e : l.q ≡ 8 = omega arith in
-    (l.invariant.1, rw e at l.invariant.2)
+    let e : c.loop-q.q ≡ 8 = omega arith in
+    (c.loop-q.invariant.1, rw e at c.loop-q.invariant.2)

@@ -19,8 +19,7 @@ overflow_shr-result c = omega (arith, c.stream_of-first.ensures)
 
 pub returns : goal.returns
 returns c =
-    let m = c.args.m in
-    let from : c.stream_of-first.result.0 ≡ m = omega (arith, c.stream_of-first.ensures) in
+    let from : c.stream_of-first.result.0 ≡ c.args.m = omega (arith, c.stream_of-first.ensures) in
     λ e s h q o k.
-    c.loop-s.invariant.1.none s (omega arith) (m + q) o
-    (no_reads _ _ _ _ c.streams_at.ensures c.streams_at-2.ensures c.streams_at-3.ensures _ m from e q o k)
+    c.loop-s.invariant.1.none s (omega arith) (c.args.m + q) o
+    (no_reads _ _ _ _ c.streams_at.ensures c.streams_at-2.ensures c.streams_at-3.ensures _ c.args.m from e q o k)

@@ -13,13 +13,11 @@ loop-s-init c = (omega arith, refl)
 
 pub returns-then-u-at-ge-LEVEL : goal.returns-then-u-at-ge-LEVEL
 returns-then-u-at-ge-LEVEL c =
-    let a = c.args in
-    sym (level-at a.t.now a.u.now c.loop-s.s a.n (omega arith) c.if-t-at-ge-LEVEL.true c.if-u-at-ge-LEVEL.true)
+    sym (level-at c.args.t.now c.args.u.now c.loop-s.s c.args.n (omega arith) c.if-t-at-ge-LEVEL.true c.if-u-at-ge-LEVEL.true)
 
 pub loop-s-preserved : goal.loop-s-preserved
 loop-s-preserved c =
-    let a = c.args in
-    (omega arith, any_more _ c.loop-s.s c.loop-s.invariant.1 (⊎_elim (λ w. not-second a.t.now a.u.now c.loop-s.s w.2.left) (λ w. not_first a.t.now a.u.now c.loop-s.s w.left) c.if-t-at-ge-LEVEL.branch))
+    (omega arith, any_more _ c.loop-s.s c.loop-s.invariant.1 (⊎_elim (λ w. not-second c.args.t.now c.args.u.now c.loop-s.s w.2.left) (λ w. not_first c.args.t.now c.args.u.now c.loop-s.s w.left) c.if-t-at-ge-LEVEL.branch))
 
 pub returns : goal.returns
 returns c =

@@ -20,14 +20,12 @@ extend-requires c =
 
 pub loop-i-preserved : goal.loop-i-preserved
 loop-i-preserved c =
-    let x = c.extend.ensures in
     let j = joined-cell _ _ _ _ _ _ c.tails-on.ensures c.loop-i.invariant.2 refl in
-    (omega arith, x.0, rows_more _ _ _ _ _ _ (omega arith) c.loop-i.invariant.2 (part_as _ _ _ _ _ _ j x.1))
+    (omega arith, c.extend.ensures.0, rows_more _ _ _ _ _ _ (omega arith) c.loop-i.invariant.2 (part_as _ _ _ _ _ _ j c.extend.ensures.1))
 
 pub shape_of-t : goal.shape_of-t
 shape_of-t c = c.loop-i.invariant.1.size ∙ sym c.before.requires.2.size
 
 pub returns : goal.returns
 returns c =
-    let l = c.loop-i in
-    (l.invariant.1, record { cells = λ i j h b. l.invariant.2.done i j (omega arith) b })
+    (c.loop-i.invariant.1, record { cells = λ i j h b. c.loop-i.invariant.2.done i j (omega arith) b })

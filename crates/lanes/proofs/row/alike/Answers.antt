@@ -10,10 +10,9 @@ use Rattle.lanes.proofs.row.alike.Goals as goal
 
 pub returns : goal.returns
 returns c = λ i h.
-    let a = c.args in
-    bit-or i (bit_and a.x a.y) (18446744073709551615 - bit_or a.x a.y)
-    ∙ ap₂ ◌||◌ (bit-and i a.x a.y) (bit_not 64 i (bit_or a.x a.y) h (or_lt 64 a.x a.y (omega arith) (omega arith)) ∙ ap not (bit-or i a.x a.y))
-    ∙ both (bit i a.x) (bit i a.y)
+    bit-or i (bit_and c.args.x c.args.y) (18446744073709551615 - bit_or c.args.x c.args.y)
+    ∙ ap₂ ◌||◌ (bit-and i c.args.x c.args.y) (bit_not 64 i (bit_or c.args.x c.args.y) h (or_lt 64 c.args.x c.args.y (omega arith) (omega arith)) ∙ ap not (bit-or i c.args.x c.args.y))
+    ∙ both (bit i c.args.x) (bit i c.args.y)
   where
     both : (u v : Bool) → ((u && v) || not (u || v)) ≡ beq u v
     both true true = refl

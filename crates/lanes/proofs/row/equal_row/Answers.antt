@@ -13,9 +13,8 @@ loop-j-init c = writing-none _ _ c.requires.1
 
 pub loop-j-preserved : goal.loop-j-preserved
 loop-j-preserved c =
-    let a = c.args in
     writing_more _ _ _ _ _ c.loop-j.invariant (omega arith)
-    (λ i h. c.alike.ensures i h ∙ ap (λ (z : ℕ). beq (bit i (get_or a.st.now (a.w * a.k + c.loop-j.j) 0)) (bit i z)) (c.loop-j.invariant.rest c.loop-j.j (omega arith)))
+    (λ i h. c.alike.ensures i h ∙ ap (λ (z : ℕ). beq (bit i (get_or c.args.st.now (c.args.w * c.args.k + c.loop-j.j) 0)) (bit i z)) (c.loop-j.invariant.rest c.loop-j.j (omega arith)))
 
 pub returns : goal.returns
 returns c = λ j i h. writing-all _ _ _ _ _ c.loop-j.invariant c.loop-j-test.false j h i

@@ -7,11 +7,9 @@ use Rattle.lanes.proofs.row.here_word.Goals as goal
 
 pub returns-then-own-eq1 : goal.returns-then-own-eq1
 returns-then-own-eq1 c = λ i h.
-    let a = c.args in
-    c.stream_word.ensures i h ∙ sym (ap (bit a.q) (own-here a.own a.b (64 * a.j + i) c.if-own-eq1.true))
+    c.stream_word.ensures i h ∙ sym (ap (bit c.args.q) (own-here c.args.own c.args.b (64 * c.args.j + i) c.if-own-eq1.true))
 
 pub returns : goal.returns
 unfolding bit digit
 returns c = λ i h.
-    let a = c.args in
-    c.spread.ensures i h ∙ sym (ap (bit a.q) (shared-here a.own a.b (64 * a.j + i) c.if-own-eq1.false))
+    c.spread.ensures i h ∙ sym (ap (bit c.args.q) (shared-here c.args.own c.args.b (64 * c.args.j + i) c.if-own-eq1.false))

@@ -13,7 +13,6 @@ returns-then-own-k-eq1 c = λ j i h g. c.stream_row.ensures j i h g ∙ sym (own
 pub returns : goal.returns
 unfolding bit digit
 returns c =
-    let a = c.args in
     λ j i h g.
     ap (bit i) (c.fill_row.ensures j h) ∙ c.spread.ensures i g
-    ∙ sym (shared-read a.env a.own (64 * j + i) (a.e % 64) (ne_eqb _ 1 c.if-own-k-eq1.false))
+    ∙ sym (shared-read c.args.env c.args.own (64 * j + i) (c.args.e % 64) (ne_eqb _ 1 c.if-own-k-eq1.false))

@@ -2,21 +2,18 @@
 use mathlib.Core.Path.{refl}
 use Prim.Native.Nat.{◌-◌}
 use native.Mathlib.Omega.{arith}
-use borrow.Author.Tests.{not-true}
 use Rattle.rounds.proofs.EndLaws.{ends-full, ends-none, ends_more, ends-all}
 use Rattle.rounds.proofs.gain.gain_ends.Goals as goal
 
 pub returns-then-not-is_end_new : goal.returns-then-not-is_end_new
-returns-then-not-is_end_new c = λ p h ks. ends-full _ _ _ _ _ p c.before.requires.1.0.wide.under (c.is_end_new.ensures (not-true _ c.if-not-is_end_new.true))
+returns-then-not-is_end_new c = λ p h ks. ends-full _ _ _ _ _ p c.before.requires.1.0.wide.under (c.is_end_new.ensures (c.if-not-is_end_new.true))
 
 pub lanes_below-low-requires : goal.lanes_below-low-requires
 lanes_below-low-requires c = (c.before.requires.1.0.most_valuations, omega arith)
 
 pub enders-requires : goal.enders-requires
 enders-requires c =
-    let q = c.before.requires in
-    let z = q.1.4.reads in
-    record { coded = q.0; words_bound = (q.1.0.wide.most, refl, q.1.1, omega (arith, z.shifted, z.beside.small)) }
+    record { coded = c.before.requires.0; words_bound = (c.before.requires.1.0.wide.most, refl, c.before.requires.1.1, omega (arith, c.before.requires.1.4.reads.shifted, c.before.requires.1.4.reads.beside.small)) }
 
 pub loop-j-init : goal.loop-j-init
 loop-j-init c =

@@ -2,22 +2,20 @@
 use mathlib.Core.Path.{refl}
 use Prim.Native.Nat.{◌-◌}
 use native.Mathlib.Omega.{arith}
-use borrow.Author.Tests.{not-true}
 use Rattle.rounds.proofs.WordLaws.{live-masked, row_full, word-gained}
 use Rattle.rounds.proofs.RowLaws.{row-none, row_more, row-all}
 use Rattle.rounds.proofs.gain.gain_row.Goals as goal
 
 pub returns-then-not-is_new : goal.returns-then-not-is_new
 returns-then-not-is_new c = λ p seen ks.
-    row_full _ _ _ _ p (λ k h. c.is_new.ensures (not-true _ c.if-not-is_new.true) k (omega (arith, c.before.requires.1.0.wide.under)))
+    row_full _ _ _ _ p (λ k h. c.is_new.ensures (c.if-not-is_new.true) k (omega (arith, c.before.requires.1.0.wide.under)))
 
 pub lanes_below-low-requires : goal.lanes_below-low-requires
 lanes_below-low-requires c = (c.before.requires.1.0.most_valuations, omega arith)
 
 pub successors-requires : goal.successors-requires
 successors-requires c =
-    let q = c.before.requires in
-    record { coded = q.0; words_bound = (q.1.0.wide.most, refl, q.1.1) }
+    record { coded = c.before.requires.0; words_bound = (c.before.requires.1.0.wide.most, refl, c.before.requires.1.1) }
 
 pub loop-j-init : goal.loop-j-init
 loop-j-init c = (omega arith, refl, λ y p f. row-none _ _ _ _ p)

@@ -9,7 +9,7 @@ pub next_bit-g-requires : goal.next_bit-g-requires
 next_bit-g-requires c = (omega arith, omega arith, omega arith, omega arith)
 
 pub loop-g-init : goal.loop-g-init
-loop-g-init c = let z = c.next_bit-g.ensures in (z.inside, refl, z.found, emptying-none _ _ _ _ _ z)
+loop-g-init c = (c.next_bit-g.ensures.inside, refl, c.next_bit-g.ensures.found, emptying-none _ _ _ _ _ c.next_bit-g.ensures)
 
 pub take_row-requires : goal.take_row-requires
 take_row-requires c = (omega arith, omega arith, omega arith)
@@ -22,9 +22,7 @@ loop-g-smaller c = omega (arith, c.next_bit-g-in-loop-g.ensures.onward, c.next_b
 
 pub loop-g-preserved : goal.loop-g-preserved
 loop-g-preserved c =
-    let z = c.next_bit-g-in-loop-g.ensures in
-    let l = c.loop-g.invariant in
-    (z.inside, omega arith, z.found, emptying-more _ _ _ _ _ _ _ _ c.loop-g-test.true (l.2 (omega arith)) l.3 c.take_row.ensures z)
+    (c.next_bit-g-in-loop-g.ensures.inside, omega arith, c.next_bit-g-in-loop-g.ensures.found, emptying-more _ _ _ _ _ _ _ _ c.loop-g-test.true (c.loop-g.invariant.2 (omega arith)) c.loop-g.invariant.3 c.take_row.ensures c.next_bit-g-in-loop-g.ensures)
 
 pub returns : goal.returns
-returns c = let p = c.requires in emptying-all _ _ _ _ _ c.loop-g-test.false p.0.most_valuations p.3 p.4 c.loop-g.invariant.3
+returns c = emptying-all _ _ _ _ _ c.loop-g-test.false c.requires.0.most_valuations c.requires.3 c.requires.4 c.loop-g.invariant.3

@@ -5,7 +5,7 @@ use Rattle.rounds.proofs.WordLaws.{unheard-row}
 use Rattle.rounds.proofs.group.group_row.Goals as goal
 
 pub row_lanes-requires : goal.row_lanes-requires
-row_lanes-requires c = let p = c.before.requires in (p.0, p.1, p.2, p.3, omega arith, p.6)
+row_lanes-requires c = (c.before.requires.0, c.before.requires.1, c.before.requires.2, c.before.requires.3, omega arith, c.before.requires.6)
 
 pub returns-then-row_lanes-letters-eq0 : goal.returns-then-row_lanes-letters-eq0
 returns-then-row_lanes-letters-eq0 c =

@@ -12,12 +12,9 @@ loop-i-init c = listing_start _ _ _ refl
 
 pub loop-i-preserved : goal.loop-i-preserved
 loop-i-preserved c =
-    let n-le = c.requires in
-    let l = c.loop-i.invariant in
-    let due = c.is_due.ensures in
     ⊎_elim
-    (λ w. rw (w.1, w.2) (listing-push _ _ _ _ _ n-le l (omega arith) (due.0 w.0.taken)))
-    (λ w. rw (w.1, w.2) (listing-skip _ _ _ _ _ n-le l (omega arith) (λ d. true≢false (sym (due.1 d) ∙ w.0.left))))
+    (λ w. rw (w.1, w.2) (listing-push _ _ _ _ _ c.requires c.loop-i.invariant (omega arith) (c.is_due.ensures.0 w.0.taken)))
+    (λ w. rw (w.1, w.2) (listing-skip _ _ _ _ _ c.requires c.loop-i.invariant (omega arith) (λ d. true≢false (sym (c.is_due.ensures.1 d) ∙ w.0.left))))
     c.if-is_due.branch
 
 pub returns : goal.returns

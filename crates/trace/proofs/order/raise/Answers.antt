@@ -12,11 +12,10 @@ loop-s-init c = (omega arith, search rules, λ i h. absurd (omega arith))
 
 pub loop-s-preserved : goal.loop-s-preserved
 loop-s-preserved c =
-    let l = c.loop-s in
-    let a = c.args in (
+    (
       omega arith,
       simp length-set (search rules),
-      set_more (λ i x. Raised a.masks.now a.old.now a.n a.up a.settled i x) l.lead l.s c.raised.result (omega arith) c.raised.ensures l.invariant.2,
+      set_more (λ i x. Raised c.args.masks.now c.args.old.now c.args.n c.args.up c.args.settled i x) c.loop-s.lead c.loop-s.s c.raised.result (omega arith) c.raised.ensures c.loop-s.invariant.2,
     )
 
 pub returns : goal.returns

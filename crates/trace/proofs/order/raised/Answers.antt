@@ -12,16 +12,15 @@ loop-q-init c = (omega arith, raised-none _ _ _ _ _ _)
 
 pub loop-q-preserved : goal.loop-q-preserved
 loop-q-preserved c =
-    let r = c.loop-q.invariant.1 in (
+    (
       omega arith,
       ⊎_elim
-          (λ w. rw w.5 (raised-read _ _ _ _ _ _ _ _ r w.4.ensures.0 _ w.3.ensures w.4.ensures.1))
-          (λ w. rw w.1 (raised-settled _ _ _ _ _ _ _ _ r (omega arith) (sym c.is_in.ensures ∙ not-false _ w.0.left)))
+          (λ w. rw w.5 (raised-read _ _ _ _ _ _ _ _ c.loop-q.invariant.1 w.4.ensures.0 _ w.3.ensures w.4.ensures.1))
+          (λ w. rw w.1 (raised-settled _ _ _ _ _ _ _ _ c.loop-q.invariant.1 (omega arith) (sym c.is_in.ensures ∙ not-false _ w.0.left)))
           c.if-not-is_in.branch,
     )
 
 pub returns : goal.returns
 returns c =
-    let l = c.loop-q in
-    let e : l.q ≡ c.args.n = omega arith in
-    rw e at l.invariant.1
+    let e : c.loop-q.q ≡ c.args.n = omega arith in
+    rw e at c.loop-q.invariant.1

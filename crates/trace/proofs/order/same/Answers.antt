@@ -15,10 +15,9 @@ returns-then-a-s c = λ e. absurd (true≢false (sym e))
 
 pub loop-s-preserved : goal.loop-s-preserved
 loop-s-preserved c =
-    let a = c.args in
-    let l = c.loop-s in (
+    (
       omega arith,
-      below_more (λ (i : ℕ). get_or a.a.now i 0 ≡ get_or a.b.now i 0) l.s l.invariant.1 c.if-a-s.false,
+      below_more (λ (i : ℕ). get_or c.args.a.now i 0 ≡ get_or c.args.b.now i 0) c.loop-s.s c.loop-s.invariant.1 c.if-a-s.false,
     )
 
 pub returns : goal.returns

@@ -14,11 +14,9 @@ slice_bounds-value_bit-end c =
 
 pub value_bit-v-requires : goal.value_bit-v-requires
 value_bit-v-requires c =
-    let a = c.args in
-    part-short a.code.now a.len.now a.s (c.requires.0.small a.s c.requires.2)
+    part-short c.args.code.now c.args.len.now c.args.s (c.requires.0.small c.args.s c.requires.2)
 
 pub returns : goal.returns
 returns c =
-    let put = c.put_bit.ensures in
     let right = place-value _ _ _ _ _ _ _ _ _ c.requires.0 c.requires.2 c.environment-env.ensures c.value_bit-v.ensures in
-    (renewed-put _ _ _ _ _ _ _ _ put c.requires.3 c.requires.2 right, put.same)
+    (renewed-put _ _ _ _ _ _ _ _ c.put_bit.ensures c.requires.3 c.requires.2 right, c.put_bit.ensures.same)

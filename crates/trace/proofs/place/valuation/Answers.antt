@@ -5,21 +5,18 @@ use Rattle.trace.proofs.place.valuation.Goals as goal
 
 pub overflow_mul-result : goal.overflow_mul-result
 overflow_mul-result c =
-    let i = c.args.i in
-    let letter = (c.type_inv.letters i).fits in
-    let byte = (c.type_inv.buf i).fits in
+    let letter = (c.type_inv.letters c.args.i).fits in
+    let byte = (c.type_inv.buf c.args.i).fits in
     omega (arith, product_small _ c.requires.0 _ _ _ _ c.wide.ensures c.wide-2.ensures letter byte)
 
 pub overflow_add-result : goal.overflow_add-result
 overflow_add-result c =
-    let i = c.args.i in
-    let letter = (c.type_inv.letters i).fits in
-    let byte = (c.type_inv.buf i).fits in
+    let letter = (c.type_inv.letters c.args.i).fits in
+    let byte = (c.type_inv.buf c.args.i).fits in
     omega (arith, c.wide.ensures, letter, product_small _ c.requires.0 _ _ _ _ c.wide.ensures c.wide-2.ensures letter byte)
 
 pub returns : goal.returns
 returns c =
-    let i = c.args.i in
-    let letter = (c.type_inv.letters i).fits in
-    let byte = (c.type_inv.buf i).fits in
+    let letter = (c.type_inv.letters c.args.i).fits in
+    let byte = (c.type_inv.buf c.args.i).fits in
     product_is _ c.requires.0 _ _ _ _ c.wide.ensures c.wide-2.ensures letter byte

@@ -3,7 +3,6 @@ use mathlib.Core.Path.{◌∙◌}
 use Prim.Native.Nat.{◌-◌}
 use native.Mathlib.Omega.{arith}
 use lib.ListN.{length}
-use borrow.Author.Tests.{not-true}
 use Rattle.trace.proofs.Passes.{bytes-kept}
 use Rattle.trace.proofs.Solving.{going_start, going_more, going-quiet, going_end, most-small}
 use Rattle.trace.proofs.sweep.passes.Goals as goal
@@ -24,7 +23,7 @@ shape_of-buf-then-not-pass c =
 
 pub returns-then-not-pass : goal.returns-then-not-pass
 returns-then-not-pass c =
-    going-quiet _ _ _ _ _ _ _ _ c.loop-k.invariant.1 c.pass.ensures (not-true _ c.if-not-pass.true)
+    going-quiet _ _ _ _ _ _ _ _ c.loop-k.invariant.1 c.pass.ensures (c.if-not-pass.true)
 
 pub overflow_add-k : goal.overflow_add-k
 overflow_add-k c =

@@ -18,18 +18,15 @@ bounds-lead-s c = omega (arith, c.requires.0.outputs, c.requires.2.below c.loop-
 
 pub try_refresh-requires : goal.try_refresh-requires
 try_refresh-requires c =
-    let l = c.loop-p in
-    (c.requires.0, bytes-kept l.invariant.1.kept c.requires.1, c.requires.2.below l.p (omega arith), c.round_in-t.ensures.high)
+    (c.requires.0, bytes-kept c.loop-p.invariant.1.kept c.requires.1, c.requires.2.below c.loop-p.p (omega arith), c.round_in-t.ensures.high)
 
 pub loop-p-preserved : goal.loop-p-preserved
 loop-p-preserved c =
-    let l = c.loop-p in
-    let a = c.args in
-    let f = sides a.block.counts a.code.now a.len.now a.letters.now in
-    let tried = c.try_refresh.ensures in (
+    let f = sides c.args.block.counts c.args.code.now c.args.len.now c.args.letters.now in
+    (
       omega arith,
-      sweeps-then _ _ _ _ _ _ _ _ _ _ _ l.invariant.1
-          (block_more _ _ f _ _ _ _ _ c.requires.2 l.p _ (omega arith) refl _ _ _ c.round_in-t.ensures tried.0 tried.1),
+      sweeps-then _ _ _ _ _ _ _ _ _ _ _ c.loop-p.invariant.1
+          (block_more _ _ f _ _ _ _ _ c.requires.2 c.loop-p.p _ (omega arith) refl _ _ _ c.round_in-t.ensures c.try_refresh.ensures.0 c.try_refresh.ensures.1),
     )
 
 pub shape_of-buf : goal.shape_of-buf
@@ -37,6 +34,5 @@ shape_of-buf c = c.loop-p.invariant.1.kept.same_length
 
 pub returns : goal.returns
 returns c =
-    let l = c.loop-p in
-    let e : l.p ≡ c.args.block.count = omega arith in
-    rw e at l.invariant.1
+    let e : c.loop-p.p ≡ c.args.block.count = omega arith in
+    rw e at c.loop-p.invariant.1

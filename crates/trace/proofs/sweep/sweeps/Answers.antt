@@ -25,8 +25,7 @@ sweep-requires c =
 
 pub loop-k-preserved : goal.loop-k-preserved
 loop-k-preserved c =
-    let a = c.args in
-    let more = extends-sweep _ _ (sides a.counts a.code.now a.len.now a.letters.now) _ _ _ _ _ _ _ c.requires.0.outputs c.leads-lead.ensures c.settle-settled.ensures c.sweep.ensures in
+    let more = extends-sweep _ _ (sides c.args.counts c.args.code.now c.args.len.now c.args.letters.now) _ _ _ _ _ _ _ c.requires.0.outputs c.leads-lead.ensures c.settle-settled.ensures c.sweep.ensures in
     (omega arith, extends-then _ _ _ _ _ _ _ _ _ _ c.loop-k.invariant.1 more)
 
 pub shape_of-buf : goal.shape_of-buf

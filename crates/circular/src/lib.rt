@@ -1,5 +1,6 @@
 // Rule 10, and with it rules 1 to 10 of a sheet: a sheet is circular exactly if some value of some trace reaches itself by reads.
 #![tactic(auto)]
+
 ghost use Rattle.outcomes.specs.Decided.{Decided};
 ghost use Rattle.sheet.specs.Reading.{when_accepted, blank_if_refused};
 ghost use Rattle.circular.specs.SheetChecks.{sheet_checks, AcceptedSheet};

@@ -1,5 +1,6 @@
 // The letters that fit an alternative's marks, looked up in a table by the index of the marks.
 #![tactic(auto)]
+
 ghost use Rattle.std.specs.Prelude.{◌≡◌, ◌<◌, ◌≤◌, length};
 ghost use Rattle.buffer.specs.Wrote.{Placed};
 ghost use Rattle.letter_table.specs.Entry.{entry_of, table_text, Sets};

@@ -1,5 +1,6 @@
 // A round's set of letters: bit l of the word is letter l. What it is refused for, and how it is made from masks.
 #![tactic(auto)]
+
 ghost use Rattle.std.specs.Prelude.{◌≡◌, ◌&&◌, ℕ, ◌%◌, ◌^◌, ◌<◌, ◌≤◌, ltb};
 ghost use Rattle.words.specs.Bits.{bit};
 ghost use Rattle.letters.specs.Masks.{bad_masks};

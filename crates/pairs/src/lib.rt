@@ -1,5 +1,6 @@
 // Sets of pairs in the storage's words: the live set, the reached set and the scratch set.
 #![tactic(auto)]
+
 ghost use Rattle.std.specs.Prelude.{◌≡◌, ◌&&◌, eqb, length, ◌+◌, ◌*◌, ◌<◌, ◌≤◌};
 ghost use Rattle.std.proofs.Math.Option.{none, some};
 ghost use Rattle.completions.specs.Live.{count_pairs};

@@ -1,5 +1,6 @@
 // The journal record and the answers as slices of 32-bit numbers.
 #![tactic(auto)]
+
 ghost use Rattle.std.specs.Prelude.{◌≡◌, ◌+◌, ◌≤◌, ◌&&◌, eqb, leb, length};
 ghost use Rattle.words.specs.Below.{one};
 ghost use Rattle.std.proofs.Math.Seq.{paste};

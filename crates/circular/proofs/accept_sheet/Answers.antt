@@ -8,27 +8,27 @@ use Rattle.circular.proofs.accept_sheet.Goals as goal
 
 pub all_reads-words-requires : goal.all_reads-words-requires
 all_reads-words-requires c =
-    let u = rw c.enum_told.given.1 at c.read-sheet.ensures.1.0 in
+    let u = rw c.in-Accepted.is at c.read_sheet-got.ensures.usable in
     (u.ranges.outputs, u.code_size, u.sizes, u.small)
 
 pub circular-requires : goal.circular-requires
 circular-requires c =
-    let u = rw c.enum_told.given.1 at c.read-sheet.ensures.1.0 in
+    let u = rw c.in-Accepted.is at c.read_sheet-got.ensures.usable in
     (u.ranges.inputs, u.ranges.outputs)
 
 pub returns-then-circular : goal.returns-then-circular
 returns-then-circular c =
-    let told = sheet-circular c.read-sheet.result.sheet (rw c.enum_told.given.1 at c.read-sheet.ensures.1.0) _ c.all_reads-words.ensures (c.circular.ensures.yes c.if-circular.taken) in
-    rw c.refused_sheet.ensures.0 (round _ (rule_sheet c.read-sheet.result.sheet) (sym (rw c.enum_told.given.1 at c.read-sheet.ensures.0)) told, (tt, c.refused_sheet.ensures.1))
+    let told = sheet-circular c.read_sheet-got.result.sheet (rw c.in-Accepted.is at c.read_sheet-got.ensures.usable) _ c.all_reads-words.ensures (c.circular.ensures.yes c.if-circular.true) in
+    rw c.refused_sheet.ensures.0 (record { decided = round _ (rule_sheet c.read_sheet-got.result.sheet) (sym (rw c.in-Accepted.is at c.read_sheet-got.ensures.reading)) told; sheet = tt; refused = c.refused_sheet.ensures.1 })
 
 pub returns-else-circular : goal.returns-else-circular
 returns-else-circular c =
-    let e = sym (rw c.enum_told.given.1 at c.read-sheet.ensures.0) in
-    let u = rw c.enum_told.given.1 at c.read-sheet.ensures.1.0 in
-    let n : CircularSheet (rule_sheet c.read-sheet.result.sheet) → ⊥ = λ k. c.circular.ensures.no c.if-circular.left (circular-sheet c.read-sheet.result.sheet u _ c.all_reads-words.ensures k) in
-    let d = level _ (rule_sheet c.read-sheet.result.sheet) e n in
-    rw c.enum_told.given.1 (d, (record { decided = d; reads = e; usable = u; level = n }, tt))
+    let e = sym (rw c.in-Accepted.is at c.read_sheet-got.ensures.reading) in
+    let u = rw c.in-Accepted.is at c.read_sheet-got.ensures.usable in
+    let n : CircularSheet (rule_sheet c.read_sheet-got.result.sheet) → ⊥ = λ k. c.circular.ensures.no c.if-circular.false (circular-sheet c.read_sheet-got.result.sheet u _ c.all_reads-words.ensures k) in
+    let d = level _ (rule_sheet c.read_sheet-got.result.sheet) e n in
+    rw c.in-Accepted.is (record { decided = d; sheet = record { decided = d; reads = e; usable = u; level = n }; refused = tt })
 
 pub returns-in-Refused : goal.returns-in-Refused
 returns-in-Refused c =
-    rw c.in-Refused.is (unread _ _ (sym (rw c.in-Refused.is at c.read_sheet-got.ensures.reading)), (tt, rw c.in-Refused.is at c.read_sheet-got.ensures.refused))
+    rw c.in-Refused.is (record { decided = unread _ _ (sym (rw c.in-Refused.is at c.read_sheet-got.ensures.reading)); sheet = tt; refused = rw c.in-Refused.is at c.read_sheet-got.ensures.refused })

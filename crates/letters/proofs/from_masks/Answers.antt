@@ -3,28 +3,22 @@ use mathlib.Core.Path.{sym, ◌∙◌}
 use mathlib.Core.Logic.{⊎_elim}
 use native.Mathlib.Omega.{arith}
 use Rattle.letters.proofs.SetLaws.{no-inputs, many-inputs, masks-refused, masks-taken, made_none, mask-set}
-use borrow.Author.Tests.{ltb-false}
 use Rattle.letters.proofs.from_masks.Goals as goal
 
-pub returns-then-m-eq0 : goal.returns-then-m-eq0
-returns-then-m-eq0 c =
-    made_none _ _ _ _ _ c.refused.ensures
-    (⊎_elim (λ none. no-inputs _ _ _ none.taken) (λ many. many-inputs _ _ _ many.0.left many.1.taken) c.then-m-eq0.branch)
-
 pub bad_masks-requires : goal.bad_masks-requires
-bad_masks-requires c = ltb-false 6 _ c.if-m-gt6.false
+bad_masks-requires c = c.if-m-gt6.false
 
 pub returns-then-bad_masks : goal.returns-then-bad_masks
 returns-then-bad_masks c =
     made_none _ _ _ _ _ c.refused-then-bad_masks.ensures
-    (masks-refused _ _ _ (omega arith) (ltb-false 6 _ c.if-m-gt6.false) (sym c.bad_masks.ensures ∙ c.if-bad_masks.true))
+    (masks-refused _ _ _ (omega arith) (c.if-m-gt6.false) (sym c.bad_masks.ensures ∙ c.if-bad_masks.true))
 
 pub letters_of-requires : goal.letters_of-requires
-letters_of-requires c = ltb-false 6 _ c.if-m-gt6.false
+letters_of-requires c = c.if-m-gt6.false
 
 pub returns : goal.returns
 returns c =
-    let few = ltb-false 6 _ c.if-m-gt6.false in
+    let few = c.if-m-gt6.false in
     let good = sym c.bad_masks.ensures ∙ c.if-bad_masks.false in
     record {
       decided = masks-taken _ _ _ (omega arith) few good;

@@ -8,7 +8,7 @@ use Rattle.letters.specs.Matching.{matches}
 use Rattle.letters.proofs.letters_of.Given as goal
 
 abbrev pub invariant-loop-i : goal.invariant-loop-i
-invariant-loop-i l = (l.i ≤ 6) × ((l : ℕ) → l < 64 → bit l l.set ≡ (ltb l (2 ^ l.m) && matches l.known l.value l.i l))
+invariant-loop-i here = (here.i ≤ 6) × ((l : ℕ) → l < 64 → bit l here.set ≡ (ltb l (2 ^ here.m) && matches here.known here.value here.i l))
 
 abbrev pub decreases-loop-i : goal.decreases-loop-i
 decreases-loop-i l = 6 - l.i

@@ -4,7 +4,7 @@ use Rattle.pairs.proofs.Fill.{Filling}
 use Rattle.pairs.proofs.clear_words.Given as goal
 
 abbrev pub invariant-loop-k : goal.invariant-loop-k
-invariant-loop-k l = Filling l.at l.n (λ l.k. 0) l.initial.s l.s l.k
+invariant-loop-k l = Filling l.at l.n (λ k. 0) l.initial.s l.s l.k
 
 abbrev pub decreases-loop-k : goal.decreases-loop-k
 decreases-loop-k l = l.n - l.k

@@ -15,13 +15,12 @@ pub output_reads-requires : goal.output_reads-requires
 output_reads-requires c = c.requires
 
 pub loop-s-preserved : goal.loop-s-preserved
-loop-s-preserved c =
-    (
-      omega arith,
-      simp length-set (search rules),
-      set_more (λ j x. OutputWord c.args.code.now c.args.len.now c.args.n j x) c.loop-s.words c.loop-s.s c.output_reads.result (omega arith)
-          c.output_reads.ensures c.loop-s.invariant.2,
-    )
+loop-s-preserved c = (
+  omega arith,
+  simp length-set (search rules),
+  set_more (λ j x. OutputWord c.args.code.now c.args.len.now c.args.n j x) c.loop-s.words c.loop-s.s c.output_reads.result (omega arith)
+      c.output_reads.ensures c.loop-s.invariant.2,
+)
 
 pub returns : goal.returns
 returns c = record { rows = λ j h. c.loop-s.invariant.2 j (omega arith) }

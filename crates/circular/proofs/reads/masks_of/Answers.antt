@@ -15,14 +15,13 @@ pub mask_at-requires : goal.mask_at-requires
 mask_at-requires c = omega (arith, c.stream_of.ensures)
 
 pub loop-i-preserved : goal.loop-i-preserved
-loop-i-preserved c =
-    (
-      omega arith,
-      simp length-set (search rules),
-      set_more (λ j x. Mask (get_or c.args.words.now (j / 7) 0) (c.args.m + j % 7) x) c.loop-i.masks c.loop-i.i c.mask_at.result (omega arith)
-          (rw c.stream_of.ensures at c.mask_at.ensures)
-          c.loop-i.invariant.2,
-    )
+loop-i-preserved c = (
+  omega arith,
+  simp length-set (search rules),
+  set_more (λ j x. Mask (get_or c.args.words.now (j / 7) 0) (c.args.m + j % 7) x) c.loop-i.masks c.loop-i.i c.mask_at.result (omega arith)
+      (rw c.stream_of.ensures at c.mask_at.ensures)
+      c.loop-i.invariant.2,
+)
 
 pub returns : goal.returns
 returns c = record { cells = λ j h. c.loop-i.invariant.2 j (omega arith) }

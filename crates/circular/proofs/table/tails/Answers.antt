@@ -17,13 +17,12 @@ pub bounds-t-k-in-loop-q : goal.bounds-t-k-in-loop-q
 bounds-t-k-in-loop-q c = omega (arith, c.requires.1.size)
 
 pub loop-q-preserved : goal.loop-q-preserved
-loop-q-preserved c =
-    (
-      omega arith,
-      simp length-set c.loop-q.invariant.1,
-      set_more (λ j x. x ≡ loop_n (get_or c.args.t.now (8 * c.args.k + c.args.k) 0) (get_or c.args.t.now (8 * c.args.k + j) 0))
-          c.loop-q.new c.loop-q.q c.looped.result (omega arith) c.looped.ensures c.loop-q.invariant.2,
-    )
+loop-q-preserved c = (
+  omega arith,
+  simp length-set c.loop-q.invariant.1,
+  set_more (λ j x. x ≡ loop_n (get_or c.args.t.now (8 * c.args.k + c.args.k) 0) (get_or c.args.t.now (8 * c.args.k + j) 0))
+      c.loop-q.new c.loop-q.q c.looped.result (omega arith) c.looped.ensures c.loop-q.invariant.2,
+)
 
 pub returns : goal.returns
 returns c = record { cells = λ j h. c.loop-q.invariant.2 j (omega arith) }

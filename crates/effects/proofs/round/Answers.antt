@@ -9,6 +9,6 @@ returns c =
     let d = c.step.ensures (required_of c.args.x.assumed) in
     (
       refl,
-      round-done c.args.x c.requires.0 c.args.storage.now c.step.new.0 c.args.r c.args.letters c.repeated.result _ c.repeated.ensures d
-          (c.round_verdicts-verdicts.ensures (heard-firsts c.args.x c.requires.0 c.args.storage.now c.step.new.0 c.args.r.rounds c.repeated.result d)) c.with_round-next.ensures.0 c.with_round-next.ensures.1 c.with_round-next.ensures.2,
+      round-done c.args.x c.requires.0 c.args.storage.now c.step.new.storage c.args.r c.args.letters c.repeated-heard.result _ c.repeated-heard.ensures d
+          (c.round_verdicts-verdicts.ensures (heard-firsts c.args.x c.requires.0 c.args.storage.now c.step.new.storage c.args.r.rounds c.repeated-heard.result d)) c.with_round-next.ensures.0 c.with_round-next.ensures.1 c.with_round-next.ensures.2,
     )

@@ -18,7 +18,7 @@ returns-in-Round c =
 
 pub returns-in-Closing : goal.returns-in-Closing
 returns-in-Closing c =
-    record { ended = λ sheet b part o sv h. c.closing_line.ensures.ended sheet b part o sv (asks-told sheet _ b _ _ part _ _ sv h c.enum-told2.given.1); bound = c.closing_line.ensures.bound }
+    record { ended = λ sheet b part o sv h. c.closing_line.ensures.ended sheet b part o sv (asks-told sheet _ b _ _ part _ _ sv h c.in-Closing.is); bound = c.closing_line.ensures.bound }
 
 pub returns-in-Malformed : goal.returns-in-Malformed
 returns-in-Malformed c =

@@ -74,15 +74,15 @@ loop-size-preserved c =
     )
 
 pub count-live-requires : goal.count-live-requires
-count-live-requires c = c.loop.invariant.6
+count-live-requires c = c.loop-size.invariant.6
 
 pub overflow_sub-reach : goal.overflow_sub-reach
 overflow_sub-reach c =
-    omega (arith, layers-some _ _ _ _ c.requires.coded_by.sized.streams c.args.assumed c.requires.below.0 _ _ _ _ _ _ _ _ (c.loop.invariant.12 (required_of c.args.assumed) (c.fill-allowed.ensures _ _)) c.loop.invariant.11 c.next_bit.ensures c.if1.false)
+    omega (arith, layers-some _ _ _ _ c.requires.coded_by.sized.streams c.args.assumed c.requires.below.0 _ _ _ _ _ _ _ _ (c.loop-size.invariant.12 (required_of c.args.assumed) (c.fill_allowed.ensures _ _)) c.loop-size.invariant.11 c.next_bit.ensures c.loop-size-test.false)
 
 pub returns : goal.returns
 returns c =
     let f =
-    search-finish _ _ _ _ c.requires.coded_by.sized.streams c.args.assumed c.requires.below.0 _ _ _ _ _ _ _ _ (c.loop.invariant.12 (required_of c.args.assumed) (c.fill-allowed.ensures _ _)) c.loop.invariant.11
-    c.next_bit.ensures c.if1.false _ _ _ c.loop.invariant.9 c.loop.invariant.8 c.loop.invariant.10 c.start.ensures c.count-live.ensures.0 c.count-live.ensures.1 in
+    search-finish _ _ _ _ c.requires.coded_by.sized.streams c.args.assumed c.requires.below.0 _ _ _ _ _ _ _ _ (c.loop-size.invariant.12 (required_of c.args.assumed) (c.fill_allowed.ensures _ _)) c.loop-size.invariant.11
+    c.next_bit.ensures c.loop-size-test.false _ _ _ c.loop-size.invariant.9 c.loop-size.invariant.8 c.loop-size.invariant.10 c.start.ensures c.count-live.ensures.0 c.count-live.ensures.1 in
     record { searched = f.0; exact_reach = (subst (ExactReach _) (omega arith) f.1, omega (arith, f.2)) }

@@ -44,11 +44,11 @@ loop-b-preserved c =
       omega arith,
       omega arith,
       λ ks r.
-          swept-more _ _ _ _ c.before.requires.0.sized.wide.most _ _ c.before.requires.1.1.1 c.before.requires.1.1.0.0 c.before.requires.1.1.0.1 c.before.requires.1.1.0.3 c.before.requires.1.1.0.4 _ _ _ _ _ c.loop-test.true (c.loop.invariant.4 ks r)
+          swept-more _ _ _ _ c.before.requires.0.sized.wide.most _ _ c.before.requires.1.1.1 c.before.requires.1.1.0.0 c.before.requires.1.1.0.1 c.before.requires.1.1.0.3 c.before.requires.1.1.0.4 _ _ _ _ _ c.loop-b-test.true (c.loop-b.invariant.4 ks r)
           (column-joins _ _ (streams-low _ _ _ _ ks _ (sized-under _ c.before.requires.0.sized)) _ _ _ _ _ _
           (row_from _ _ _ _ _ _ (λ a l. empty_row 4 a) r (c.unite_row.ensures ks)) c.join_row.ensures.joins)
           c.take_row.ensures c.next_bit-b-in-loop-b.ensures,
-      λ e. occupied_beside _ _ _ _ _ _ _ c.before.requires.0.sized.wide.most c.before.requires.1.1.0.4 c.take_row.ensures (c.join_row.ensures.occupied (c.loop.invariant.5 e)),
+      λ e. occupied_beside _ _ _ _ _ _ _ c.before.requires.0.sized.wide.most c.before.requires.1.1.0.4 c.take_row.ensures (c.join_row.ensures.occupied (c.loop-b.invariant.5 e)),
     )
 
 pub returns : goal.returns

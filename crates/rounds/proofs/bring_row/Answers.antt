@@ -31,8 +31,8 @@ loop-b-preserved c =
       omega arith,
       omega arith,
       λ p r ks.
-          bring-more _ _ _ _ p c.requires.sized.0.most_valuations c.requires.sized.3 _ _ _ _ _ c.requires.sized.0.wide.under c.loop-b-test.true (c.loop.invariant.3 p r ks)
-          (c.gain-row.ensures p (c.seen.ensures p r) ks) c.next_member-b-in-loop-b.ensures,
+          bring-more _ _ _ _ p c.requires.sized.0.most_valuations c.requires.sized.3 _ _ _ _ _ c.requires.sized.0.wide.under c.loop-b-test.true (c.loop-b.invariant.3 p r ks)
+          (c.gain_row.ensures p (c.seen-env.ensures p r) ks) c.next_member-b-in-loop-b.ensures,
     )
 
 pub gain_ends-requires : goal.gain_ends-requires

@@ -14,7 +14,7 @@ use Rattle.rounds.proofs.GroupLaws.{sparse_brought, no_ends}
 use Rattle.rounds.proofs.later_round.Goals as goal
 
 pub group_rows-requires : goal.group_rows-requires
-group_rows-requires c = (c.type_size.ensures.1, search rules, omega arith)
+group_rows-requires c = (c.type_size.ensures.sized, search rules, omega arith)
 
 pub bring_pairs-requires : goal.bring_pairs-requires
 bring_pairs-requires c =

@@ -40,13 +40,13 @@ four_value-requires c =
 
 pub returns-then-is_empty : goal.returns-then-is_empty
 returns-then-is_empty c =
-    agree-stop _ _ _ _ _ _ _ _ _ (c.loop.k + 1) (omega arith)
-    (agree-more _ _ _ _ _ _ _ _ _ _ _ _ _ c.requires.coded c.loop-test.true c.loop.invariant.4 c.four-value.ensures c.output-stream.ensures c.keep_row.ensures)
+    agree-stop _ _ _ _ _ _ _ _ _ (c.loop-k.k + 1) (omega arith)
+    (agree-more _ _ _ _ _ _ _ _ _ _ _ _ _ c.requires.coded c.loop-k-test.true c.loop-k.invariant.4 c.four_value.ensures c.output_stream-q.ensures c.keep_row.ensures)
     (c.is_empty.ensures c.if-is_empty.true)
 
 pub loop-k-preserved : goal.loop-k-preserved
 loop-k-preserved c =
-    (omega arith, omega arith, omega arith, omega arith, agree-more _ _ _ _ _ _ _ _ _ _ _ _ _ c.requires.coded c.loop-test.true c.loop.invariant.4 c.four-value.ensures c.output-stream.ensures c.keep_row.ensures)
+    (omega arith, omega arith, omega arith, omega arith, agree-more _ _ _ _ _ _ _ _ _ _ _ _ _ c.requires.coded c.loop-k-test.true c.loop-k.invariant.4 c.four_value.ensures c.output_stream-q.ensures c.keep_row.ensures)
 
 pub returns : goal.returns
 returns c = agree-all _ _ _ _ _ _ _ _ _ _ (omega arith) (omega arith) c.loop-k.invariant.4

@@ -14,20 +14,20 @@ returns-then-used-eq0 c = step_lacks _ _ _ _ _ _ _ c.if-used-eq0.true (omega ari
 
 pub returns-then-e-eq3 : goal.returns-then-e-eq3
 returns-then-e-eq3 c =
-    step-and _ _ _ _ _ _ _ _ c.if4.false c.if-e-eq3.true c.and_row.ensures
+    step-and _ _ _ _ _ _ _ _ c.if-used-eq0.false c.if-e-eq3.true c.and_row.ensures
 
 pub returns-then-used-eq0-2 : goal.returns-then-used-eq0-2
 returns-then-used-eq0-2 c = step_lacks _ _ _ _ _ _ _ c.if-used-eq0-2.true (omega arith) (omega arith)
 
 pub returns-then-e-eq4 : goal.returns-then-e-eq4
 returns-then-e-eq4 c =
-    step-or _ _ _ _ _ _ _ _ c.if7.false c.if-e-eq4.true c.or_row.ensures
+    step-or _ _ _ _ _ _ _ _ c.if-used-eq0-2.false c.if-e-eq4.true c.or_row.ensures
 
 pub returns-then-used-eq0-3 : goal.returns-then-used-eq0-3
 returns-then-used-eq0-3 c = step_lacks _ _ _ _ _ _ _ c.if-used-eq0-3.true (omega arith) (omega arith)
 
 pub returns-then-e-gt3 : goal.returns-then-e-gt3
-returns-then-e-gt3 c = step-equal _ _ _ _ _ _ _ _ c.if8.false (omega arith) (omega arith) c.equal_row.ensures
+returns-then-e-gt3 c = step-equal _ _ _ _ _ _ _ _ c.if-used-eq0-3.false (omega arith) (omega arith) c.equal_row.ensures
 
 pub returns : goal.returns
 returns c =

@@ -20,7 +20,7 @@ loop-j-init c =
     (omega arith, refl, λ y p f. ends-none _ _ _ _ _ p c.requires.sized.0.wide c.requires.sized.3)
 
 pub overflow_add-j : goal.overflow_add-j
-overflow_add-j c = omega (arith, c.loop-test.true, c.before.before.before.requires.1.0.wide.most)
+overflow_add-j c = omega (arith, c.loop-j-test.true, c.before.before.before.requires.1.0.wide.most)
 
 pub loop-j-preserved : goal.loop-j-preserved
 loop-j-preserved c =
@@ -28,8 +28,8 @@ loop-j-preserved c =
       omega arith,
       omega arith,
       λ y p f.
-          ends_more _ _ _ _ _ p c.requires.sized.0.wide c.requires.sized.3 _ _ _ _ _ _ _ c.loop-test.true (c.loop.invariant.2 y p f) c.ends-word.ensures c.row_word.ensures
-          c.lanes-below.ensures (λ i g. f c.loop.j i c.loop-test.true g)
+          ends_more _ _ _ _ _ p c.requires.sized.0.wide c.requires.sized.3 _ _ _ _ _ _ _ c.loop-j-test.true (c.loop-j.invariant.2 y p f) c.ends_word-live.ensures c.row_word.ensures
+          c.lanes_below-low.ensures (λ i g. f c.loop-j.j i c.loop-j-test.true g)
           c.insert_ends.ensures,
     )
 

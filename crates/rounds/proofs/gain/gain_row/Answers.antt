@@ -26,9 +26,9 @@ loop-j-preserved c =
       omega arith,
       omega arith,
       λ y p f.
-          row_more _ _ _ _ _ _ _ p (c.loop.invariant.2 y p f)
-          (word-gained _ _ _ _ _ (live-masked _ _ _ _ _ _ _ c.requires.sized.0.wide c.loop-test.true c.row_word.ensures c.lanes-below.ensures)
-          _ p _ _ (λ i h. f c.loop.j i c.loop-test.true h) c.insert_word.ensures),
+          row_more _ _ _ _ _ _ _ p (c.loop-j.invariant.2 y p f)
+          (word-gained _ _ _ _ _ (live-masked _ _ _ _ _ _ _ c.requires.sized.0.wide c.loop-j-test.true c.row_word.ensures c.lanes_below-low.ensures)
+          _ p _ _ (λ i h. f c.loop-j.j i c.loop-j-test.true h) c.insert_word.ensures),
     )
 
 pub returns : goal.returns

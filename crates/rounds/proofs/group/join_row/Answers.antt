@@ -10,7 +10,7 @@ loop-j-init c = (omega arith, refl, joined-none _ _ _ _ c.requires.1)
 
 pub loop-j-preserved : goal.loop-j-preserved
 loop-j-preserved c =
-    (omega arith, omega arith, joined-more _ _ _ _ c.requires.1 _ _ _ _ (omega arith) c.row_word-x.ensures c.loop.invariant.2 c.insert_word.ensures)
+    (omega arith, omega arith, joined-more _ _ _ _ c.requires.1 _ _ _ _ (omega arith) c.row_word-x.ensures c.loop-j.invariant.2 c.insert_word.ensures)
 
 pub returns : goal.returns
 returns c = joined-all _ _ _ _ c.requires.1 _ _ _ c.loop-j.invariant.0 c.loop-j-test.false c.loop-j.invariant.2

@@ -17,11 +17,11 @@ returns-then-covers c = λ ks. united_old _ _ _ _ (c.covers.ensures c.if-covers.
 
 pub predecessors-requires : goal.predecessors-requires
 predecessors-requires c =
-    record { coded = c.before.requires.0.coded; words_bound = (c.before.requires.0.sized.wide.most, refl, omega (arith, stack-most c.before.args.size.words)) }
+    record { coded = c.requires.coded_by.coded; words_bound = (c.requires.coded_by.sized.wide.most, refl, omega (arith, stack-most c.args.size.words)) }
 
 pub returns : goal.returns
 returns c =
     λ ks.
     united_as _ _ _ _ _ c.gain.ensures
-    (λ a l. ap (λ (u : Bool). row_bit c.before.args.ok.now 0 a && u)
-    (lanes_row _ _ (λ a. holds (sheet_by c.before.args.size c.before.args.code.now c.before.args.len.now ks) (some a) c.before.args.pair.b (unless c.before.args.pair.last c.before.args.pair.c)) (c.predecessors.ensures _ c.ahead-env.ensures ks) a l))
+    (λ a l. ap (λ (u : Bool). row_bit c.args.ok.now 0 a && u)
+    (lanes_row _ _ (λ a. holds (sheet_by c.args.size c.args.code.now c.args.len.now ks) (some a) c.args.pair.b (unless c.args.pair.last c.args.pair.c)) (c.predecessors.ensures _ c.ahead-env.ensures ks) a l))

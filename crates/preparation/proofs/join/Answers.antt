@@ -9,4 +9,4 @@ returns-then-has c =
 
 pub returns : goal.returns
 returns c =
-    record { joins = joined-both _ _ _ _ _ _ c.before.requires.2 (sym c.has.ensures ∙ c.if-has.false) c.insert.ensures c.insert-2.ensures; by_index = λ w hw ha. occupied_more w _ _ _ _ _ _ _ _ ha hw c.before.requires.1 c.before.requires.2 c.insert.ensures c.insert-2.ensures c.note.ensures }
+    record { joins = joined-both _ _ _ _ _ _ c.requires.2 (sym c.has.ensures ∙ c.if-has.false) c.insert.ensures c.insert-2.ensures; by_index = λ w hw ha. occupied_more w _ _ _ _ _ _ _ _ ha hw c.requires.1 c.requires.2 c.insert.ensures c.insert-2.ensures c.note.ensures }

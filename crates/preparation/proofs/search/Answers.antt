@@ -61,7 +61,7 @@ loop-size-preserved c =
       c.loop-size.invariant.1,
       c.loop-size.invariant.2,
       c.loop-size.invariant.3,
-      search (rules, c.sweep-occupied.type-inv),
+      search (rules, c.sweep-occupied.type_inv),
       omega arith,
       omega arith,
       omega arith,

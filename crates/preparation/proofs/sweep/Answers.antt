@@ -16,22 +16,22 @@ loop-b-init c =
 
 pub unite_row-requires : goal.unite_row-requires
 unite_row-requires c =
-    record { coded_by = c.before.requires.0; row_len = (refl, c.before.requires.1.0.1, omega arith, omega (arith, c.before.requires.0.sized.wide.most), c.before.requires.1.1.0.1, omega arith) }
+    record { coded_by = c.requires.coded_by; row_len = (refl, c.requires.occupied_len.1, omega arith, omega (arith, c.requires.coded_by.sized.wide.most), c.requires.reached_at_le_layer.1, omega arith) }
 
 pub join_row-requires : goal.join_row-requires
 join_row-requires c =
-    (c.before.requires.0.sized.wide.most, omega (arith, c.before.requires.0.sized.wide.most), c.before.requires.1.1.0.2, c.before.requires.1.1.0.3, search rules, search rules, omega arith)
+    (c.requires.coded_by.sized.wide.most, omega (arith, c.requires.coded_by.sized.wide.most), c.requires.reached_at_le_layer.2, c.requires.reached_at_le_layer.3, search rules, search rules, omega arith)
 
 pub take_row-requires : goal.take_row-requires
 take_row-requires c =
-    (omega (arith, c.before.requires.0.sized.wide.most), c.before.requires.1.1.0.1, omega arith)
+    (omega (arith, c.requires.coded_by.sized.wide.most), c.requires.reached_at_le_layer.1, omega arith)
 
 pub overflow_add-b : goal.overflow_add-b
-overflow_add-b c = omega (arith, c.before.requires.0.sized.wide.most)
+overflow_add-b c = omega (arith, c.requires.coded_by.sized.wide.most)
 
 pub next_bit-b-requires-in-loop-b : goal.next_bit-b-requires-in-loop-b
 next_bit-b-requires-in-loop-b c =
-    (omega (arith, c.before.requires.0.sized.wide.most), c.before.requires.0.sized.wide.most, omega arith, omega (arith, c.before.requires.1.0.0))
+    (omega (arith, c.requires.coded_by.sized.wide.most), c.requires.coded_by.sized.wide.most, omega arith, omega (arith, c.requires.occupied_len.0))
 
 pub loop-b-smaller : goal.loop-b-smaller
 loop-b-smaller c = omega (arith, c.next_bit-b-in-loop-b.ensures.onward)
@@ -44,11 +44,11 @@ loop-b-preserved c =
       omega arith,
       omega arith,
       λ ks r.
-          swept-more _ _ _ _ c.before.requires.0.sized.wide.most _ _ c.before.requires.1.1.1 c.before.requires.1.1.0.0 c.before.requires.1.1.0.1 c.before.requires.1.1.0.3 c.before.requires.1.1.0.4 _ _ _ _ _ c.loop-b-test.true (c.loop-b.invariant.4 ks r)
-          (column-joins _ _ (streams-low _ _ _ _ ks _ (sized-under _ c.before.requires.0.sized)) _ _ _ _ _ _
+          swept-more _ _ _ _ c.requires.coded_by.sized.wide.most _ _ c.requires.occupied c.requires.reached_at_le_layer.0 c.requires.reached_at_le_layer.1 c.requires.reached_at_le_layer.3 c.requires.reached_at_le_layer.4 _ _ _ _ _ c.loop-b-test.true (c.loop-b.invariant.4 ks r)
+          (column-joins _ _ (streams-low _ _ _ _ ks _ (sized-under _ c.requires.coded_by.sized)) _ _ _ _ _ _
           (row_from _ _ _ _ _ _ (λ a l. empty_row 4 a) r (c.unite_row.ensures ks)) c.join_row.ensures.joins)
           c.take_row.ensures c.next_bit-b-in-loop-b.ensures,
-      λ e. occupied_beside _ _ _ _ _ _ _ c.before.requires.0.sized.wide.most c.before.requires.1.1.0.4 c.take_row.ensures (c.join_row.ensures.occupied (c.loop-b.invariant.5 e)),
+      λ e. occupied_beside _ _ _ _ _ _ _ c.requires.coded_by.sized.wide.most c.requires.reached_at_le_layer.4 c.take_row.ensures (c.join_row.ensures.occupied (c.loop-b.invariant.5 e)),
     )
 
 pub returns : goal.returns

@@ -10,34 +10,33 @@ loop-b-init c = (
   c.next_member-b.ensures.inside,
   refl,
   refl,
-  λ p r ks. bring-first _ _ _ _ p c.before.requires.1.0.most_valuations c.before.requires.1.3 _ _ c.before.requires.1.0.wide.under c.next_member-b.ensures,
+  λ p r ks. bring-first _ _ _ _ p c.requires.sized.0.most_valuations c.requires.sized.3 _ _ c.requires.sized.0.wide.under c.next_member-b.ensures,
 )
 
 pub seen-env-requires : goal.seen-env-requires
 seen-env-requires c =
-    (omega (arith, c.before.requires.1.0.most_valuations), omega (arith, c.before.requires.1.4.reads.shifted, c.before.requires.1.4.reads.beside.small))
+    (omega (arith, c.requires.sized.0.most_valuations), omega (arith, c.requires.sized.4.reads.shifted, c.requires.sized.4.reads.beside.small))
 
 pub gain_row-requires : goal.gain_row-requires
 gain_row-requires c =
-    record { coded = c.before.requires.0; sized = (c.before.requires.1.0, omega (arith, c.loop-b.invariant.2, c.before.requires.1.1), omega (arith, c.loop-b.invariant.1, c.before.requires.1.2), omega (arith, c.before.requires.1.0.most_valuations)) }
+    record { coded = c.requires.coded; sized = (c.requires.sized.0, omega (arith, c.loop-b.invariant.2, c.requires.sized.1), omega (arith, c.loop-b.invariant.1, c.requires.sized.2), omega (arith, c.requires.sized.0.most_valuations)) }
 
 pub loop-b-smaller : goal.loop-b-smaller
 loop-b-smaller c = omega (arith, c.next_member-b-in-loop-b.ensures.onward)
 
 pub loop-b-preserved : goal.loop-b-preserved
-loop-b-preserved c =
-    (
-      c.next_member-b-in-loop-b.ensures.inside,
-      omega arith,
-      omega arith,
-      λ p r ks.
-          bring-more _ _ _ _ p c.requires.sized.0.most_valuations c.requires.sized.3 _ _ _ _ _ c.requires.sized.0.wide.under c.loop-b-test.true (c.loop-b.invariant.3 p r ks)
-          (c.gain_row.ensures p (c.seen-env.ensures p r) ks) c.next_member-b-in-loop-b.ensures,
-    )
+loop-b-preserved c = (
+  c.next_member-b-in-loop-b.ensures.inside,
+  omega arith,
+  omega arith,
+  λ p r ks.
+      bring-more _ _ _ _ p c.requires.sized.0.most_valuations c.requires.sized.3 _ _ _ _ _ c.requires.sized.0.wide.under c.loop-b-test.true (c.loop-b.invariant.3 p r ks)
+      (c.gain_row.ensures p (c.seen-env.ensures p r) ks) c.next_member-b-in-loop-b.ensures,
+)
 
 pub gain_ends-requires : goal.gain_ends-requires
 gain_ends-requires c =
-    record { coded = c.before.requires.0; sized = (c.before.requires.1.0, omega (arith, c.loop-b.invariant.2, c.before.requires.1.1), omega (arith, c.loop-b.invariant.1, c.before.requires.1.2), c.before.requires.1.3, c.before.requires.1.4) }
+    record { coded = c.requires.coded; sized = (c.requires.sized.0, omega (arith, c.loop-b.invariant.2, c.requires.sized.1), omega (arith, c.loop-b.invariant.1, c.requires.sized.2), c.requires.sized.3, c.requires.sized.4) }
 
 pub returns : goal.returns
 returns c =

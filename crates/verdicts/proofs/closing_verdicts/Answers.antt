@@ -7,5 +7,5 @@ use Rattle.verdicts.proofs.closing_verdicts.Goals as goal
 
 pub returns : goal.returns
 returns c =
-    let v = ap (λ (z : Size). z.valuations) c.type_size.ensures.is in
-    verdicts_as _ _ _ _ (λ k l. ends-verdict _ _ _ _ _ _ v (omega (arith, v, c.type_size.ensures.sized.wide.under)) c.ends-f.ensures) c.verdicts.ensures
+    let v = ap (λ (z : Size). z.valuations) c.size_of-size.ensures.is in
+    verdicts_as _ _ _ _ (λ k l. ends-verdict _ _ _ _ _ _ v (omega (arith, v, c.size_of-size.ensures.sized.wide.under)) c.ends-f.ensures) c.verdicts.ensures

@@ -34,8 +34,3 @@ overflow_add-i c = omega (arith, lane c.before.before)
 
 pub loop-i-preserved : goal.loop-i-preserved
 loop-i-preserved c = filled_more _ _ _ _ _ _ c.loop-i-test.true c.loop-i.invariant c.is_followed-b.ensures c.with_lane-word.ensures
-
-pub returns : goal.returns
-returns c =
-    every_lane _ _ _ _ _ _ _ _ c.requires.0 c.requires.1 c.Lanes-Taken.ensures c.loop-i-test.false
-    (ends_lane _ _ _ _ _ c.ends_word.ensures c.lanes_below.ensures) c.loop-i.invariant

@@ -15,7 +15,7 @@ pub lanes_below-requires : goal.lanes_below-requires
 lanes_below-requires c = (omega arith, omega arith)
 
 pub loop-rest-init : goal.loop-rest-init
-loop-rest-init c = looking_start _ _ (omega (arith, c.lanes_below.type-inv, and_le_l c.lanes_below.result c.args.letters))
+loop-rest-init c = looking_start _ _ (omega (arith, c.lanes_below.type_inv, and_le_l c.lanes_below.result c.args.letters))
 
 pub overflow_cast-i : goal.overflow_cast-i
 overflow_cast-i c = omega (arith, trailing_le 64 c.loop-rest.rest)

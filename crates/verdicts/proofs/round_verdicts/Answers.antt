@@ -7,5 +7,5 @@ use Rattle.verdicts.proofs.round_verdicts.Goals as goal
 
 pub returns : goal.returns
 returns c = λ h.
-    let v = ap (λ (z : Size). z.valuations) c.type_size.ensures.is in
-    verdicts_as _ _ _ _ (λ k l. firsts_verdict _ _ _ _ _ _ _ v (omega (arith, v, c.type_size.ensures.sized.wide.under)) h c.firsts-f.ensures) c.verdicts.ensures
+    let v = ap (λ (z : Size). z.valuations) c.size_of-size.ensures.is in
+    verdicts_as _ _ _ _ (λ k l. firsts_verdict _ _ _ _ _ _ _ v (omega (arith, v, c.size_of-size.ensures.sized.wide.under)) h c.firsts-f.ensures) c.verdicts.ensures

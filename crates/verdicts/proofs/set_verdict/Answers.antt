@@ -7,5 +7,5 @@ use Rattle.verdicts.proofs.set_verdict.Goals as goal
 
 pub returns : goal.returns
 returns c =
-    let v = ap (λ (z : Size). z.valuations) c.type_size.ensures.is in
-    c.verdict.ensures _ c.set_test-test.ensures ∙ every_verdict _ _ _ _ _ _ v (omega (arith, v, c.type_size.ensures.sized.wide.under)) c.every_first-f.ensures
+    let v = ap (λ (z : Size). z.valuations) c.size_of-size.ensures.is in
+    c.verdict.ensures _ c.set_test-test.ensures ∙ every_verdict _ _ _ _ _ _ v (omega (arith, v, c.size_of-size.ensures.sized.wide.under)) c.every_first-f.ensures

@@ -18,7 +18,7 @@ pub returns-then-f-j-ne0 : goal.returns-then-f-j-ne0
 returns-then-f-j-ne0 c =
     let G = row_bit c.args.test.now 0 in
     sym (shows-words c.args.f.now G c.args.b c.args.w ∙ some_any c.args.w (shownIn c.args.f.now G c.args.b) c.loop-j.j c.loop-j-test.true
-    (shown-word c.args.f.now G c.args.b c.loop-j.j c.agree-p.result (c.type_inv.f c.loop-j.j).fits c.agree-p.type-inv
+    (shown-word c.args.f.now G c.args.b c.loop-j.j c.agree-p.result (c.type_inv.f c.loop-j.j).fits c.agree-p.type_inv
     (λ i h. c.agree-p.ensures i h ∙ ap (λ (u : Bool). beq u c.args.b) (sym (row_lane c.args.test.now c.loop-j.j i h))) ∙ ap not (ne_eqb _ _ c.if-f-j-ne0.true)))
 
 pub loop-j-preserved : goal.loop-j-preserved
@@ -26,7 +26,7 @@ loop-j-preserved c =
     let G = row_bit c.args.test.now 0 in (
       omega arith,
       any_one c.loop-j.j (shownIn c.args.f.now G c.args.b) ∙ ap₂ ◌||◌
-          (shown-word c.args.f.now G c.args.b c.loop-j.j c.agree-p.result (c.type_inv.f c.loop-j.j).fits c.agree-p.type-inv
+          (shown-word c.args.f.now G c.args.b c.loop-j.j c.agree-p.result (c.type_inv.f c.loop-j.j).fits c.agree-p.type_inv
           (λ i h. c.agree-p.ensures i h ∙ ap (λ (u : Bool). beq u c.args.b) (sym (row_lane c.args.test.now c.loop-j.j i h))) ∙ ap not (eq-eqb _ _ c.if-f-j-ne0.false))
           c.loop-j.invariant.1,
     )

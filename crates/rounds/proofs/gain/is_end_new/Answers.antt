@@ -12,7 +12,7 @@ pub returns-then-heard-live-ne0 : goal.returns-then-heard-live-ne0
 returns-then-heard-live-ne0 c = λ e. absurd (true≢false cc)
 
 pub loop-j-preserved : goal.loop-j-preserved
-loop-j-preserved c = (omega arith, no_end_more _ _ _ _ _ _ c.loop-j.invariant.1 c.row_word-heard.ensures c.ends_word-live.ensures c.ends_word.ensures c.ends_word.type-inv c.if-heard-live-ne0.false)
+loop-j-preserved c = (omega arith, no_end_more _ _ _ _ _ _ c.loop-j.invariant.1 c.row_word-heard.ensures c.ends_word-live.ensures c.ends_word.ensures c.ends_word.type_inv c.if-heard-live-ne0.false)
 
 pub returns : goal.returns
 returns c = λ e k h. c.loop-j.invariant.1 k (omega arith)

@@ -14,7 +14,7 @@ is_quiet-requires c = (omega arith, omega arith)
 
 pub loop-a-preserved-then-is_quiet : goal.loop-a-preserved-then-is_quiet
 loop-a-preserved-then-is_quiet c =
-    (omega arith, c.loop-a.invariant.1, c.loop-a.invariant.2, upto-quiet _ _ _ _ _ c.before.requires.0.most_valuations _ _ c.loop-a-test.true c.loop-a.invariant.3 (c.is_quiet.ensures c.if-is_quiet.true), c.loop-a.invariant.4)
+    (omega arith, c.loop-a.invariant.1, c.loop-a.invariant.2, upto-quiet _ _ _ _ _ c.requires.0.most_valuations _ _ c.loop-a-test.true c.loop-a.invariant.3 (c.is_quiet.ensures c.if-is_quiet.true), c.loop-a.invariant.4)
 
 pub group_row-requires : goal.group_row-requires
 group_row-requires c =
@@ -22,7 +22,7 @@ group_row-requires c =
 
 pub loop-a-preserved : goal.loop-a-preserved
 loop-a-preserved c =
-    (omega arith, omega arith, omega arith, upto-row _ _ _ _ _ c.before.requires.0.most_valuations _ _ _ c.loop-a-test.true c.loop-a.invariant.3 c.group_row.ensures.joined, λ f. c.group_row.ensures.sparse _ c.before.requires.0.most_valuations (c.loop-a.invariant.4 f))
+    (omega arith, omega arith, omega arith, upto-row _ _ _ _ _ c.requires.0.most_valuations _ _ _ c.loop-a-test.true c.loop-a.invariant.3 c.group_row.ensures.joined, λ f. c.group_row.ensures.sparse _ c.requires.0.most_valuations (c.loop-a.invariant.4 f))
 
 pub returns : goal.returns
 returns c =

@@ -9,3 +9,4 @@ returns-then-next-eq1 c = record { most = omega arith; reads = λ o h b. toward-
 
 pub returns : goal.returns
 returns c = farthest_of _ _ _ (⊎_elim (λ w. inl (w.0.taken, w.1)) (λ w. inr (w.0.left, w.1)) c.if-up.branch) c.if-next-eq1.false
+

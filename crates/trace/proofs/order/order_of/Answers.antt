@@ -10,12 +10,5 @@ use Rattle.trace.proofs.order.order_of.Goals as goal
 pub loop-i-init : goal.loop-i-init
 loop-i-init c = listing_start _ _ _ refl
 
-pub loop-i-preserved : goal.loop-i-preserved
-loop-i-preserved c =
-    ⊎_elim
-    (λ w. rw (w.1, w.2) (listing-push _ _ _ _ _ c.requires c.loop-i.invariant (omega arith) (c.is_due.ensures.0 w.0.taken)))
-    (λ w. rw (w.1, w.2) (listing-skip _ _ _ _ _ c.requires c.loop-i.invariant (omega arith) (λ d. true≢false (sym (c.is_due.ensures.1 d) ∙ w.0.left))))
-    c.if-is_due.branch
-
 pub returns : goal.returns
 returns c = listing-end _ _ _ _ _ c.requires c.loop-i.invariant (omega arith)

@@ -17,6 +17,3 @@ loop-s-preserved c =
       simp length-set (search rules),
       set_more (λ i x. Raised c.args.masks.now c.args.old.now c.args.n c.args.up c.args.settled i x) c.loop-s.lead c.loop-s.s c.raised.result (omega arith) c.raised.ensures c.loop-s.invariant.2,
     )
-
-pub returns : goal.returns
-returns c = c.loop-s.invariant.2 i (omega arith)

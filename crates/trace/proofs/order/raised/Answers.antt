@@ -10,6 +10,11 @@ use Rattle.trace.proofs.order.raised.Goals as goal
 pub loop-q-init : goal.loop-q-init
 loop-q-init c = (omega arith, raised-none _ _ _ _ _ _)
 
+pub returns : goal.returns
+returns c =
+    let e : c.loop-q.q ≡ c.args.n = omega arith in
+    rw e at c.loop-q.invariant.1
+
 pub loop-q-preserved : goal.loop-q-preserved
 loop-q-preserved c =
     (
@@ -19,8 +24,3 @@ loop-q-preserved c =
           (λ w. rw w.1 (raised-settled _ _ _ _ _ _ _ _ c.loop-q.invariant.1 (omega arith) (sym c.is_in.ensures ∙ not-false _ w.0.left)))
           c.if-not-is_in.branch,
     )
-
-pub returns : goal.returns
-returns c =
-    let e : c.loop-q.q ≡ c.args.n = omega arith in
-    rw e at c.loop-q.invariant.1

@@ -12,3 +12,4 @@ returns c =
     let was = bit c.args.s (get_or c.args.buf.now c.args.i 0) in
     put_byte _ _ _ _ _ c.requires.0 c.requires.1
     (⊎_elim (λ w. inl (w.1, beq_eq was c.args.v w.0.taken)) (λ w. inr (w.1, other_values was c.args.v w.0.left)) c.if-was-v.branch)
+

@@ -16,16 +16,6 @@ refresh_round-requires c = (c.requires.0, bytes-kept c.loop-t.invariant.2.kept c
 pub overflow_add-t : goal.overflow_add-t
 overflow_add-t c = omega (arith, c.requires.1.rounds)
 
-pub loop-t-preserved : goal.loop-t-preserved
-loop-t-preserved c =
-    (
-      omega arith,
-      omega arith,
-      passed_then _ _ _ _ _ _ _ _ _ _ _ _ (λ q u pl h. next-round _ u h)
-          (⊎_elim (λ w e. absurd (true≢false (sym w.1 ∙ e))) (λ w e. (sym w.1 ∙ e, w.0.left)) c.if-refresh_round.branch)
-          c.loop-t.invariant.2 c.refresh_round.ensures,
-    )
-
 pub shape_of-buf : goal.shape_of-buf
 shape_of-buf c = c.loop-t.invariant.2.kept.same_length
 

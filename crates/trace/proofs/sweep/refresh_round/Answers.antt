@@ -13,6 +13,12 @@ loop-s-init c = (omega arith, passed_none _ _ _ _ _ _ (λ q u pl h. omega (arith
 pub refresh-requires : goal.refresh-requires
 refresh-requires c = (c.requires.0, bytes-kept c.loop-s.invariant.1.kept c.requires.1, omega arith, c.requires.2, c.requires.3)
 
+pub shape_of-buf : goal.shape_of-buf
+shape_of-buf c = c.loop-s.invariant.1.kept.same_length
+
+pub returns : goal.returns
+returns c = passed-as _ _ _ _ _ _ _ _ (λ q u pl h. (omega (arith, pl.s_lt), h)) c.loop-s.invariant.1
+
 pub loop-s-preserved : goal.loop-s-preserved
 loop-s-preserved c = (
   omega arith,
@@ -20,9 +26,3 @@ loop-s-preserved c = (
       (⊎_elim (λ w e. absurd (true≢false (sym w.1 ∙ e))) (λ w e. (sym w.1 ∙ e, w.0.left)) c.if-refresh.branch)
       c.loop-s.invariant.1 (passed-one _ _ _ _ _ _ _ _ c.refresh.ensures.0 c.refresh.ensures.1),
 )
-
-pub shape_of-buf : goal.shape_of-buf
-shape_of-buf c = c.loop-s.invariant.1.kept.same_length
-
-pub returns : goal.returns
-returns c = passed-as _ _ _ _ _ _ _ _ (λ q u pl h. (omega (arith, pl.s_lt), h)) c.loop-s.invariant.1

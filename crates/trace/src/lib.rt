@@ -1,5 +1,6 @@
 // Whole-trace evaluation: the bytes of the outputs, round by round, are refreshed in place until they satisfy all equations.
 #![tactic(auto)]
+
 ghost use Rattle.std.specs.Prelude.{◌≡◌, ℕ, ◌<◌, ◌≤◌, length, get_or};
 ghost use Rattle.outcomes.specs.Decided.{Decided};
 ghost use Rattle.sheet.specs.Reading.{rule_sheet, Usable, when_accepted};

@@ -10,12 +10,11 @@ slice_bounds-solve-end-4 c =
     cleared-room _ c.args.out.now c.clear.new.buf c.requires.2.fits c.clear.ensures.0
 
 pub solve-requires : goal.solve-requires
-solve-requires c =
-    (
-      setting_of c.args.x c.requires.0,
-      bytes-start c.args.x c.requires.0 _ c.args.out.now c.clear.new.buf c.requires.2 c.clear.ensures.0 c.clear.ensures.1,
-      told-reads c.args.x c.requires.0 _ _ c.sheet_masks-masks.ensures,
-    )
+solve-requires c = (
+  setting_of c.args.x c.requires.0,
+  bytes-start c.args.x c.requires.0 _ c.args.out.now c.clear.new.buf c.requires.2 c.clear.ensures.0 c.clear.ensures.1,
+  told-reads c.args.x c.requires.0 _ _ c.sheet_masks-masks.ensures,
+)
 
 pub returns : goal.returns
 returns c =

@@ -13,11 +13,10 @@ pub returns-then-wide-m-ne0 : goal.returns-then-wide-m-ne0
 returns-then-wide-m-ne0 c = record { within = omega arith; before = c.loop-i.invariant.1; found = λ h. letter_large _ _ _ c.wide.ensures c.if-wide-m-ne0.true }
 
 pub loop-i-preserved : goal.loop-i-preserved
-loop-i-preserved c =
-    (
-      omega arith,
-      below_more (λ (k : ℕ). get_or c.args.letters.now k 0 < 2 ^ c.args.m) c.loop-i.i c.loop-i.invariant.1 (letter-small _ _ _ c.wide.ensures c.if-wide-m-ne0.false),
-    )
+loop-i-preserved c = (
+  omega arith,
+  below_more (λ (k : ℕ). get_or c.args.letters.now k 0 < 2 ^ c.args.m) c.loop-i.i c.loop-i.invariant.1 (letter-small _ _ _ c.wide.ensures c.if-wide-m-ne0.false),
+)
 
 pub returns : goal.returns
 returns c = record { within = c.loop-i.invariant.0; before = c.loop-i.invariant.1; found = λ h. absurd (omega arith) }

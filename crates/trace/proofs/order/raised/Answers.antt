@@ -1,11 +1,11 @@
 -- `trace::order::raised` meets its contract.
 use mathlib.Core.Path.{◌≡◌, sym, ◌∙◌}
-use mathlib.Core.Logic.{⊎_elim}
 use Prim.Native.Nat.{◌-◌}
 use native.Mathlib.Omega.{arith}
 use borrow.Author.Tests.{not-false}
 use Rattle.trace.proofs.Leads.{raised-none, raised-settled, raised-read}
 use Rattle.trace.proofs.order.raised.Goals as goal
+use Rattle.trace.proofs.order.raised.Goals.{then-not-is_in, else-not-is_in}
 
 pub loop-q-init : goal.loop-q-init
 loop-q-init c = (omega arith, raised-none _ _ _ _ _ _)
@@ -16,11 +16,10 @@ returns c =
     rw e at c.loop-q.invariant.1
 
 pub loop-q-preserved : goal.loop-q-preserved
-loop-q-preserved c =
-    (
-      omega arith,
-      ⊎_elim
-          (λ w. rw w.5 (raised-read _ _ _ _ _ _ _ _ c.loop-q.invariant.1 w.4.ensures.0 _ w.3.ensures w.4.ensures.1))
-          (λ w. rw w.1 (raised-settled _ _ _ _ _ _ _ _ c.loop-q.invariant.1 (omega arith) (sym c.is_in.ensures ∙ not-false _ w.0.left)))
-          c.if-not-is_in.branch,
-    )
+loop-q-preserved c = (
+  omega arith,
+  (elim c.if-not-is_in.branch [
+    | then-not-is_in w ↦ rw w.lead-is (raised-read _ _ _ _ _ _ _ _ c.loop-q.invariant.1 w.larger-lead.ensures.0 _ w.behind.ensures w.larger-lead.ensures.1)
+    | else-not-is_in w ↦ rw w.lead-is (raised-settled _ _ _ _ _ _ _ _ c.loop-q.invariant.1 (omega arith) (sym c.is_in.ensures ∙ w.if-not-is_in.false))
+  ]),
+)

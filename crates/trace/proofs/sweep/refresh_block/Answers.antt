@@ -22,8 +22,7 @@ try_refresh-requires c =
 
 pub loop-p-preserved : goal.loop-p-preserved
 loop-p-preserved c =
-    let f = sides c.args.block.counts c.args.code.now c.args.len.now c.args.letters.now in
-    (
+    let f = sides c.args.block.counts c.args.code.now c.args.len.now c.args.letters.now in (
       omega arith,
       sweeps-then _ _ _ _ _ _ _ _ _ _ _ c.loop-p.invariant.1
           (block_more _ _ f _ _ _ _ _ c.requires.2 c.loop-p.p _ (omega arith) refl _ _ _ c.round_in-t.ensures c.try_refresh.ensures.0 c.try_refresh.ensures.1),

@@ -1,11 +1,11 @@
 -- `trace::sweep::refresh_round` meets its contract.
 use mathlib.Core.Path.{sym, ◌∙◌}
 use mathlib.Core.Bool.{true≢false}
-use mathlib.Core.Logic.{⊎_elim}
 use Prim.Native.Nat.{◌-◌}
 use native.Mathlib.Omega.{arith}
 use Rattle.trace.proofs.Passes.{passed_none, passed_then, passed-as, passed-one, bytes-kept, next_place}
 use Rattle.trace.proofs.sweep.refresh_round.Goals as goal
+use Rattle.trace.proofs.sweep.refresh_round.Goals.{then-refresh, else-refresh}
 
 pub loop-s-init : goal.loop-s-init
 loop-s-init c = (omega arith, passed_none _ _ _ _ _ _ (λ q u pl h. omega (arith, h.0)))
@@ -23,6 +23,6 @@ pub loop-s-preserved : goal.loop-s-preserved
 loop-s-preserved c = (
   omega arith,
   passed_then _ _ _ _ _ _ _ _ _ _ _ _ (λ q u pl h. next_place _ _ q u h)
-      (⊎_elim (λ w e. absurd (true≢false (sym w.1 ∙ e))) (λ w e. (sym w.1 ∙ e, w.0.left)) c.if-refresh.branch)
+      (elim c.if-refresh.branch [ then-refresh w ↦ (λ e. absurd (true≢false (sym w.changed-is ∙ e))) | else-refresh w ↦ (λ e. (sym w.changed-is ∙ e, w.if-refresh.false)) ])
       c.loop-s.invariant.1 (passed-one _ _ _ _ _ _ _ _ c.refresh.ensures.0 c.refresh.ensures.1),
 )

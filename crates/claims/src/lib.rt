@@ -1,5 +1,6 @@
 // The demands, stated and proved: definitions and theorems only.
 #![tactic(auto)]
+
 ghost use Rattle.std.specs.Prelude.{◌≡◌};
 
 // A crate's proofs are checked where it has a function: this one is here for that.

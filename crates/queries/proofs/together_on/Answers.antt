@@ -5,11 +5,6 @@ use Rattle.checks.proofs.Checking.{together-long}
 use Rattle.queries.proofs.Answering.{turned_down, answered}
 use Rattle.queries.proofs.together_on.Goals as goal
 
-pub set_verdict-requires : goal.set_verdict-requires
-set_verdict-requires c =
-    let long = together-long c.args.x.outputs (length c.args.storage.now) c.args.r c.args.outputs (rw c.in-Accepted.is at c.check_together-outcome.ensures) in
-    (omega (arith, c.pre.1.usable.ranges.streams), long)
-
 pub returns-in-Refused : goal.returns-in-Refused
 returns-in-Refused c =
     let d = rw c.in-Refused.is at c.check_together-outcome.ensures in

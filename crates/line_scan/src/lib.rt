@@ -1,5 +1,6 @@
 // The line that is being read: what its bytes so far come to, and what it stands for once it is whole.
 #![tactic(auto)]
+
 ghost use Rattle.std.specs.Prelude.{◌≡◌, true, false, List, [], ◌∷◌, ◌++◌, ℕ, ◌≤◌, ◌<◌, length};
 ghost use Rattle.letter_table.specs.Entry.{Sets};
 ghost use Rattle.line_scan.specs.Lines.{is_mark, read_line, all_letters, asked};

@@ -9,11 +9,6 @@ use Rattle.line_end.proofs.closing_line.Goals as goal
 pub refused_line-requires : goal.refused_line-requires
 refused_line-requires c = omega (arith, bytes-least c.args.rec.closed)
 
-pub closing-to-requires : goal.closing-to-requires
-closing-to-requires c =
-    let k = rw c.in-Accepted.is at c.answer_closing-a.ensures.done in
-    (c.pre.0.1.usable.ranges.outputs, search (rules, c.good.1.1.0), k.3, omega (arith, rw k.0 at c.pre.1))
-
 pub returns-in-Refused : goal.returns-in-Refused
 returns-in-Refused c =
     record { ended = λ sheet b part o sv l. refused-ends sheet _ b _ part _ _ _ _ _ _ _ _ l (rw c.in-Refused.is at (c.answer_closing-a.ensures.by_the_book sheet b o sv)) c.refused_line.ensures.0 c.refused_line.ensures.2; bound = over_bound c.refused_line.result.over c.refused_line.result.record.closed c.args.rec.closed c.args.at c.refused_line.result.at c.refused_line.ensures.0 c.refused_line.ensures.1 }

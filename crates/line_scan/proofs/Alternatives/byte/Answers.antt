@@ -17,9 +17,12 @@ line_set-requires c = (c.requires.0, c.requires.1)
 pub returns-then-b-eq124 : goal.returns-then-b-eq124
 returns-then-b-eq124 c =
     let made = c.after.ensures.fields ∙ ap no_marks c.line_set.ensures in
-    record { scanned = λ part dot h.
+    record {
+      scanned = λ part dot h.
           subst (λ (r : Alternatives). Marked c.args.m (part ++ c.args.b ∷ []) r) (sym made)
-          (bar _ part _ _ dot h c.requires.2 c.if-b-eq124.true c.if-self-m.false); in_table = c.after.ensures.indexed }
+          (bar _ part _ _ dot h c.requires.2 c.if-b-eq124.true c.if-self-m.false);
+      in_table = c.after.ensures.indexed;
+    }
 
 pub returns-then-m-self : goal.returns-then-m-self
 returns-then-m-self c =

@@ -9,7 +9,7 @@ use Rattle.line_scan.proofs.Alternatives.mark.Goals as goal
 
 pub returns-then-not-is_mark : goal.returns-then-not-is_mark
 returns-then-not-is_mark c =
-    record { scanned = (λ m part few bar dot h. other_byte m part _ _ dot h bar (sym c.is_mark_lem.ensures ∙ c.if-not-is_mark.true)); in_table = tt }
+    record { scanned = (λ m part few bar dot h. other_byte m part _ _ dot h bar (sym c.is_mark.ensures ∙ c.if-not-is_mark.true)); in_table = tt }
 
 pub overflow_mul-index : goal.overflow_mul-index
 overflow_mul-index c =
@@ -28,6 +28,9 @@ overflow_mul-result c =
 pub returns : goal.returns
 returns c =
     let index = ap (λ (d : ℕ). c.args.self.index + d * c.args.self.place) c.mark_digit.ensures in
-    record { scanned = λ m part few bar dot h.
-          one-mark-more m part c.args.b c.args.self dot h _ bar few (sym c.is_mark_lem.ensures ∙ c.if-not-is_mark.false) refl refl
-          (index ∙ ap (λ (p : ℕ). c.args.self.index + mark_digit c.args.b * p) c.requires.0.place); in_table = still-indexed c.args.self c.requires.0 c.requires.1 c.args.b _ refl index refl }
+    record {
+      scanned = λ m part few bar dot h.
+          one-mark-more m part c.args.b c.args.self dot h _ bar few (sym c.is_mark.ensures ∙ c.if-not-is_mark.false) refl refl
+          (index ∙ ap (λ (p : ℕ). c.args.self.index + mark_digit c.args.b * p) c.requires.0.place);
+      in_table = still-indexed c.args.self c.requires.0 c.requires.1 c.args.b _ refl index refl;
+    }

@@ -18,13 +18,19 @@ byte-requires-in-Marks c = (c.requires.0, rw c.in-Marks.is at c.requires.1, c.re
 
 pub returns-else-b-eq46 : goal.returns-else-b-eq46
 returns-else-b-eq46 c =
-    record { scanned = λ part h. let none : part ≡ [] = rw c.in-Blank.is at h in
-      c.byte.ensures.scanned part (λ z. c.if-b-eq46.false) (rw (none, c.after.ensures.fields) (none-parted _)); in_table = c.byte.ensures.in_table }
+    record {
+      scanned = λ part h. let none : part ≡ [] = rw c.in-Blank.is at h in
+          c.byte.ensures.scanned part (λ z. c.if-b-eq46.false) (rw (none, c.after.ensures.fields) (none-parted _));
+      in_table = c.byte.ensures.in_table;
+    }
 
 pub returns-in-Marks : goal.returns-in-Marks
 returns-in-Marks c =
-    record { scanned = λ part h. let s : Marked _ part _ = rw c.in-Marks.is at h in
-      c.byte-in-Marks.ensures.scanned part (λ z. absurd (omega (arith, s.some))) s.parted; in_table = c.byte-in-Marks.ensures.in_table }
+    record {
+      scanned = λ part h. let s : Marked _ part _ = rw c.in-Marks.is at h in
+          c.byte-in-Marks.ensures.scanned part (λ z. absurd (omega (arith, s.some))) s.parted;
+      in_table = c.byte-in-Marks.ensures.in_table;
+    }
 
 pub returns-in-Dot : goal.returns-in-Dot
 returns-in-Dot c =

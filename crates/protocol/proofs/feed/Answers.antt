@@ -21,18 +21,17 @@ scan-pending-requires c =
     (c.requires.2, c.loop-i.invariant.6, omega (arith, c.loop-i.invariant.1, c.requires.0.1.usable.ranges.inputs))
 
 pub loop-i-preserved-then-b-ne10 : goal.loop-i-preserved-then-b-ne10
-loop-i-preserved-then-b-ne10 c =
-    (
-      omega arith,
-      c.loop-i.invariant.1,
-      omega (arith, c.loop-i.invariant.2),
-      c.loop-i.invariant.3,
-      c.loop-i.invariant.4,
-      λ sheet seen wrote o m.
-          rw (seen_more seen c.args.chunk.now c.loop-i.i c.loop-i-test.true)
-          (byte_more sheet _ _ _ _ _ _ (c.loop-i.invariant.5 sheet seen wrote o m) _ _ c.if-b-ne10.true (rw c.loop-i.invariant.1 at c.scan-pending.ensures.scanned)),
-      c.scan-pending.ensures.in_table,
-    )
+loop-i-preserved-then-b-ne10 c = (
+  omega arith,
+  c.loop-i.invariant.1,
+  omega (arith, c.loop-i.invariant.2),
+  c.loop-i.invariant.3,
+  c.loop-i.invariant.4,
+  λ sheet seen wrote o m.
+      rw (seen_more seen c.args.chunk.now c.loop-i.i c.loop-i-test.true)
+      (byte_more sheet _ _ _ _ _ _ (c.loop-i.invariant.5 sheet seen wrote o m) _ _ c.if-b-ne10.true (rw c.loop-i.invariant.1 at c.scan-pending.ensures.scanned)),
+  c.scan-pending.ensures.in_table,
+)
 
 pub asked-meaning-requires : goal.asked-meaning-requires
 asked-meaning-requires c =
@@ -44,7 +43,8 @@ line_end-e-requires c =
 
 pub returns-then-e : goal.returns-then-e
 returns-then-e c =
-    record { goes = λ sheet seen wrote st.
+    record {
+      goes = λ sheet seen wrote st.
           let m = c.loop-i.invariant.5 sheet seen wrote st.accepts (stands-midway sheet _ _ _ seen wrote st c.if-s.false) in
           let le = c.line_end-e.ensures.ended sheet m.book m.part st.accepts m.serves (rw c.loop-i.invariant.1 at c.asked-meaning.ensures m.part m.scanned) in
           record {
@@ -52,28 +52,34 @@ returns-then-e c =
             stage = rw (wrote-more wrote _ _ le.text _ _ le.wrote)
                 (over_all sheet seen c.args.chunk.now _ (c.loop-i.i + 1)
                 (rw (seen_more seen c.args.chunk.now c.loop-i.i c.loop-i-test.true) (line-over sheet _ _ _ _ _ _ m _ _ _ _ _ le _ c.if-b-ne10.false c.if-e.true)));
-          }; bound = omega (arith, c.line_end-e.ensures.bound, c.loop-i.invariant.2, c.loop-i.invariant.3, c.loop-i-test.true, c.requires.1); in_table = c.empty-pending.ensures.in_table }
+          };
+      bound = omega (arith, c.line_end-e.ensures.bound, c.loop-i.invariant.2, c.loop-i.invariant.3, c.loop-i-test.true, c.requires.1);
+      in_table = c.empty-pending.ensures.in_table;
+    }
 
 pub loop-i-preserved : goal.loop-i-preserved
-loop-i-preserved c =
-    (
-      omega arith,
-      c.loop-i.invariant.1,
-      omega (arith, rw c.if-e.false at c.line_end-e.ensures.bound, c.loop-i.invariant.2),
-      search rules,
-      search rules,
-      λ sheet seen wrote o k.
-          let m = c.loop-i.invariant.5 sheet seen wrote o k in
-          let le = c.line_end-e.ensures.ended sheet m.book m.part o m.serves (rw c.loop-i.invariant.1 at c.asked-meaning.ensures m.part m.scanned) in
-          rw (seen_more seen c.args.chunk.now c.loop-i.i c.loop-i-test.true, wrote-more wrote _ _ le.text _ _ le.wrote)
-          (line-more sheet _ _ _ _ _ _ m _ _ _ _ _ le _ _ c.if-b-ne10.false c.if-e.false (c.empty-pending.ensures.scanned _)),
-      c.empty-pending.ensures.in_table,
-    )
+loop-i-preserved c = (
+  omega arith,
+  c.loop-i.invariant.1,
+  omega (arith, rw c.if-e.false at c.line_end-e.ensures.bound, c.loop-i.invariant.2),
+  search rules,
+  search rules,
+  λ sheet seen wrote o k.
+      let m = c.loop-i.invariant.5 sheet seen wrote o k in
+      let le = c.line_end-e.ensures.ended sheet m.book m.part o m.serves (rw c.loop-i.invariant.1 at c.asked-meaning.ensures m.part m.scanned) in
+      rw (seen_more seen c.args.chunk.now c.loop-i.i c.loop-i-test.true, wrote-more wrote _ _ le.text _ _ le.wrote)
+      (line-more sheet _ _ _ _ _ _ m _ _ _ _ _ le _ _ c.if-b-ne10.false c.if-e.false (c.empty-pending.ensures.scanned _)),
+  c.empty-pending.ensures.in_table,
+)
 
 pub returns : goal.returns
 returns c =
-    record { goes = λ sheet seen wrote st.
+    record {
+      goes = λ sheet seen wrote st.
           record {
             accepts = st.accepts;
             stage = rw (take_all c.loop-i.i c.args.chunk.now c.loop-i-test.false) at (c.loop-i.invariant.5 sheet seen wrote st.accepts (stands-midway sheet _ _ _ seen wrote st c.if-s.false));
-          }; bound = omega (arith, c.loop-i.invariant.2, c.loop-i.invariant.3, c.loop-i.invariant.0, c.requires.1); in_table = c.loop-i.invariant.6 }
+          };
+      bound = omega (arith, c.loop-i.invariant.2, c.loop-i.invariant.3, c.loop-i.invariant.0, c.requires.1);
+      in_table = c.loop-i.invariant.6;
+    }

@@ -1,5 +1,6 @@
 // Lists of calls of the exported functions: definitions and one theorem only.
 #![tactic(auto)]
+
 ghost use Rattle.std.specs.Prelude.{◌≡◌};
 
 // A crate's proofs are checked where it has a function: this one is here for that.

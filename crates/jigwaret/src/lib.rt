@@ -2,7 +2,7 @@
 #![tactic(auto)]
 // length.
 ghost use Rattle.jigwaret.specs.Numbered.{Checked, EvaluatedAs, LettersAs};
-ghost use Rattle.jigwaret.specs.Journal.{slices as Journal·slices, PreparedAs, RoundAs, ClosedAs, TogetherAs};
+ghost use Rattle.jigwaret.specs.Journal.{slices as in_slices, PreparedAs, RoundAs, ClosedAs, TogetherAs};
 
 use outcomes::Outcome;
 
@@ -48,7 +48,7 @@ pub extern "C" fn jigwaret_prepare(
     record: &mut [u32],
     answer: &mut [u32],
 ) -> u32
-    ensures { PreparedAs sheet.now storage.old storage.new (Journal·slices «record».old «record».new answer.old answer.new) result }
+    ensures { PreparedAs sheet.now storage.old storage.new (in_slices record.old record.new answer.old answer.new) result }
 {
     if !slices::sized(record.len(), answer.len()) {
         return 255;
@@ -75,7 +75,7 @@ pub extern "C" fn jigwaret_round(
     letters: u64,
     answer: &mut [u32],
 ) -> u32
-    ensures { RoundAs sheet.now storage.old storage.new letters (Journal·slices «record».old «record».new answer.old answer.new) result }
+    ensures { RoundAs sheet.now storage.old storage.new letters (in_slices record.old record.new answer.old answer.new) result }
 {
     if !slices::sized(record.len(), answer.len()) {
         return 255;
@@ -102,7 +102,7 @@ pub extern "C" fn jigwaret_close(
     record: &mut [u32],
     answer: &mut [u32],
 ) -> u32
-    ensures { ClosedAs sheet.now storage.now (Journal·slices «record».old «record».new answer.old answer.new) result }
+    ensures { ClosedAs sheet.now storage.now (in_slices record.old record.new answer.old answer.new) result }
 {
     if !slices::sized(record.len(), answer.len()) {
         return 255;
@@ -133,7 +133,7 @@ pub extern "C" fn jigwaret_together(
     outputs: u8,
     answer: &mut [u32],
 ) -> u32
-    ensures { TogetherAs sheet.now storage.now outputs (Journal·slices «record».now «record».now answer.old answer.new) result }
+    ensures { TogetherAs sheet.now storage.now outputs (in_slices record.now record.now answer.old answer.new) result }
 {
     if !slices::sized(record.len(), answer.len()) {
         return 255;

@@ -1,5 +1,6 @@
 // What a round, a closing or a question about a set of outputs is refused for, behind the rules of its sheet.
 #![tactic(auto)]
+
 ghost use Rattle.std.specs.Prelude.{◌≤◌};
 ghost use Rattle.outcomes.specs.Decided.{Decided};
 ghost use Rattle.checks.specs.JournalChecks.{journal_rules, heard_rules, end_rules, named_rules, round_rules, closing_rules, together_rules};

@@ -1,5 +1,6 @@
 // A short wait, so that a call of the system that was not ready is not made again at once.
 #![tactic(auto)]
+
 use libc::types::timespec;
 
 // Waits a hundredth of a second, or less where a signal comes in between.

@@ -1,5 +1,6 @@
 // The program's talk with the system: which call is due, and what its answer makes of the run. Nothing here calls the system.
 #![tactic(auto)]
+
 ghost use Rattle.std.specs.Prelude.{◌+◌, ◌*◌, ◌≤◌, ◌≡◌, true, [], length};
 ghost use Rattle.circular.specs.Accepted.{IsAccepted};
 ghost use Rattle.pairs.specs.Storage.{storage_words};

@@ -1,5 +1,6 @@
 // What an accepted preparation, round and closing do, with a sheet that can be used.
 #![tactic(auto)]
+
 ghost use Rattle.std.specs.Prelude.{◌≡◌, true, List, ℕ, ◌+◌, ◌^◌, ◌<◌, ◌≤◌, length};
 ghost use Rattle.words.specs.Bits.{bit};
 ghost use Rattle.record.specs.Record.{max_rounds, record_ok};

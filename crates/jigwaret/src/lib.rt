@@ -1,30 +1,28 @@
 // The functions that programs in C and Rust call: 0 for accepted, or the number of the refusal. A slice passes as a pointer, then its
-#![tactic(auto)]
 // length.
+#![tactic(auto)]
+
 ghost use Rattle.jigwaret.specs.Numbered.{Checked, EvaluatedAs, LettersAs};
 ghost use Rattle.jigwaret.specs.Journal.{slices as in_slices, PreparedAs, RoundAs, ClosedAs, TogetherAs};
 
 use outcomes::Outcome;
 
 // Rules 1 to 10.
-#[unsafe(no_mangle)]
-pub extern "C" fn jigwaret_check(sheet: &[u8]) -> u32
+pub fn jigwaret_check(sheet: &[u8]) -> u32
     ensures { Checked sheet.now result }
 {
     outcomes::outcome_number(circular::check_sheet(sheet))
 }
 
 // Writes for each letter the byte whose bit k is output k.
-#[unsafe(no_mangle)]
-pub extern "C" fn jigwaret_evaluate(sheet: &[u8], letters: &[u8], out: &mut [u8]) -> u32
+pub fn jigwaret_evaluate(sheet: &[u8], letters: &[u8], out: &mut [u8]) -> u32
     ensures { EvaluatedAs sheet.now letters.now out.old out.new result }
 {
     outcomes::outcome_number(trace::evaluate(sheet, letters, &mut out[..]))
 }
 
 // Writes the set of the letters that agree with the masks, with this number of inputs: bit l of it is letter l.
-#[unsafe(no_mangle)]
-pub extern "C" fn jigwaret_letters(inputs: u8, known: u8, value: u8, letters: &mut u64) -> u32
+pub fn jigwaret_letters(inputs: u8, known: u8, value: u8, letters: &mut u64) -> u32
     ensures { LettersAs inputs known value letters.old letters.new result }
 {
     let made = letters::from_masks(inputs, known, value);
@@ -41,8 +39,7 @@ pub extern "C" fn jigwaret_letters(inputs: u8, known: u8, value: u8, letters: &m
 // From here on: 255, and nothing altered, where a record has not 30 numbers or an answer fewer than 16.
 
 // Prepares the storage, makes the record fresh and writes the number of live pairs into answer[0], their exact reach into answer[1].
-#[unsafe(no_mangle)]
-pub extern "C" fn jigwaret_prepare(
+pub fn jigwaret_prepare(
     sheet: &[u8],
     storage: &mut [u64],
     record: &mut [u32],
@@ -67,8 +64,7 @@ pub extern "C" fn jigwaret_prepare(
 }
 
 // A round, its letter one of the set: writes the verdict number of output k into answer[k].
-#[unsafe(no_mangle)]
-pub extern "C" fn jigwaret_round(
+pub fn jigwaret_round(
     sheet: &[u8],
     storage: &mut [u64],
     record: &mut [u32],
@@ -95,8 +91,7 @@ pub extern "C" fn jigwaret_round(
 }
 
 // A closing: writes the verdict number of output k into answer[k] and its share into answer[n + k].
-#[unsafe(no_mangle)]
-pub extern "C" fn jigwaret_close(
+pub fn jigwaret_close(
     sheet: &[u8],
     storage: &[u64],
     record: &mut [u32],
@@ -125,8 +120,7 @@ pub extern "C" fn jigwaret_close(
 }
 
 // A question about the last round: writes the number of the verdict on all outputs of the set, bit k being output k, into answer[0].
-#[unsafe(no_mangle)]
-pub extern "C" fn jigwaret_together(
+pub fn jigwaret_together(
     sheet: &[u8],
     storage: &[u64],
     record: &[u32],

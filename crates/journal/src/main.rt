@@ -1,5 +1,6 @@
 // The journal program: makes the calls of the system that are due, and hands what they gave to the crate `dialogue`.
 #![tactic(auto)]
+
 ghost use Rattle.std.specs.Prelude.{◌+◌, ◌*◌, ◌≤◌, ◌≡◌, true, length};
 ghost use Rattle.letter_table.specs.Entry.{Sets};
 ghost use Rattle.line_scan.specs.Scan.{InTable};

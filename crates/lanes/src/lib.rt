@@ -1,7 +1,8 @@
 // Expressions evaluated in a row of words at once, 64 lanes each: two words for up to 128 valuations, else four. What the expressions read is one
-#![tactic(auto)]
 // word, bit byte - 0x40 for the read byte. A second word has the same bit set for the reads that are of the lane's own valuation instead: those of
 // the round itself, one earlier or one later.
+#![tactic(auto)]
+
 ghost use Rattle.std.specs.Prelude.{◌≡◌, List, ℕ, ◌+◌, ◌*◌, ◌<◌, ◌≤◌, length, get_or};
 ghost use Rattle.std.proofs.Math.Option.{Option, none, some};
 ghost use Rattle.std.specs.Int.Bits.{bit_and};

@@ -1,5 +1,6 @@
 // The program that prints the table of letter sets: its entries from 0 up, in decimal, one a line. It takes no input.
 #![tactic(auto)]
+
 use libc::STDOUT_FILENO;
 
 fn main() {

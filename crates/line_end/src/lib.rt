@@ -1,5 +1,6 @@
 // The end of a line: the call that it stands for is answered, and the answer written.
 #![tactic(auto)]
+
 ghost use Rattle.std.specs.Prelude.{◌≡◌, true, false, cond, List, ℕ, ◌+◌, ◌≤◌, ◌<◌, length};
 ghost use Rattle.outcomes.specs.declared.Refusal.TheVariants.{Closed, Line};
 ghost use Rattle.buffer.specs.Wrote.{Placed};

@@ -1,6 +1,7 @@
 // Preparation, rounds and closing of a journal, each on the bytes of the sheet. With `_on` in its name: the same with a sheet that was accepted, which
-#![tactic(auto)]
 // callers have to show, so that a long journal reads it once. Those are no entries, but what the entries and the journal program share.
+#![tactic(auto)]
+
 ghost use Rattle.std.specs.Prelude.{◌≡◌, List, ℕ, replicate};
 ghost use Rattle.outcomes.specs.Numbers.{untold};
 ghost use Rattle.circular.specs.SheetChecks.{AcceptedSheet};

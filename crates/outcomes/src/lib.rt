@@ -1,5 +1,6 @@
 // Why a call is turned down, and the verdicts: the enums that every entry answers with, and the numbers they stand for.
 #![tactic(auto)]
+
 ghost use Rattle.std.specs.Prelude.{◌≡◌, replicate};
 ghost use Rattle.outcomes.specs.Numbers.{refusal_no, outcome_no, verdict_no, untold};
 

@@ -1,5 +1,6 @@
 // Preparation: finds the live pairs of a sheet, layer by layer backward from the end.
 #![tactic(auto)]
+
 ghost use Rattle.std.specs.Prelude.{◌≡◌, not, ◌&&◌, List, eqb, length, ℕ, ◌*◌, ◌<◌, ◌≤◌};
 ghost use Rattle.std.proofs.Math.Option.{none, some};
 ghost use Rattle.sheet.specs.RuleSheet.{required_of};

@@ -1,5 +1,6 @@
 // Questions about a journal, after the rounds heard, on the bytes of the sheet. They only read: no storage is written, and no record comes back.
 #![tactic(auto)]
+
 ghost use Rattle.std.specs.Prelude.{◌≡◌, List, ℕ};
 ghost use Rattle.circular.specs.SheetChecks.{AcceptedSheet};
 ghost use Rattle.circular.specs.Accepted.{IsAccepted};

@@ -1,5 +1,6 @@
 // What the program prints, put into a buffer. Each function answers the place after it.
 #![tactic(auto)]
+
 ghost use Rattle.std.specs.Prelude.{◌≡◌, ◌∷◌, ◌++◌, ◌+◌, ◌*◌, ◌<◌, ◌≤◌, length};
 ghost use Rattle.outcomes.specs.Numbers.{verdict_list, refusal_no};
 ghost use Rattle.buffer.specs.Decimal.{decimal};

@@ -1,9 +1,10 @@
 // Runs many sessions of the journal program, one after the other, through the crate `protocol`.
-#![tactic(auto)]
 //
 // A case in standard input is the length of a sheet in two bytes, the sheet, the length of a session in four bytes, the session.
 // Lengths have their low byte first. A sheet has at most 464 bytes, a session at most 65,535. After the text of each case comes a
 // line `--`. The first case that is cut short or too long ends the run, and nothing is written for it.
+#![tactic(auto)]
+
 ghost use Rattle.std.specs.Prelude.{◌+◌, ◌≤◌, ◌<◌, length};
 ghost use Rattle.circular.specs.Accepted.{IsAccepted};
 ghost use Rattle.pairs.specs.Storage.{storage_words};

@@ -1,6 +1,7 @@
 // Verdicts read off the reached set: of a round over the first parts of its pairs, of a closing over those
-#![tactic(auto)]
 // that the end mark follows.
+#![tactic(auto)]
+
 ghost use Rattle.std.specs.Prelude.{◌≡◌, Bool, true, false, ◌&&◌, ◌||◌, ℕ, ◌+◌, ◌*◌, ◌^◌, ◌<◌, ◌≤◌, eqb, ltb, length};
 ghost use Rattle.std.proofs.Math.Option.{none, some};
 ghost use Rattle.words.specs.Below.{any_below};

@@ -14,6 +14,6 @@ fn main() {
             println!("cargo:rustc-link-search=native={}", folder.display());
             println!("cargo:rustc-link-lib=static=jigwaret");
         }
-        Err(_) => println!("cargo:warning=no libjigwaret.a: make it with `rt staticlib jigwaret`"),
+        Err(_) => println!("cargo:warning=no libjigwaret.a: make it with `tools/build`"),
     }
 }

@@ -14,7 +14,6 @@ use Rattle.words.specs.Bits.{bit, digit}
 use Rattle.words.proofs.BitLaws.{bit-or, bit-none, bit-shr}
 use Rattle.words.proofs.Bools.{or-none}
 use Rattle.sheet.specs.Expression.{constant, newest}
-use Rattle.sheet.specs.RuleSheet.{outputs}
 use Rattle.sheet.specs.Reading.{rule_sheet, Usable}
 use Rattle.sheet.specs.declared.Sheet.{Sheet}
 use Rattle.sheet.proofs.Sheets.{sheet-outputs, tree-at}

@@ -1,5 +1,4 @@
 -- `buffer::bytes` meets its contract.
-use Prim.Native.Nat.{◌-◌}
 use native.Mathlib.Omega.{arith}
 use lib.Seq.{take_all}
 use Rattle.buffer.proofs.PlacedLaws.{placed_none, placed_next}

@@ -1,5 +1,4 @@
 -- `lanes::earlier_mask` meets its contract.
-use Prim.Native.Nat.{◌-◌}
 use native.Mathlib.Omega.{arith}
 use Rattle.lanes.proofs.CodeLaws.{part_room, part-parses}
 use Rattle.lanes.proofs.BlindLaws.{covers_none, covers_more, covers_all, blind}

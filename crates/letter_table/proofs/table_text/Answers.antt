@@ -1,5 +1,4 @@
 -- `letter_table::table_text` meets its contract.
-use Prim.Native.Nat.{◌-◌}
 use native.Mathlib.Nat.{le_antisymm}
 use native.Mathlib.Omega.{arith}
 use Rattle.buffer.proofs.DecimalLaws.{decimal-length}

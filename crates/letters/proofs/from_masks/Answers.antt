@@ -1,8 +1,7 @@
 -- `letters::from_masks` meets its contract.
 use mathlib.Core.Path.{sym, ◌∙◌}
-use mathlib.Core.Logic.{⊎_elim}
 use native.Mathlib.Omega.{arith}
-use Rattle.letters.proofs.SetLaws.{no-inputs, many-inputs, masks-refused, masks-taken, made_none, mask-set}
+use Rattle.letters.proofs.SetLaws.{masks-refused, masks-taken, made_none, mask-set}
 use Rattle.letters.proofs.from_masks.Goals as goal
 
 pub bad_masks-requires : goal.bad_masks-requires

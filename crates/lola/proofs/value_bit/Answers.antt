@@ -1,5 +1,4 @@
 -- `lola::value_bit` meets its contract.
-use Prim.Native.Nat.{◌-◌}
 use native.Mathlib.Omega.{arith}
 use Rattle.lola.proofs.Stack.{none_done, one-done, fits, all_done}
 use Rattle.lola.proofs.value_bit.Goals as goal

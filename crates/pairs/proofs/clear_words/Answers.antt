@@ -1,6 +1,5 @@
 -- `pairs::clear_words` meets its contract.
 use mathlib.Core.Path.{refl}
-use Prim.Native.Nat.{◌-◌}
 use native.Mathlib.Omega.{arith}
 use Rattle.pairs.proofs.Fill.{filling_none, filling_more, zeroed}
 use Rattle.pairs.proofs.clear_words.Goals as goal

@@ -1,5 +1,4 @@
 -- `pairs::next_word` meets its contract.
-use Prim.Native.Nat.{◌-◌}
 use native.Mathlib.Omega.{arith}
 use Rattle.pairs.proofs.BitSearch.{words_more}
 use Rattle.pairs.proofs.next_word.Goals as goal

@@ -1,5 +1,4 @@
 -- `reader::put` meets its contract.
-use Prim.Native.Nat.{◌-◌}
 use native.Mathlib.Omega.{arith}
 use lib.ListN.{length-set}
 use Rattle.reader.proofs.Packing.{put-none, put-more, put_all}

@@ -1,6 +1,5 @@
 -- `reader::read_outputs` meets its contract.
 use mathlib.Core.Path.{refl, sym, ◌∙◌}
-use Prim.Native.Nat.{◌-◌}
 use native.Mathlib.Omega.{arith}
 use native.Mathlib.Nat.{add-sub_cancel_left}
 use Rattle.reader.proofs.AllOutputs.{begins, lies, next, stopped, left_over, nothing_left, all_held}

@@ -1,6 +1,5 @@
 -- `rounds::bring_row` meets its contract.
 use mathlib.Core.Path.{refl}
-use Prim.Native.Nat.{◌-◌}
 use native.Mathlib.Omega.{arith}
 use Rattle.rounds.proofs.RowLaws.{bring-first, bring-more, bring-all, rows_end}
 use Rattle.rounds.proofs.bring_row.Goals as goal

@@ -1,7 +1,6 @@
 -- `rounds::bring_rows` meets its contract.
 use mathlib.Core.Path.{refl}
 use mathlib.Core.Option.{some}
-use Prim.Native.Nat.{◌-◌}
 use native.Mathlib.Omega.{arith}
 use Rattle.lanes.specs.Around.{unless}
 use Rattle.rounds.proofs.RowLaws.{groups-first, groups-more, groups-all}

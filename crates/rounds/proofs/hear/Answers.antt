@@ -1,6 +1,5 @@
 -- `rounds::hear` meets its contract.
 use mathlib.Core.Path.{refl}
-use Prim.Native.Nat.{◌-◌}
 use native.Mathlib.Omega.{arith}
 use Rattle.rounds.proofs.RoundLaws.{heard-none, heard-more, heard_all}
 use Rattle.rounds.proofs.hear.Goals as goal

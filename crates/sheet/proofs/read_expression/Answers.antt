@@ -1,7 +1,6 @@
 -- `sheet::read_expression` meets its contract.
 use mathlib.Core.Path.{refl, sym, ◌∙◌}
 use mathlib.Core.List.{[]}
-use Prim.Native.Nat.{◌-◌}
 use native.Mathlib.Omega.{arith}
 use Rattle.sheet.proofs.Depths.{turn, stop, one_left, not-one-left, grows}
 use Rattle.sheet.proofs.read_expression.Goals as goal

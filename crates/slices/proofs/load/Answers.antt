@@ -1,6 +1,5 @@
 -- `slices::load` meets its contract.
 use mathlib.Core.Path.{◌≡◌, refl}
-use Prim.Native.Nat.{◌-◌}
 use native.Mathlib.Omega.{arith}
 use lib.ListN.{drop}
 use Rattle.slices.proofs.SliceLaws.{taken_more, taken-all}

@@ -1,6 +1,5 @@
 -- `slices::put_numbers` meets its contract.
 use mathlib.Core.Path.{◌≡◌, refl}
-use Prim.Native.Nat.{◌-◌}
 use native.Mathlib.Omega.{arith}
 use Rattle.slices.proofs.SliceLaws.{put-none, put-more}
 use Rattle.slices.proofs.put_numbers.Goals as goal

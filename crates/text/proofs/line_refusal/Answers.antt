@@ -1,6 +1,5 @@
 -- `text::line_refusal` meets its contract.
 use native.Mathlib.Omega.{arith}
-use borrow.Author.Rules.{rules}
 use Rattle.buffer.proofs.PlacedLaws.{placed_then}
 use Rattle.buffer.proofs.DecimalLaws.{decimal-length}
 use Rattle.text.proofs.line_refusal.Goals as goal

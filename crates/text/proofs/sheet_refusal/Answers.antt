@@ -1,6 +1,5 @@
 -- `text::sheet_refusal` meets its contract.
 use native.Mathlib.Omega.{arith}
-use borrow.Author.Rules.{rules}
 use Rattle.buffer.proofs.PlacedLaws.{placed_then}
 use Rattle.text.proofs.sheet_refusal.Goals as goal
 

@@ -12,8 +12,11 @@ byte-requires c =
 pub returns : goal.returns
 unfolding tally_line
 returns c =
-    record { placed = placed_then c.output_number-output.ensures.placed
+    record {
+      placed = placed_then c.output_number-output.ensures.placed
           (placed_then (placed_trues c.args.counts.now c.args.k.0 c.spaced-trues.ensures.placed)
           (placed_then c.spaced-falses.ensures.placed
           (placed_then c.spaced-opens.ensures.placed
-          (placed_then c.spaced-brokens.ensures.placed (placed_then c.spaced-share.ensures.placed c.byte.ensures))))); upper_bound = omega (arith, c.output_number-output.ensures.value, c.spaced-trues.ensures.upper_bound, c.spaced-falses.ensures.upper_bound, c.spaced-opens.ensures.upper_bound, c.spaced-brokens.ensures.upper_bound, c.spaced-share.ensures.upper_bound, c.byte.ensures.end) }
+          (placed_then c.spaced-brokens.ensures.placed (placed_then c.spaced-share.ensures.placed c.byte.ensures)))));
+      upper_bound = omega (arith, c.output_number-output.ensures.value, c.spaced-trues.ensures.upper_bound, c.spaced-falses.ensures.upper_bound, c.spaced-opens.ensures.upper_bound, c.spaced-brokens.ensures.upper_bound, c.spaced-share.ensures.upper_bound, c.byte.ensures.end);
+    }

@@ -1,5 +1,4 @@
 -- `text::tally_lines` meets its contract.
-use Prim.Native.Nat.{◌-◌}
 use native.Mathlib.Omega.{arith}
 use native.Mathlib.Nat.{le_antisymm}
 use Rattle.text.proofs.TallyLaws.{placed_no_tally, placed_tally}

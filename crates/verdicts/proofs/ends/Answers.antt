@@ -1,6 +1,5 @@
 -- `verdicts::ends` meets its contract.
 use mathlib.Core.Path.{refl}
-use Prim.Native.Nat.{◌-◌}
 use Rattle.verdicts.proofs.VerdictLaws.{filling_none, filling_more, filling_all, ends_lane}
 use Rattle.verdicts.proofs.ends.Goals as goal
 

@@ -1,6 +1,5 @@
 -- `verdicts::every_first` meets its contract.
 use mathlib.Core.Path.{refl}
-use Prim.Native.Nat.{◌-◌}
 use Rattle.verdicts.proofs.VerdictLaws.{filling_none, filling_more, filling_all}
 use Rattle.verdicts.proofs.every_first.Goals as goal
 

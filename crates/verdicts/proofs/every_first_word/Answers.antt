@@ -1,5 +1,5 @@
 -- `verdicts::every_first_word` meets its contract.
-use Prim.Native.Nat.{◌-◌, ◌<◌}
+use Prim.Native.Nat.{◌<◌}
 use native.Mathlib.Omega.{arith}
 use Rattle.verdicts.proofs.VerdictLaws.{filled_none, filled_more, every_lane, ends_lane}
 use Rattle.verdicts.proofs.every_first_word.Goals as goal

@@ -1,6 +1,5 @@
 -- `verdicts::firsts` meets its contract.
 use mathlib.Core.Path.{refl}
-use Prim.Native.Nat.{◌-◌}
 use native.Mathlib.Omega.{arith}
 use Rattle.verdicts.proofs.VerdictLaws.{filling_none, filling_more, filling_all}
 use Rattle.verdicts.proofs.firsts.Goals as goal

@@ -1,6 +1,5 @@
 -- `verdicts::set_test` meets its contract.
 use mathlib.Core.Path.{refl}
-use Prim.Native.Nat.{◌-◌}
 use Rattle.verdicts.proofs.VerdictLaws.{filling_none, filling_more, filling_all}
 use Rattle.verdicts.proofs.set_test.Goals as goal
 

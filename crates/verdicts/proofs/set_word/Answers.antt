@@ -1,6 +1,5 @@
 -- `verdicts::set_word` meets its contract.
 use mathlib.Core.Path.{ap, ◌∙◌}
-use Prim.Native.Nat.{◌-◌}
 use native.Mathlib.Omega.{arith}
 use Rattle.words.specs.Bits.{bit}
 use Rattle.verdicts.proofs.VerdictLaws.{narrowed_none, narrowed-more, narrowed-same, narrowed-all}

@@ -1,5 +1,4 @@
 -- `verdicts::verdicts` meets its contract.
-use Prim.Native.Nat.{◌-◌}
 use Rattle.verdicts.proofs.VerdictLaws.{words_less, telling_none, telling_more, telling_all}
 use Rattle.verdicts.proofs.verdicts.Goals as goal
 

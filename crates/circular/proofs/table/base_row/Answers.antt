@@ -1,6 +1,6 @@
 -- `circular::table::base_row` meets its contract.
 use mathlib.Core.Path.{◌≡◌, sym, ◌∙◌}
-use Prim.Native.Nat.{◌+◌, ◌*◌, ◌-◌, ◌≤◌}
+use Prim.Native.Nat.{◌+◌, ◌*◌, ◌≤◌}
 use native.Mathlib.Omega.{arith}
 use Rattle.circular.proofs.Codes.{base_le, base_same}
 use Rattle.circular.proofs.Rows.{small-set, part_none, part-more}

@@ -1,5 +1,4 @@
 -- `circular::table::based` meets its contract.
-use Prim.Native.Nat.{◌-◌}
 use native.Mathlib.Omega.{arith}
 use Rattle.circular.proofs.Rows.{rows_none, rows_more, small_zeros}
 use Rattle.circular.proofs.table.based.Goals as goal

@@ -1,5 +1,4 @@
 -- `circular::table::closed` meets its contract.
-use Prim.Native.Nat.{◌-◌}
 use native.Mathlib.Omega.{arith}
 use Rattle.circular.proofs.Codes.{stage-start, stage-next, stage-closed}
 use Rattle.circular.proofs.table.closed.Goals as goal

@@ -1,6 +1,6 @@
 -- `circular::table::extend` meets its contract.
 use mathlib.Core.Path.{◌≡◌, sym, ap₂, ◌∙◌}
-use Prim.Native.Nat.{◌+◌, ◌*◌, ◌-◌, ◌≤◌}
+use Prim.Native.Nat.{◌+◌, ◌*◌, ◌≤◌}
 use native.Mathlib.Omega.{arith}
 use Rattle.circular.specs.Table.{larger_n}
 use Rattle.circular.proofs.Codes.{larger_le, plus_le}

@@ -1,6 +1,6 @@
 -- `circular::table::has_reads` meets its contract.
 use mathlib.Core.Path.{◌≡◌}
-use Prim.Native.Nat.{◌+◌, ◌-◌}
+use Prim.Native.Nat.{◌+◌}
 use native.Mathlib.Omega.{arith}
 use Rattle.circular.proofs.Masks.{lacks_more, no_reads}
 use Rattle.circular.proofs.table.has_reads.Goals as goal

@@ -1,6 +1,5 @@
 -- `circular::table::level_in_both` meets its contract.
 use mathlib.Core.Path.{◌≡◌, refl, sym}
-use Prim.Native.Nat.{◌-◌}
 use native.Mathlib.Omega.{arith}
 use Rattle.words.specs.Below.{any_below}
 use Rattle.circular.proofs.Codes.{any_more, level-at, not_first, not-second}

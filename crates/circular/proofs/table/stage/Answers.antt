@@ -1,6 +1,5 @@
 -- `circular::table::stage` meets its contract.
 use mathlib.Core.Path.{refl, sym, ◌∙◌}
-use Prim.Native.Nat.{◌-◌}
 use native.Mathlib.Omega.{arith}
 use Rattle.circular.proofs.Rows.{rows_none, rows_more, part_as, joined-cell, tails_small}
 use Rattle.circular.proofs.table.stage.Goals as goal

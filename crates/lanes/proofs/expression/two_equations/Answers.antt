@@ -1,6 +1,6 @@
 -- `lanes::expression::two_equations` meets its contract.
 use mathlib.Core.Path.{refl}
-use Prim.Native.Nat.{◌+◌, ◌-◌}
+use Prim.Native.Nat.{◌+◌}
 use native.Mathlib.Omega.{arith}
 use lib.ListN.{length-take}
 use Rattle.lanes.proofs.CodeLaws.{part_room}

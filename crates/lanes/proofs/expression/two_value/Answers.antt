@@ -1,6 +1,5 @@
 -- `lanes::expression::two_value` meets its contract.
 use mathlib.Core.Path.{refl}
-use Prim.Native.Nat.{◌-◌}
 use native.Mathlib.Omega.{arith}
 use Rattle.lanes.proofs.ParseLaws.{none_done, one-done, all_done}
 use Rattle.lanes.proofs.expression.two_value.Goals as goal

@@ -1,6 +1,5 @@
 -- `lanes::row::fill_row` meets its contract.
 use mathlib.Core.Path.{refl}
-use Prim.Native.Nat.{◌-◌}
 use native.Mathlib.Omega.{arith}
 use Rattle.lanes.proofs.RowLaws.{writing-none, writing_more, writing-all}
 use Rattle.lanes.proofs.row.fill_row.Goals as goal

@@ -1,5 +1,4 @@
 -- `lanes::row::store_row` meets its contract.
-use Prim.Native.Nat.{◌-◌}
 use Rattle.lanes.proofs.RowLaws.{storing-none, storing-more, storing-all}
 use Rattle.lanes.proofs.row.store_row.Goals as goal
 

@@ -1,5 +1,4 @@
 -- `lanes::row::stream_row` meets its contract.
-use Prim.Native.Nat.{◌-◌}
 use native.Mathlib.Omega.{arith}
 use Rattle.lanes.proofs.RowLaws.{writing-none, writing_more, writing-all}
 use Rattle.lanes.proofs.row.stream_row.Goals as goal

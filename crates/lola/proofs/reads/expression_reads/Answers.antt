@@ -1,5 +1,4 @@
 -- `lola::reads::expression_reads` meets its contract.
-use Prim.Native.Nat.{◌-◌}
 use native.Mathlib.Omega.{arith}
 use Rattle.lola.proofs.TreeReads.{marked-none, marked_more, marked_all}
 use Rattle.lola.proofs.reads.expression_reads.Goals as goal

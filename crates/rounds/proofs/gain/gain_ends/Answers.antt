@@ -1,6 +1,5 @@
 -- `rounds::gain::gain_ends` meets its contract.
 use mathlib.Core.Path.{refl}
-use Prim.Native.Nat.{◌-◌}
 use native.Mathlib.Omega.{arith}
 use Rattle.rounds.proofs.EndLaws.{ends-full, ends-none, ends_more, ends-all}
 use Rattle.rounds.proofs.gain.gain_ends.Goals as goal

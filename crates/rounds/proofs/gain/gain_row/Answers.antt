@@ -1,6 +1,5 @@
 -- `rounds::gain::gain_row` meets its contract.
 use mathlib.Core.Path.{refl}
-use Prim.Native.Nat.{◌-◌}
 use native.Mathlib.Omega.{arith}
 use Rattle.rounds.proofs.WordLaws.{live-masked, row_full, word-gained}
 use Rattle.rounds.proofs.RowLaws.{row-none, row_more, row-all}

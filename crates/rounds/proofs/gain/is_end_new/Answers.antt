@@ -1,6 +1,5 @@
 -- `rounds::gain::is_end_new` meets its contract.
 use mathlib.Core.Bool.{true≢false}
-use Prim.Native.Nat.{◌-◌}
 use native.Mathlib.Omega.{arith}
 use Rattle.rounds.proofs.EndLaws.{no_end_more}
 use Rattle.rounds.proofs.gain.is_end_new.Goals as goal

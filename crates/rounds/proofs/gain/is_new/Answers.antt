@@ -1,6 +1,5 @@
 -- `rounds::gain::is_new` meets its contract.
 use mathlib.Core.Bool.{true≢false}
-use Prim.Native.Nat.{◌-◌}
 use native.Mathlib.Omega.{arith}
 use Rattle.rounds.proofs.WordLaws.{none_new_more}
 use Rattle.rounds.proofs.gain.is_new.Goals as goal

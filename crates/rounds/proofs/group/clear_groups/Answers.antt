@@ -1,6 +1,5 @@
 -- `rounds::group::clear_groups` meets its contract.
 use mathlib.Core.Path.{refl}
-use Prim.Native.Nat.{◌-◌}
 use native.Mathlib.Omega.{arith}
 use Rattle.rounds.proofs.GroupLaws.{emptying-none, emptying-more, emptying-all}
 use Rattle.rounds.proofs.group.clear_groups.Goals as goal

@@ -1,6 +1,5 @@
 -- `rounds::group::group_rows` meets its contract.
 use mathlib.Core.Path.{refl}
-use Prim.Native.Nat.{◌-◌}
 use native.Mathlib.Omega.{arith}
 use lib.Bits.{and_le_l}
 use Rattle.rounds.proofs.WordLaws.{upto-none, upto-row, upto-quiet, upto_all}

@@ -1,6 +1,5 @@
 -- `rounds::group::is_quiet` meets its contract.
 use mathlib.Core.Bool.{true≢false}
-use Prim.Native.Nat.{◌-◌}
 use native.Mathlib.Omega.{arith}
 use borrow.Author.Tests.{eqb-true}
 use Rattle.rounds.proofs.WordLaws.{joining-none, joining-more, joining-quiet}

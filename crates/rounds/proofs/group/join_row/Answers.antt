@@ -1,6 +1,5 @@
 -- `rounds::group::join_row` meets its contract.
 use mathlib.Core.Path.{refl}
-use Prim.Native.Nat.{◌-◌}
 use native.Mathlib.Omega.{arith}
 use Rattle.rounds.proofs.WordLaws.{joined-none, joined-more, joined-all}
 use Rattle.rounds.proofs.group.join_row.Goals as goal

@@ -1,5 +1,4 @@
 -- `trace::order::leads` meets its contract.
-use Prim.Native.Nat.{◌-◌}
 use Rattle.trace.proofs.Leads.{steady_of, steady_none}
 use Rattle.trace.proofs.order.leads.Goals as goal
 

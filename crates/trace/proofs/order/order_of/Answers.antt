@@ -1,10 +1,7 @@
 -- `trace::order::order_of` meets its contract.
-use mathlib.Core.Path.{refl, sym, ◌∙◌}
-use mathlib.Core.Logic.{⊎_elim}
-use mathlib.Core.Bool.{true≢false}
-use Prim.Native.Nat.{◌-◌}
+use mathlib.Core.Path.{refl}
 use native.Mathlib.Omega.{arith}
-use Rattle.trace.proofs.Listing.{listing_start, listing-push, listing-skip, listing-end}
+use Rattle.trace.proofs.Listing.{listing_start, listing-end}
 use Rattle.trace.proofs.order.order_of.Goals as goal
 
 pub loop-i-init : goal.loop-i-init

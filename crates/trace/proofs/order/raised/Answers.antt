@@ -1,8 +1,6 @@
 -- `trace::order::raised` meets its contract.
 use mathlib.Core.Path.{◌≡◌, sym, ◌∙◌}
-use Prim.Native.Nat.{◌-◌}
 use native.Mathlib.Omega.{arith}
-use borrow.Author.Tests.{not-false}
 use Rattle.trace.proofs.Leads.{raised-none, raised-settled, raised-read}
 use Rattle.trace.proofs.order.raised.Goals as goal
 use Rattle.trace.proofs.order.raised.Goals.{then-not-is_in, else-not-is_in}

@@ -1,5 +1,4 @@
 -- `trace::order::settle` meets its contract.
-use Prim.Native.Nat.{◌-◌}
 use native.Mathlib.Omega.{arith}
 use Rattle.trace.proofs.Leads.{settled_none, settled_more}
 use Rattle.trace.proofs.order.settle.Goals as goal

@@ -1,10 +1,6 @@
 -- `trace::sweep::pass` meets its contract.
-use mathlib.Core.Path.{sym, ◌∙◌}
-use mathlib.Core.Bool.{true≢false}
-use mathlib.Core.Logic.{⊎_elim}
-use Prim.Native.Nat.{◌-◌}
 use native.Mathlib.Omega.{arith}
-use Rattle.trace.proofs.Passes.{passed_none, passed_then, passed-as, bytes-kept, next-round}
+use Rattle.trace.proofs.Passes.{passed_none, passed-as, bytes-kept}
 use Rattle.trace.proofs.sweep.pass.Goals as goal
 
 pub loop-t-init : goal.loop-t-init

@@ -1,6 +1,5 @@
 -- `trace::sweep::passes` meets its contract.
 use mathlib.Core.Path.{◌∙◌}
-use Prim.Native.Nat.{◌-◌}
 use native.Mathlib.Omega.{arith}
 use lib.ListN.{length}
 use Rattle.trace.proofs.Passes.{bytes-kept}

@@ -1,6 +1,5 @@
 -- `trace::sweep::refresh_block` meets its contract.
 use mathlib.Core.Path.{◌≡◌, refl}
-use Prim.Native.Nat.{◌-◌}
 use native.Mathlib.Omega.{arith}
 use Rattle.trace.specs.Passes.{sides}
 use Rattle.trace.proofs.Passes.{bytes-kept}

@@ -1,7 +1,6 @@
 -- `trace::sweep::refresh_round` meets its contract.
 use mathlib.Core.Path.{sym, ◌∙◌}
 use mathlib.Core.Bool.{true≢false}
-use Prim.Native.Nat.{◌-◌}
 use native.Mathlib.Omega.{arith}
 use Rattle.trace.proofs.Passes.{passed_none, passed_then, passed-as, passed-one, bytes-kept, next_place}
 use Rattle.trace.proofs.sweep.refresh_round.Goals as goal

@@ -1,5 +1,4 @@
 -- `trace::sweep::sweep` meets its contract.
-use Prim.Native.Nat.{◌-◌}
 use native.Mathlib.Omega.{arith}
 use Rattle.trace.proofs.Passes.{bytes-kept}
 use Rattle.trace.proofs.Sweeps.{sweep_start, sweep-more, sweep-end, sweep-nothing}

@@ -1,5 +1,4 @@
 -- `trace::sweep::sweeps` meets its contract.
-use Prim.Native.Nat.{◌-◌}
 use native.Mathlib.Omega.{arith}
 use borrow.Author.Tests.{eqb-true}
 use Rattle.trace.specs.Passes.{sides}

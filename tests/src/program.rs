@@ -30,7 +30,7 @@ impl Folder {
     pub fn of(program: &str, name: &str) -> Option<Folder> {
         let built = Path::new(env!("CARGO_MANIFEST_DIR")).join("../target/bin").join(program);
         let Ok(built) = built.canonicalize() else {
-            let missing = format!("target/bin/{program} is missing, `rt check {program}` builds it");
+            let missing = format!("target/bin/{program} is missing, `tools/build` builds it");
             writeln!(io::stderr(), "skipped {name}: {missing}").expect("standard error");
             return None;
         };

@@ -21,7 +21,7 @@ use Rattle.outcomes.proofs.NumberLaws.{told-size, told_at_lem, told_below}
 use Rattle.words.specs.Below.{one}
 use Rattle.words.proofs.ListLaws.{zeros}
 use Rattle.words.proofs.Options.{nothing, same_some}
-use Rattle.sheet.specs.RuleSheet.{RuleSheet, outputs, streams, accepted, read_sheet}
+use Rattle.sheet.specs.RuleSheet.{RuleSheet, outputs, accepted, read_sheet}
 use Rattle.sheet.specs.ReadingChecks.{outputs_of}
 use Rattle.sheet.proofs.Formed.{one-sheet, counts_of, read_formed}
 use Rattle.lola.specs.Equations.{output}

@@ -10,7 +10,7 @@ use Rattle.outcomes.specs.Numbers.{Verdicts}
 use Rattle.outcomes.specs.declared.Verdict.{Verdict}
 use Rattle.outcomes.specs.declared.Told.{Told}
 use Rattle.words.specs.Bits.{bit}
-use Rattle.sheet.specs.RuleSheet.{RuleSheet, outputs, streams}
+use Rattle.sheet.specs.RuleSheet.{RuleSheet, outputs}
 use Rattle.sheet.specs.Reading.{rule_sheet, Usable}
 use Rattle.sheet.specs.declared.Sheet.{Sheet}
 use Rattle.sheet.proofs.Sheets.{length-trees, sheet-outputs}

@@ -91,12 +91,7 @@ pub fn jigwaret_round(
 }
 
 // A closing: writes the verdict number of output k into answer[k] and its share into answer[n + k].
-pub fn jigwaret_close(
-    sheet: &[u8],
-    storage: &[u64],
-    record: &mut [u32],
-    answer: &mut [u32],
-) -> u32
+pub fn jigwaret_close(sheet: &[u8], storage: &[u64], record: &mut [u32], answer: &mut [u32]) -> u32
     ensures { ClosedAs sheet.now storage.now (in_slices record.old record.new answer.old answer.new) result }
 {
     if !slices::sized(record.len(), answer.len()) {

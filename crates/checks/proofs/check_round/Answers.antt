@@ -1,7 +1,6 @@
 -- `checks::check_round` meets its contract.
 use Rattle.outcomes.proofs.Decisions.{decided-refused, decided-accepted}
 use Rattle.checks.specs.JournalChecks.{journal_rules, heard_rules}
-use borrow.Author.Rules.{rules}
 use Rattle.checks.proofs.check_round.Goals as goal
 
 pub returns-in-Refused : goal.returns-in-Refused

@@ -1,7 +1,6 @@
 -- `jigwaret::jigwaret_close` meets its contract.
 use mathlib.Core.Bool.{not}
 use mathlib.Core.Path.{◌≡◌, refl, sym, ap, subst}
-use Prim.Native.Nat.{◌≤◌}
 use native.Mathlib.Omega.{arith}
 use lib.ListN.{length}
 use lib.Seq.{paste}
@@ -10,7 +9,7 @@ use Rattle.sheet.specs.ReadingChecks.{outputs_of}
 use Rattle.record.specs.declared.JournalRecord.{JournalRecord}
 use Rattle.checks.specs.JournalChecks.{closing_rules}
 use Rattle.slices.specs.Slices.{marked, numbers_of, verdict_numbers}
-use Rattle.slices.proofs.SliceLaws.{Sizes, sizes_tested, numbers-size}
+use Rattle.slices.proofs.SliceLaws.{sizes_tested, numbers-size}
 use Rattle.monitor.specs.Entries.{CloseCall}
 use Rattle.jigwaret.specs.Journal.{slices, ByMark, MarkRefused, ClosingNumbered}
 use Rattle.jigwaret.proofs.JournalLaws.{sizes_wrong, sizes-right, written, not_written, number_of, closing-by-mark, front_size, put_behind, sheet-long, few-outputs}

@@ -9,7 +9,7 @@ use lib.Seq.{paste}
 use borrow.Author.Rules.{Below-set}
 use Rattle.outcomes.specs.Numbers.{outcome_no}
 use Rattle.slices.specs.Slices.{numbers_of}
-use Rattle.slices.proofs.SliceLaws.{set_two, Sizes, sizes_tested}
+use Rattle.slices.proofs.SliceLaws.{set_two, sizes_tested}
 use Rattle.jigwaret.specs.Journal.{slices, PreparationNumbered}
 use Rattle.jigwaret.proofs.JournalLaws.{sizes_wrong, sizes-right, written, not_written, number_of}
 use Rattle.jigwaret.proofs.jigwaret_prepare.Goals as goal

@@ -1,7 +1,6 @@
 -- `jigwaret::jigwaret_round` meets its contract.
 use mathlib.Core.Bool.{not}
 use mathlib.Core.Path.{refl, sym, ap, subst}
-use Prim.Native.Nat.{◌≤◌}
 use native.Mathlib.Omega.{arith}
 use lib.ListN.{length}
 use lib.Seq.{paste}
@@ -10,11 +9,10 @@ use Rattle.sheet.specs.ReadingChecks.{inputs_of, outputs_of}
 use Rattle.record.specs.declared.JournalRecord.{JournalRecord}
 use Rattle.checks.specs.JournalChecks.{round_rules}
 use Rattle.slices.specs.Slices.{marked, numbers_of, verdict_numbers}
-use Rattle.slices.proofs.SliceLaws.{Sizes, sizes_tested}
+use Rattle.slices.proofs.SliceLaws.{sizes_tested}
 use Rattle.monitor.specs.Entries.{RoundCall}
 use Rattle.jigwaret.specs.Journal.{slices, ByMark, MarkRefused, RoundNumbered}
 use Rattle.jigwaret.proofs.JournalLaws.{sizes_wrong, sizes-right, written, not_written, number_of, round-by-mark, sheet-long, few-outputs}
-use borrow.Author.Rules.{rules}
 use Rattle.jigwaret.proofs.jigwaret_round.Goals as goal
 
 pub returns-then-not-sized : goal.returns-then-not-sized

@@ -9,7 +9,7 @@ use lib.Seq.{paste}
 use Rattle.outcomes.specs.Numbers.{outcome_no, verdict_no}
 use Rattle.record.specs.declared.JournalRecord.{JournalRecord}
 use Rattle.slices.specs.Slices.{marked}
-use Rattle.slices.proofs.SliceLaws.{Sizes, sizes_tested, set-one}
+use Rattle.slices.proofs.SliceLaws.{sizes_tested, set-one}
 use Rattle.queries.specs.Together.{TogetherCall}
 use Rattle.jigwaret.specs.Journal.{slices, ByMark, MarkRefused, TogetherNumbered}
 use Rattle.jigwaret.proofs.JournalLaws.{sizes_wrong, sizes-right, written, not_written, number_of, together-by-mark}

@@ -3,7 +3,6 @@ use mathlib.Core.Path.{refl, sym}
 use native.Mathlib.Omega.{arith}
 use Rattle.sheet.proofs.Sheets.{sheet-outputs}
 use Rattle.line_end.proofs.LineEnds.{refused-ends, closing-ends, bytes-least, over_bound}
-use borrow.Author.Rules.{rules}
 use Rattle.line_end.proofs.closing_line.Goals as goal
 
 pub refused_line-requires : goal.refused_line-requires

@@ -1,6 +1,5 @@
 -- `predecessors::covers` meets its contract.
 use mathlib.Core.Bool.{true≢false}
-use Prim.Native.Nat.{◌-◌}
 use native.Mathlib.Omega.{arith}
 use Rattle.predecessors.proofs.Rows.{covering_more, covered}
 use Rattle.predecessors.proofs.covers.Goals as goal

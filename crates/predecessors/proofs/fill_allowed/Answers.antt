@@ -1,6 +1,5 @@
 -- `predecessors::fill_allowed` meets its contract.
 use mathlib.Core.Path.{refl}
-use Prim.Native.Nat.{◌-◌}
 use native.Mathlib.Omega.{arith}
 use lib.ListN.{length-set}
 use Rattle.predecessors.proofs.Rows.{lanes-none, lanes-more, lanes_all}

@@ -1,6 +1,5 @@
 -- `predecessors::unite_valuations` meets its contract.
 use mathlib.Core.Path.{refl}
-use Prim.Native.Nat.{◌-◌}
 use native.Mathlib.Omega.{arith}
 use Rattle.lanes.specs.Around.{unless}
 use Rattle.predecessors.proofs.Uniting.{uniting-first, uniting-more, uniting-all}
@@ -18,13 +17,12 @@ loop-c-smaller c = omega (arith, c.next_member-c-in-loop-c.ensures.onward)
 
 pub loop-c-preserved : goal.loop-c-preserved
 unfolding unless
-loop-c-preserved c =
-    (
-      c.next_member-c-in-loop-c.ensures.inside,
-      omega arith,
-      omega arith,
-      λ ks. uniting-more _ _ _ _ _ _ _ _ _ _ _ c.loop-c-test.true (c.loop-c.invariant.3 ks) (c.unite.ensures ks) c.next_member-c-in-loop-c.ensures,
-    )
+loop-c-preserved c = (
+  c.next_member-c-in-loop-c.ensures.inside,
+  omega arith,
+  omega arith,
+  λ ks. uniting-more _ _ _ _ _ _ _ _ _ _ _ c.loop-c-test.true (c.loop-c.invariant.3 ks) (c.unite.ensures ks) c.next_member-c-in-loop-c.ensures,
+)
 
 pub returns : goal.returns
 returns c = λ ks. uniting-all _ _ _ _ _ _ _ _ _ (omega arith) (c.loop-c.invariant.3 ks)

@@ -1,6 +1,5 @@
 -- `preparation::join_ends` meets its contract.
 use mathlib.Core.Path.{refl}
-use Prim.Native.Nat.{◌-◌}
 use native.Mathlib.Omega.{arith}
 use Rattle.preparation.proofs.Joining.{ends-first, ends_more, ends-all}
 use Rattle.preparation.proofs.join_ends.Goals as goal

@@ -1,6 +1,5 @@
 -- `preparation::join_row` meets its contract.
 use mathlib.Core.Path.{refl}
-use Prim.Native.Nat.{◌-◌}
 use native.Mathlib.Omega.{arith}
 use Rattle.preparation.proofs.Joining.{words-first, words_more, words-all}
 use Rattle.preparation.proofs.join_row.Goals as goal

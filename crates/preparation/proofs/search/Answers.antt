@@ -1,7 +1,6 @@
 -- `preparation::search` meets its contract.
 use mathlib.Core.Path.{refl, subst}
 use mathlib.Core.Logic.{inl}
-use Prim.Native.Nat.{◌-◌}
 use native.Mathlib.Omega.{arith}
 use borrow.Author.Rules.{rules}
 use Rattle.sheet.specs.RuleSheet.{required_of}
@@ -18,22 +17,21 @@ pub start-requires : goal.start-requires
 start-requires c = (c.requires.coded_by.sized.wide.most, search rules, search rules)
 
 pub loop-size-init : goal.loop-size-init
-loop-size-init c =
-    (
-      c.requires.coded_by.sized.power,
-      c.requires.coded_by.sized.wide.under,
-      c.requires.coded_by.sized.wide.most,
-      search rules,
-      search rules,
-      search rules,
-      omega arith,
-      refl,
-      (omega arith, omega arith, omega arith, omega arith),
-      inl (omega arith),
-      λ k. (c.type_inv.s k).fits,
-      rows_started _ _ _ _ c.requires.coded_by.sized.wide.most c.start.ensures,
-      λ ks r. search-begin _ _ _ _ c.requires.coded_by.sized.streams _ _ c.requires.coded_by.sized.power c.requires.coded_by.sized.wide.under c.requires.coded_by.sized.wide.most ks _ _ _ r c.start.ensures,
-    )
+loop-size-init c = (
+  c.requires.coded_by.sized.power,
+  c.requires.coded_by.sized.wide.under,
+  c.requires.coded_by.sized.wide.most,
+  search rules,
+  search rules,
+  search rules,
+  omega arith,
+  refl,
+  (omega arith, omega arith, omega arith, omega arith),
+  inl (omega arith),
+  λ k. (c.type_inv.s k).fits,
+  rows_started _ _ _ _ c.requires.coded_by.sized.wide.most c.start.ensures,
+  λ ks r. search-begin _ _ _ _ c.requires.coded_by.sized.streams _ _ c.requires.coded_by.sized.power c.requires.coded_by.sized.wide.under c.requires.coded_by.sized.wide.most ks _ _ _ r c.start.ensures,
+)
 
 pub next_bit-requires : goal.next_bit-requires
 next_bit-requires c = (omega arith, c.loop-size.invariant.2, omega arith, omega arith)
@@ -55,8 +53,7 @@ loop-size-smaller c =
 
 pub loop-size-preserved : goal.loop-size-preserved
 loop-size-preserved c =
-    let q = c.loop-size.invariant.12 (required_of c.args.assumed) (c.fill_allowed.ensures _ _) in
-    (
+    let q = c.loop-size.invariant.12 (required_of c.args.assumed) (c.fill_allowed.ensures _ _) in (
       c.loop-size.invariant.0,
       c.loop-size.invariant.1,
       c.loop-size.invariant.2,

@@ -1,6 +1,6 @@
 -- `preparation::sweep` meets its contract.
 use mathlib.Core.Path.{◌≡◌, refl}
-use Prim.Native.Nat.{◌*◌, ◌-◌}
+use Prim.Native.Nat.{◌*◌}
 use native.Mathlib.Omega.{arith}
 use borrow.Author.Rules.{rules}
 use Rattle.words.proofs.SizeLaws.{sized-under}
@@ -37,19 +37,18 @@ pub loop-b-smaller : goal.loop-b-smaller
 loop-b-smaller c = omega (arith, c.next_bit-b-in-loop-b.ensures.onward)
 
 pub loop-b-preserved : goal.loop-b-preserved
-loop-b-preserved c =
-    (
-      c.next_bit-b-in-loop-b.ensures.inside,
-      omega arith,
-      omega arith,
-      omega arith,
-      λ ks r.
-          swept-more _ _ _ _ c.requires.coded_by.sized.wide.most _ _ c.requires.occupied c.requires.reached_at_le_layer.0 c.requires.reached_at_le_layer.1 c.requires.reached_at_le_layer.3 c.requires.reached_at_le_layer.4 _ _ _ _ _ c.loop-b-test.true (c.loop-b.invariant.4 ks r)
-          (column-joins _ _ (streams-low _ _ _ _ ks _ (sized-under _ c.requires.coded_by.sized)) _ _ _ _ _ _
-          (row_from _ _ _ _ _ _ (λ a l. empty_row 4 a) r (c.unite_row.ensures ks)) c.join_row.ensures.joins)
-          c.take_row.ensures c.next_bit-b-in-loop-b.ensures,
-      λ e. occupied_beside _ _ _ _ _ _ _ c.requires.coded_by.sized.wide.most c.requires.reached_at_le_layer.4 c.take_row.ensures (c.join_row.ensures.occupied (c.loop-b.invariant.5 e)),
-    )
+loop-b-preserved c = (
+  c.next_bit-b-in-loop-b.ensures.inside,
+  omega arith,
+  omega arith,
+  omega arith,
+  λ ks r.
+      swept-more _ _ _ _ c.requires.coded_by.sized.wide.most _ _ c.requires.occupied c.requires.reached_at_le_layer.0 c.requires.reached_at_le_layer.1 c.requires.reached_at_le_layer.3 c.requires.reached_at_le_layer.4 _ _ _ _ _ c.loop-b-test.true (c.loop-b.invariant.4 ks r)
+      (column-joins _ _ (streams-low _ _ _ _ ks _ (sized-under _ c.requires.coded_by.sized)) _ _ _ _ _ _
+      (row_from _ _ _ _ _ _ (λ a l. empty_row 4 a) r (c.unite_row.ensures ks)) c.join_row.ensures.joins)
+      c.take_row.ensures c.next_bit-b-in-loop-b.ensures,
+  λ e. occupied_beside _ _ _ _ _ _ _ c.requires.coded_by.sized.wide.most c.requires.reached_at_le_layer.4 c.take_row.ensures (c.join_row.ensures.occupied (c.loop-b.invariant.5 e)),
+)
 
 pub returns : goal.returns
 returns c =

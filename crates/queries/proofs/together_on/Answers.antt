@@ -1,7 +1,4 @@
 -- `queries::together_on` meets its contract.
-use native.Mathlib.Omega.{arith}
-use lib.ListN.{length}
-use Rattle.checks.proofs.Checking.{together-long}
 use Rattle.queries.proofs.Answering.{turned_down, answered}
 use Rattle.queries.proofs.together_on.Goals as goal
 

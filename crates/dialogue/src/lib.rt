@@ -119,7 +119,8 @@ pub fn heard(
     ensures in_table { InTable result.state.pending }
 {
     let s = d.state;
-    if chunk.len() == 0 {
+    let at_end = chunk.len() == 0;
+    if at_end {
         let to = protocol::finish(x, table, s, storage, out);
         return Dialogue {
             state: s,

@@ -306,7 +306,8 @@ fn read_file(system: &mut System, file: &mut File, bytes: &mut [u8]) -> Reading
     }
 }
 
-// The first bytes of the sheet's file. It is closed before anything else is read, as it may have taken the place of standard input.
+// The first bytes of the sheet's file, which std opens, again where a signal came in between. It is closed before anything else is
+// read, as it may have taken the place of standard input.
 fn load(system: &mut System, bytes: &mut [u8]) -> Reading
     ensures { Gave result.loaded result.reply bytes.new result.calls }
 {

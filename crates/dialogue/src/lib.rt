@@ -13,6 +13,11 @@ use outcomes::Outcome;
 use protocol::Progress;
 use sheet::Sheet;
 
+// The numbers of the errors after which a call is made again.
+const EINTR: i32 = 4;
+
+const EAGAIN: i32 = 11;
+
 // What the system said to a call: how many bytes it moved, or why none.
 #[derive(Clone, Copy)]
 pub enum Reply {
@@ -55,10 +60,10 @@ impl Reply {
         if got >= 0 {
             return Reply::Moved(got as usize);
         }
-        if error == libc::EINTR {
+        if error == EINTR {
             return Reply::Interrupted;
         }
-        if error == libc::EAGAIN {
+        if error == EAGAIN {
             return Reply::NotReady;
         }
         Reply::Failed
@@ -114,7 +119,8 @@ pub fn heard(
     ensures in_table { InTable result.state.pending }
 {
     let s = d.state;
-    if chunk.len() == 0 {
+    let at_end = chunk.len() == 0;
+    if at_end {
         let to = protocol::finish(x, table, s, storage, out);
         return Dialogue {
             state: s,

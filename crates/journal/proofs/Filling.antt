@@ -4,7 +4,7 @@ use mathlib.Core.Bool.{false, true≢false}
 use mathlib.Core.List.{List, [], ◌∷◌, ◌++◌, append-nil}
 use Prim.Native.Nat.{ℕ, ◌+◌, ◌≤◌}
 use native.Mathlib.Omega.{arith}
-use lib.ListN.{length, take, drop, length-take, length-drop}
+use lib.ListN.{length, take, drop, length-drop}
 use lib.Seq.{take-add, length-take-le}
 use Rattle.dialogue.specs.History.{Event, came, again, all_came, at_end, FirstBytes}
 
@@ -35,6 +35,3 @@ module _ (bytes bytes₁ : List ℕ) (n calls : ℕ) (g : Given (take n bytes) c
   pub given-end : (room : ℕ) → FirstBytes room (take n bytes₁) (calls + 1)
   unfolding all_came at_end
   given-end room = (came [] ∷ g.0, omega (arith, g.1), append-nil (all_came g.0) ∙ g.2 ∙ sym same, λ e. absurd (true≢false e))
-
-pub given_full : (bytes : List ℕ) (n calls : ℕ) → Given (take n bytes) calls → n ≤ length bytes → length bytes ≤ n → FirstBytes (length bytes) (take n bytes) calls
-given_full bytes n calls g h f = (g.0, g.1, g.2, λ e. omega (arith, length-take n bytes))

@@ -1,7 +1,10 @@
 -- For the contracts of inner functions: a call of the system, as the history has it.
-use Rattle.std.specs.Prelude.{◌≡◌, Bool, true, false, cond, List, [], ℕ, ◌+◌, ◌≤◌, ◌<◌, ltb, length, take, drop}
+use Rattle.std.specs.Prelude.{◌≡◌, Bool, true, false, cond, List, [], ℕ, ◌+◌, ◌≤◌, ◌<◌, ltb, length, take, drop, ℤ, pos, negsuc, Result, Ok, Err}
+use Rattle.std.specs.Option.{unwrap_or}
+use Rattle.std.specs.IoError.{raw_os_error}
+use Rattle.std.specs.declared.io.Error.{Error}
 use Rattle.sheet.specs.declared.Sheet.{Sheet}
-use Rattle.dialogue.specs.History.{Event, came, went, again, Ends, FirstBytes}
+use Rattle.dialogue.specs.History.{Event, replied, came, went, again, Ends, FirstBytes}
 use Rattle.dialogue.specs.Talks.{Talks, Steps}
 use Rattle.dialogue.specs.declared.Dialogue.{Dialogue}
 use Rattle.dialogue.specs.declared.Reply.{Reply}
@@ -10,6 +13,22 @@ use Rattle.journal.specs.declared.Ended.{Ended}
 use Rattle.journal.specs.declared.Loaded.{Loaded}
 use Rattle.journal.specs.declared.Turned.{Turned}
 use Rattle.journal.specs.declared.Loaded.TheVariants.{Bytes, Missing, Unopened, Unread}
+
+-- a call moved no more than there was room for, or than there was
+abbrev pub MovesAtMost : Reply → ℕ → Type 0
+MovesAtMost (Moved n) most = n ≤ most
+MovesAtMost Interrupted most = Unit {0}
+MovesAtMost NotReady most = Unit {0}
+MovesAtMost Failed most = Unit {0}
+
+-- the number of an error, or 0 where it has none
+abbrev pub error_number : Error → ℤ
+error_number e = unwrap_or (raw_os_error e) (pos 0)
+
+-- std's answer to a read or a write, as a reply
+abbrev pub Answers : Result ℕ Error → Reply → Type 0
+Answers (Ok n) r = r ≡ Moved n
+Answers (Err e) r = r ≡ replied (negsuc 0) (error_number e)
 
 -- nothing happened
 abbrev pub Kept : Sheet → Dialogue → List ℕ → List ℕ → Dialogue → List ℕ → List ℕ → Type 0

@@ -6,12 +6,21 @@ ghost use Rattle.letter_table.specs.Entry.{Sets};
 ghost use Rattle.line_scan.specs.Scan.{InTable};
 ghost use Rattle.dialogue.specs.History.{Served};
 ghost use Rattle.dialogue.specs.Talks.{Wants, Within};
-ghost use Rattle.journal.specs.Turns.{Wrote, Read, goes_on, Goes, Serves, Added, Gave};
+ghost use Rattle.journal.specs.Turns.{MovesAtMost, Answers, Wrote, Read, goes_on, Goes, Serves, Added, Gave};
 
 use dialogue::{Dialogue, End, Reply};
-use libc::{STDERR_FILENO, STDIN_FILENO, STDOUT_FILENO};
 use record::JournalRecord;
 use sheet::Sheet;
+use std::fs::File;
+use std::io;
+use std::io::{ErrorKind, Read, Write};
+
+// The system, and the error of the last call of it that failed.
+#[derive(Drop)]
+struct System {
+    rt: HostRuntime,
+    error: io::Error,
+}
 
 // What the system said to a call, and where the talk stands after it.
 #[derive(Clone, Copy)]
@@ -54,16 +63,46 @@ struct Reading {
     calls: u64,
 }
 
+impl System {
+    // One read of standard input.
+    fn read(&mut self, bytes: &mut [u8]) -> Reply
+        ensures { MovesAtMost result (length bytes.new) }
+    {
+        let answer = self.rt.stdin().read(bytes);
+        self.reply(answer)
+    }
+
+    // One write to standard output.
+    fn write(&mut self, bytes: &[u8]) -> Reply
+        ensures { MovesAtMost result (length bytes.now) }
+    {
+        let answer = self.rt.stdout().write(bytes);
+        self.reply(answer)
+    }
+
+    // What a read or a write said. Its error is kept.
+    fn reply(&mut self, answer: io::Result<usize>) -> Reply
+        ensures { Answers answer result }
+    {
+        match answer {
+            Ok(n) => Reply::Moved(n),
+            Err(error) => {
+                self.error = error;
+                Reply::of(-1, error.raw_os_error().unwrap_or(0))
+            }
+        }
+    }
+}
+
 // Writes what is pending, or a part of it. A write that took nothing was not ready.
-fn write(d: Dialogue, out: &[u8]) -> Called
+fn write(system: &mut System, d: Dialogue, out: &[u8]) -> Called
     requires { Within d out.now }
     ensures wrote { Wrote d out.now result.reply result.dialogue }
     ensures within { Within result.dialogue out.now × (result.dialogue.more ≡ d.more) × (result.dialogue.state ≡ d.state) }
 {
     let from = d.from;
     let to = d.to;
-    let got = libc::write(STDOUT_FILENO, &out[from..to]);
-    let reply = Reply::of(got, os::errno());
+    let reply = system.write(&out[from..to]);
     match reply {
         Reply::Moved(n) => {
             if n == 0 {
@@ -84,6 +123,7 @@ fn write(d: Dialogue, out: &[u8]) -> Called
 
 // Reads once, and has what came answered in `out`.
 fn read(
+    system: &mut System,
     x: Sheet,
     table: &[u64],
     d: Dialogue,
@@ -95,8 +135,7 @@ fn read(
     ensures read { Read x d storage.old out.old buf.new result.reply result.dialogue storage.new out.new }
     ensures within { Within result.dialogue out.new × InTable result.dialogue.state.pending }
 {
-    let got = libc::read(STDIN_FILENO, buf);
-    let reply = Reply::of(got, os::errno());
+    let reply = system.read(buf);
     match reply {
         Reply::Moved(n) => {
             let heard = dialogue::heard(x, table, d, storage, &buf[..n], out);
@@ -110,14 +149,14 @@ fn read(
 }
 
 // Waits where the call was not ready; whether it went well, or is to be made again.
-fn wait(reply: Reply) -> bool
+fn wait(system: &System, reply: Reply) -> bool
     ensures { result ≡ goes_on reply }
 {
     match reply {
         Reply::Moved(_) => true,
         Reply::Interrupted => true,
         Reply::NotReady => {
-            delay::pause();
+            delay::pause(&system.rt);
             true
         }
         Reply::Failed => false,
@@ -126,6 +165,7 @@ fn wait(reply: Reply) -> bool
 
 // Makes the call that is due, if one is.
 fn turn(
+    system: &mut System,
     x: Sheet,
     table: &[u64],
     d: Dialogue,
@@ -138,10 +178,10 @@ fn turn(
     ensures within { Wants x result.dialogue × Within result.dialogue out.new }
 {
     if d.from < d.to {
-        let called = write(d, out);
+        let called = write(system, d, out);
         let dialogue = called.dialogue;
         let reply = called.reply;
-        let going = wait(reply);
+        let going = wait(system, reply);
         return Turned {
             reply,
             dialogue,
@@ -150,10 +190,10 @@ fn turn(
         };
     }
     if d.more {
-        let called = read(x, table, d, storage, buf, out);
+        let called = read(system, x, table, d, storage, buf, out);
         let dialogue = called.dialogue;
         let reply = called.reply;
-        let going = wait(reply);
+        let going = wait(system, reply);
         return Turned {
             reply,
             dialogue,
@@ -170,7 +210,7 @@ fn turn(
 }
 
 // All turns. A proved loop has to end, and nothing says that the input does, so the calls are counted.
-fn run(x: Sheet, start: Dialogue, storage: &mut [u64], out: &mut [u8]) -> Ended
+fn run(system: &mut System, x: Sheet, start: Dialogue, storage: &mut [u64], out: &mut [u8]) -> Ended
     requires { Wants x start × (64470 ≤ length out.old) × Within start out.old }
     ensures { Serves x start storage.old out.old result storage.new out.new }
 {
@@ -179,7 +219,7 @@ fn run(x: Sheet, start: Dialogue, storage: &mut [u64], out: &mut [u8]) -> Ended
     let mut d = start;
     let mut calls = 0u64;
     while calls < u64::MAX {
-        let turned = turn(x, &table, d, storage, &mut buf, out);
+        let turned = turn(system, x, &table, d, storage, &mut buf, out);
         d = turned.dialogue;
         if !turned.going {
             let end = turned.end;
@@ -199,35 +239,35 @@ fn run(x: Sheet, start: Dialogue, storage: &mut [u64], out: &mut [u8]) -> Ended
 }
 
 // Answers standard input by the bytes of a sheet.
-fn serve(sheet: &[u8]) -> Ended
+fn serve(system: &mut System, sheet: &[u8]) -> Ended
     ensures { Served sheet.now result.calls result.end }
 {
     let mut storage = [0u64; JournalRecord::STORAGE_WORDS];
-    let mut out = io::large_buffer();
+    let mut out = [0u8; 65536];
     let opened = dialogue::open(sheet, &mut storage, &mut out);
     let x = opened.sheet;
     let d = opened.dialogue;
-    run(x, d, &mut storage, &mut out)
+    run(system, x, d, &mut storage, &mut out)
 }
 
 // Reads once more, behind the n bytes that came before.
-fn read_more(fd: i32, bytes: &mut [u8], n: usize) -> Reply
+fn read_more(system: &mut System, file: &mut File, bytes: &mut [u8], n: usize) -> Reply
     requires { n ≤ length bytes.old }
     ensures { Added bytes.old n bytes.new result }
 {
-    let got = libc::read(fd, &mut bytes[n..]);
-    Reply::of(got, os::errno())
+    let answer = file.read(&mut bytes[n..]);
+    system.reply(answer)
 }
 
 // Reads until `bytes` is full or the file is at its end.
-fn read_file(fd: i32, bytes: &mut [u8]) -> Reading
+fn read_file(system: &mut System, file: &mut File, bytes: &mut [u8]) -> Reading
     ensures { Gave result.loaded result.reply bytes.new result.calls }
 {
     let mut n = 0;
     let mut calls = 0u64;
     while calls < u64::MAX && n < bytes.len() {
         calls += 1;
-        let reply = read_more(fd, bytes, n);
+        let reply = read_more(system, file, bytes, n);
         if let Reply::Moved(k) = reply {
             if k == 0 {
                 let loaded = Loaded::Bytes(n);
@@ -240,7 +280,7 @@ fn read_file(fd: i32, bytes: &mut [u8]) -> Reading
             n += k;
             continue;
         }
-        if !wait(reply) {
+        if !wait(system, reply) {
             let loaded = Loaded::Unread;
             return Reading {
                 loaded,
@@ -266,89 +306,78 @@ fn read_file(fd: i32, bytes: &mut [u8]) -> Reading
     }
 }
 
-// Opens the file for reading, again where a signal came in between.
-fn open_file(path: &[u8]) -> i32 {
-    let mut fd = os::open_read(path);
-    let mut calls = 0u64;
-    while calls < u64::MAX && fd < 0 && os::errno() == libc::EINTR {
-        fd = os::open_read(path);
-        calls += 1;
-    }
-    fd
-}
-
-// The first bytes of the sheet's file. It is closed before anything else is read, as it may have taken the place of standard input.
-fn load(bytes: &mut [u8]) -> Reading
+// The first bytes of the sheet's file, which std opens, again where a signal came in between. It is closed before anything else is
+// read, as it may have taken the place of standard input.
+fn load(system: &mut System, bytes: &mut [u8]) -> Reading
     ensures { Gave result.loaded result.reply bytes.new result.calls }
 {
-    let fd = open_file(b"sheet.slr");
-    if fd >= 0 {
-        let reading = read_file(fd, bytes);
-        let loaded = reading.loaded;
-        if let Loaded::Bytes(_) = loaded {
-            libc::close(fd);
+    let opened = File::open(&system.rt, "sheet.slr");
+    match opened {
+        Ok(mut file) => read_file(system, &mut file, bytes),
+        Err(error) => {
+            system.error = error;
+            let loaded = if error.kind() == ErrorKind::NotFound {
+                Loaded::Missing
+            } else {
+                Loaded::Unopened
+            };
+            let reply = Reply::Failed;
+            Reading {
+                loaded,
+                reply,
+                calls: 0,
+            }
         }
-        return reading;
-    }
-    let reply = Reply::Failed;
-    if os::errno() == libc::ENOENT {
-        let loaded = Loaded::Missing;
-        return Reading {
-            loaded,
-            reply,
-            calls: 0,
-        };
-    }
-    let loaded = Loaded::Unopened;
-    Reading {
-        loaded,
-        reply,
-        calls: 0,
     }
 }
 
 // Says on standard error what failed, if anything did.
-fn report(end: End) {
+fn report(system: &System, end: End) {
     match end {
         End::Whole => {}
         End::InputFailed => {
-            os::fail(b"journal: cannot read standard input");
+            fail(system, "journal: cannot read standard input");
         }
         End::OutputFailed => {
-            os::fail(b"journal: cannot write standard output");
+            fail(system, "journal: cannot write standard output");
         }
         End::Unfinished => {
-            io::write_all(
-                STDERR_FILENO,
-                b"journal: stopped before the end of the input\n",
-            );
+            let _ = eprintln!(system.rt; "journal: stopped before the end of the input");
         }
     }
 }
 
-fn answer(sheet: &[u8]) {
-    let ended = serve(sheet);
+fn fail(system: &System, what: &str) {
+    failures::fail(&system.rt, what, system.error);
+}
+
+fn answer(system: &mut System, sheet: &[u8]) {
+    let ended = serve(system, sheet);
     let end = ended.end;
-    report(end);
+    report(system, end);
 }
 
 // A missing sheet counts as an empty one.
-fn main() {
+fn main(rt: HostRuntime) {
+    let mut system = System {
+        rt,
+        error: io::Error::from(ErrorKind::Other),
+    };
     let mut sheet = [0u8; 464];
-    let reading = load(&mut sheet);
+    let reading = load(&mut system, &mut sheet);
     let loaded = reading.loaded;
     match loaded {
         Loaded::Bytes(n) => {
-            answer(&sheet[..n]);
+            answer(&mut system, &sheet[..n]);
         }
         Loaded::Missing => {
-            answer(&[]);
+            answer(&mut system, &[]);
         }
         Loaded::Unopened => {
-            os::fail(b"journal: cannot open sheet.slr");
+            fail(&system, "journal: cannot open sheet.slr");
         }
         Loaded::Unread => {
-            os::fail(b"journal: cannot read sheet.slr");
+            fail(&system, "journal: cannot read sheet.slr");
         }
     }
 }

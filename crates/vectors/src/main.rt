@@ -11,11 +11,11 @@ ghost use Rattle.pairs.specs.Storage.{storage_words};
 ghost use Rattle.letter_table.specs.Entry.{Sets};
 ghost use Rattle.line_scan.specs.Scan.{InTable};
 
-use libc::{STDIN_FILENO, STDOUT_FILENO};
 use outcomes::Outcome;
 use protocol::Progress;
 use record::JournalRecord;
 use sheet::Sheet;
+use std::io::Read;
 
 // How many bytes a sheet or session has, and whether all of them were read.
 #[derive(Clone, Copy)]
@@ -29,34 +29,42 @@ fn number(low: u8, high: u8) -> usize {
     low as usize + 256 * (high as usize)
 }
 
+// Fills buf with the next bytes of the input; whether there were so many.
+fn read_full(rt: HostRuntime, buf: &mut [u8]) -> bool {
+    rt.stdin().read_exact(buf).is_ok()
+}
+
+// Writes to standard output; whether all was taken.
+fn write_all(rt: HostRuntime, bytes: &[u8]) -> bool {
+    rt.write_all(bytes).is_ok()
+}
+
 // Reads the next n bytes of the input to the start of buf.
-fn read_part(n: usize, buf: &mut [u8]) -> Part
+fn read_part(rt: HostRuntime, n: usize, buf: &mut [u8]) -> Part
     ensures { result.n ≤ length buf.new }
 {
     if n > buf.len() {
         return Part { n: 0, whole: false };
     }
-    let got = io::read_full(STDIN_FILENO, &mut buf[..n]);
-    Part { n, whole: got == n }
+    let whole = read_full(rt, &mut buf[..n]);
+    Part { n, whole }
 }
 
-fn read_sheet(sheet: &mut [u8]) -> Part
+fn read_sheet(rt: HostRuntime, sheet: &mut [u8]) -> Part
     ensures { result.n ≤ length sheet.new }
 {
     let mut head = [0u8; 2];
-    let got = io::read_full(STDIN_FILENO, &mut head);
-    if got < 2 {
+    if !read_full(rt, &mut head) {
         return Part { n: 0, whole: false };
     }
-    read_part(number(head[0], head[1]), sheet)
+    read_part(rt, number(head[0], head[1]), sheet)
 }
 
-fn read_session(session: &mut [u8]) -> Part
+fn read_session(rt: HostRuntime, session: &mut [u8]) -> Part
     ensures { result.n ≤ length session.new }
 {
     let mut head = [0u8; 4];
-    let got = io::read_full(STDIN_FILENO, &mut head);
-    if got < 4 {
+    if !read_full(rt, &mut head) {
         return Part { n: 0, whole: false };
     }
     if head[2] != 0 {
@@ -65,7 +73,7 @@ fn read_session(session: &mut [u8]) -> Part
     if head[3] != 0 {
         return Part { n: 0, whole: false };
     }
-    read_part(number(head[0], head[1]), session)
+    read_part(rt, number(head[0], head[1]), session)
 }
 
 // How many bytes to feed at this place of a session, of which so many are left. From 0 on, the sizes 1 to 10 come in a mixed order.
@@ -81,7 +89,15 @@ fn chunk_size(at: usize, left: usize) -> usize
 }
 
 // Feeds a session in small chunks. A run that is over is fed on and writes nothing more.
-fn play(x: Sheet, table: &[u64], s: Progress, storage: &mut [u64], session: &[u8], out: &mut [u8])
+fn play(
+    rt: HostRuntime,
+    x: Sheet,
+    table: &[u64],
+    s: Progress,
+    storage: &mut [u64],
+    session: &[u8],
+    out: &mut [u8],
+)
     requires { IsAccepted x × (600 ≤ length out.old) × Sets table.now × InTable s.pending }
 {
     let mut state = s;
@@ -92,15 +108,22 @@ fn play(x: Sheet, table: &[u64], s: Progress, storage: &mut [u64], session: &[u8
         let fed = protocol::feed(x, table, state, storage, &session[at..next], out);
         let to = fed.at;
         state = fed.state;
-        io::write_all(STDOUT_FILENO, &out[..to]);
+        write_all(rt, &out[..to]);
         at = next;
     }
     let to = protocol::finish(x, table, state, storage, out);
-    io::write_all(STDOUT_FILENO, &out[..to]);
+    write_all(rt, &out[..to]);
 }
 
 // What the journal program writes for a sheet's file and a session. The storage is as the case before left it.
-fn answer(table: &[u64], sheet: &[u8], session: &[u8], storage: &mut [u64], out: &mut [u8])
+fn answer(
+    rt: HostRuntime,
+    table: &[u64],
+    sheet: &[u8],
+    session: &[u8],
+    storage: &mut [u64],
+    out: &mut [u8],
+)
     requires { (storage_words ≤ length storage.old) × (600 ≤ length out.old) × Sets table.now }
 {
     let begun = protocol::start(sheet, storage, out);
@@ -108,18 +131,19 @@ fn answer(table: &[u64], sheet: &[u8], session: &[u8], storage: &mut [u64], out:
     match outcome {
         Outcome::Refused(_) => {
             let to = begun.at;
-            io::write_all(STDOUT_FILENO, &out[..to]);
+            write_all(rt, &out[..to]);
         }
         Outcome::Accepted => {
             let x = begun.sheet;
             let state = begun.state;
-            play(x, table, state, storage, session, out);
+            play(rt, x, table, state, storage, session, out);
         }
     }
 }
 
 // Reads a case and answers it, or tells that there is none.
 fn case(
+    rt: HostRuntime,
     table: &[u64],
     sheet: &mut [u8],
     session: &mut [u8],
@@ -128,31 +152,31 @@ fn case(
 ) -> bool
     requires { (storage_words ≤ length storage.old) × (600 ≤ length out.old) × Sets table.now }
 {
-    let first = read_sheet(sheet);
+    let first = read_sheet(rt, sheet);
     if !first.whole {
         return false;
     }
-    let second = read_session(session);
+    let second = read_session(rt, session);
     if !second.whole {
         return false;
     }
     let m = first.n;
     let n = second.n;
-    answer(table, &sheet[..m], &session[..n], storage, out);
-    io::write_all(STDOUT_FILENO, b"--\n")
+    answer(rt, table, &sheet[..m], &session[..n], storage, out);
+    write_all(rt, b"--\n")
 }
 
 // All cases. A proved loop has to end, and nothing says that the input does, so the cases are counted down.
-fn main() {
+fn main(rt: HostRuntime) {
     let table = letter_table::sets();
     let mut sheet = [0u8; 464];
-    let mut session = io::large_buffer();
+    let mut session = [0u8; 65536];
     let mut storage = [0u64; JournalRecord::STORAGE_WORDS];
-    let mut out = io::buffer();
+    let mut out = [0u8; 4096];
     let mut go = true;
     let mut cases = u64::MAX;
     while cases > 0 && go {
-        go = case(&table, &mut sheet, &mut session, &mut storage, &mut out);
+        go = case(rt, &table, &mut sheet, &mut session, &mut storage, &mut out);
         cases -= 1;
     }
 }

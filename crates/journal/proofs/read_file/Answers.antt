@@ -1,10 +1,10 @@
 -- `journal::read_file` meets its contract.
 use mathlib.Core.Path.{refl, ap}
-use Prim.Native.Nat.{ℕ, ◌-◌}
+use Prim.Native.Nat.{ℕ}
 use native.Mathlib.Omega.{arith}
 use borrow.Author.Rules.{rules}
 use Rattle.dialogue.specs.declared.Reply.TheVariants.{Moved}
-use Rattle.journal.proofs.Filling.{given_none, given-more, given-again, given-end, given_full}
+use Rattle.journal.proofs.Filling.{given_none, given-more, given-again, given-end}
 use Rattle.journal.proofs.read_file.Goals as goal
 
 pub loop-calls-init : goal.loop-calls-init
@@ -12,11 +12,7 @@ loop-calls-init c = (refl, omega arith, given_none)
 
 pub returns-then-k-eq0 : goal.returns-then-k-eq0
 returns-then-k-eq0 c =
-    (omega (arith, c.loop-calls.invariant.1, c.read_more-reply.auto.1.0), (λ h. ap (λ (k : ℕ). Moved k) c.if-k-eq0.true), given-end _ _ c.loop-calls.n c.loop-calls.calls c.loop-calls.invariant.2 c.read_more-reply.ensures.0 _)
-
-pub overflow_add-n : goal.overflow_add-n
-overflow_add-n c =
-    omega (arith, c.read_more-reply.ensures.1 _ c.in-Moved.is, c.read_more-reply.auto.1.0)
+    (omega (arith, c.loop-calls.invariant.1, c.read_more-reply.auto.bytes), (λ h. ap (λ (k : ℕ). Moved k) c.if-k-eq0.true), given-end _ _ c.loop-calls.n c.loop-calls.calls c.loop-calls.invariant.2 c.read_more-reply.ensures.0 _)
 
 pub loop-calls-preserved-in-Moved : goal.loop-calls-preserved-in-Moved
 loop-calls-preserved-in-Moved c =
@@ -25,8 +21,4 @@ loop-calls-preserved-in-Moved c =
 
 pub loop-calls-preserved : goal.loop-calls-preserved
 loop-calls-preserved c =
-    (search rules, omega (arith, c.loop-calls.invariant.1, c.read_more-reply.auto.1.0), given-again _ _ c.loop-calls.n c.loop-calls.calls c.loop-calls.invariant.2 c.read_more-reply.ensures.0)
-
-pub returns : goal.returns
-returns c =
-    (c.loop-calls.invariant.1, (λ h. absurd (omega (arith, h, c.if-n-bytes-2.false))), given_full _ c.loop-calls.n c.loop-calls.calls c.loop-calls.invariant.2 c.loop-calls.invariant.1 c.if-n-bytes-2.false)
+    (search rules, omega (arith, c.loop-calls.invariant.1, c.read_more-reply.auto.bytes), given-again _ _ c.loop-calls.n c.loop-calls.calls c.loop-calls.invariant.2 c.read_more-reply.ensures.0)

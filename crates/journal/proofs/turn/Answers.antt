@@ -9,7 +9,7 @@ use Rattle.journal.proofs.turn.Goals as goal
 
 pub returns-then-d : goal.returns-then-d
 returns-then-d c =
-    record { turned = rw c.wait-going.ensures (write_turn c.args.x c.args.d c.write-called.result.dialogue c.args.storage.now c.args.out.now c.args.buf.now c.write-called.result.reply (goes_on c.write-called.result.reply) c.if1.true c.write-called.ensures.wrote); within = (((λ e. c.requires.0.0 (sym c.write-called.ensures.within.1 ∙ e)), subst (λ (s : Progress). InTable s.pending) (sym c.write-called.ensures.within.2) c.requires.0.1), c.write-called.ensures.within.0) }
+    record { turned = rw c.wait-going.ensures (write_turn c.args.x c.args.d c.write-called.result.dialogue c.args.storage.now c.args.out.now c.args.buf.now c.write-called.result.reply (goes_on c.write-called.result.reply) c.if-d.true c.write-called.ensures.wrote); within = (((λ e. c.requires.0.0 (sym c.write-called.ensures.within.1 ∙ e)), subst (λ (s : Progress). InTable s.pending) (sym c.write-called.ensures.within.2) c.requires.0.1), c.write-called.ensures.within.0) }
 
 pub returns-then-d-2 : goal.returns-then-d-2
 returns-then-d-2 c =

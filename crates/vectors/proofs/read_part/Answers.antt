@@ -1,8 +1,0 @@
--- `vectors::read_part` meets its contract.
-use mathlib.Core.Path.{sym}
-use native.Mathlib.Omega.{arith}
-use lib.Seq.{length-take-le}
-use Rattle.vectors.proofs.read_part.Goals as goal
-
-pub slice_bounds-read_full-end-2 : goal.slice_bounds-read_full-end-2
-slice_bounds-read_full-end-2 c = sym (length-take-le _ _ (omega arith))

@@ -15,7 +15,7 @@ use std::io::{self, Read, Seek, Write};
 use std::os::fd::{AsRawFd, OwnedFd};
 use std::os::unix::fs::{symlink, MetadataExt, OpenOptionsExt, PermissionsExt};
 use std::os::unix::net::{UnixListener, UnixStream};
-use std::os::unix::process::{CommandExt, ExitStatusExt};
+use std::os::unix::process::CommandExt;
 use std::path::{Path, PathBuf};
 use std::process::{Command, Stdio};
 use std::sync::OnceLock;
@@ -351,27 +351,26 @@ fn a_file_that_is_full() {
     ended.expect(&answers[..ended.output.len()], &cannot(OUTPUT, "File too large"));
 }
 
-/// The signal ends the program, as it does any other; where it is ignored, the write fails.
+/// The write fails: a program of Rattle does not end by the signal.
 #[test]
 fn an_output_that_nobody_reads() {
-    const SIGPIPE: i32 = 13;
     let Some(folder) = Folder::with_sheet("an_output_that_nobody_reads", &session_sheet()) else { return };
+    let errors = cannot(OUTPUT, "Broken pipe");
     for ends in [output_pipe, sockets] {
         let (input, _to) = open_input(b"10\n");
-        let ended = connect(&folder, input, unread(ends)).end();
-        assert_eq!((ended.status.signal(), &*ended.errors), (Some(SIGPIPE), ""));
+        connect(&folder, input, unread(ends)).end().expect("", &errors);
 
         let (input, _to) = open_input(b"10\n");
         let mut command = folder.shell("trap '' PIPE; exec \"$0\"");
         command.stdin(input).stdout(unread(ends));
-        folder.end(command).expect("", &cannot(OUTPUT, "Broken pipe"));
+        folder.end(command).expect("", &errors);
 
         let ((input, mut to), (output, mut from)) = (open_input(b"10\n"), ends());
         let run = connect(&folder, input, output);
         from.read_exact(&mut [0; 3]).expect("an answer");
         drop(from);
         send(&mut to, b"10\n");
-        assert_eq!(run.end().status.signal(), Some(SIGPIPE));
+        run.end().expect("", &errors);
     }
 }
 
@@ -663,11 +662,9 @@ fn a_table_in_a_file_that_is_full() {
 
 #[test]
 fn a_table_that_nobody_reads() {
-    const SIGPIPE: i32 = 13;
     let Some(folder) = Folder::of("letter_sets", "a_table_that_nobody_reads") else { return };
     for ends in [output_pipe, sockets] {
-        let ended = connect(&folder, Stdio::null(), unread(ends)).end();
-        assert_eq!((ended.status.signal(), &*ended.errors), (Some(SIGPIPE), ""));
+        connect(&folder, Stdio::null(), unread(ends)).end().expect("", &cannot_print("Broken pipe"));
         let mut command = folder.shell("trap '' PIPE; exec \"$0\"");
         command.stdout(unread(ends));
         folder.end(command).expect("", &cannot_print("Broken pipe"));

@@ -54,7 +54,8 @@ fn check_named(n: u8, r: JournalRecord, outputs: u8) -> Outcome
     requires { n ≤ 7 }
     ensures { Decided (named_rules n r outputs) result }
 {
-    if outputs >> n != 0 {
+    let beyond = outputs >> n;
+    if beyond != 0 {
         return Outcome::Refused(Refusal::OutputSet);
     }
     check_end(r)

@@ -24,10 +24,12 @@ pub fn accept_sheet(s: &[u8]) -> SheetRead
             let m = got.sheet.inputs;
             let n = got.sheet.outputs as usize;
             let words = reads::all_reads(&got.sheet.code, &got.sheet.len, n);
-            if table::circular(&words, m, n) {
-                return reader::refused_sheet(Refusal::Circular);
+            let circular = table::circular(&words, m, n);
+            let level = !circular;
+            if level {
+                return got;
             }
-            got
+            reader::refused_sheet(Refusal::Circular)
         }
         Outcome::Refused(_) => got,
     }

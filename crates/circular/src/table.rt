@@ -62,7 +62,8 @@ fn plus(x: u16, y: u16) -> u16
 fn looped(c: u16, x: u16) -> u16
     ensures { result ≡ loop_n c x }
 {
-    if c <= LEVEL {
+    let top = LEVEL;
+    if c <= top {
         return x;
     }
     pick(x == NO_WALK, NO_WALK, UNBOUNDED)

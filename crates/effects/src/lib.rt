@@ -85,7 +85,8 @@ fn step<'a>(
         rounds::first_round(storage, code, len, m, n, letters);
         return;
     }
-    if 0 < rounds {
+    let before = rounds;
+    if 0 < before {
         rounds::later_round(storage, code, len, m, n, letters);
     }
 }

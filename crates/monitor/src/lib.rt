@@ -52,7 +52,8 @@ pub fn prepare_on(x: Sheet, storage: &mut [u64]) -> PrepareAnswer
     requires { IsAccepted x }
     ensures { (bs : List ℕ) → AcceptedSheet bs x → PrepareCall bs storage.old storage.new result }
 {
-    if storage.len() < JournalRecord::STORAGE_WORDS {
+    let needed = JournalRecord::STORAGE_WORDS;
+    if storage.len() < needed {
         return refused_preparation(Refusal::Storage);
     }
     effects::preparation(x, storage)

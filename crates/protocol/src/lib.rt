@@ -111,7 +111,8 @@ pub fn feed(
     while i < chunk.len() {
         let b = chunk[i];
         i += 1;
-        if b != b'\n' {
+        let line_feed = b'\n';
+        if b != line_feed {
             pending = pending.scan(table, m, b);
             continue;
         }

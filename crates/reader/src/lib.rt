@@ -88,7 +88,8 @@ fn read_output(s: &[u8], at: usize, grammar: Grammar) -> OutputRead
     if len < 1 {
         return OutputRead::Refused(Refusal::Length);
     }
-    if 64 < len {
+    let most = 64;
+    if most < len {
         return OutputRead::Refused(Refusal::Length);
     }
     let start = at + 1;

@@ -112,7 +112,8 @@ pub fn share_of(trues: u32, rounds: u32) -> u32
     let q = (scaled / t) as u32;
     let r = scaled % t;
     // Beyond the half, or at the half and q is odd.
-    if t < 2 * r + (q % 2) as u64 {
+    let whole = t;
+    if whole < 2 * r + (q % 2) as u64 {
         return q + 1;
     }
     q

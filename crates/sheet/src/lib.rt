@@ -124,7 +124,8 @@ fn after_byte(byte: u8, grammar: Grammar, depth: usize) -> Depth
             Depth::Is(depth - 1)
         }
         Op::Equal => {
-            if grammar.version < NEWEST {
+            let first = NEWEST;
+            if grammar.version < first {
                 return Depth::Refused(Refusal::Byte);
             }
             if depth < 2 {
@@ -161,7 +162,8 @@ pub fn read_expression(e: &[u8], grammar: Grammar) -> Outcome
         }
         i += 1;
     }
-    if depth == 1 {
+    let left = depth;
+    if left == 1 {
         Outcome::Accepted
     } else {
         Outcome::Refused(Refusal::Values)

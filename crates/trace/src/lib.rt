@@ -54,7 +54,8 @@ fn check_run(m: usize, letters: &[u8], room: usize) -> Outcome
     if rounds == 0 {
         return Outcome::Refused(Refusal::Extent);
     }
-    if MAX_LETTERS < rounds {
+    let most = MAX_LETTERS;
+    if most < rounds {
         return Outcome::Refused(Refusal::Extent);
     }
     if room < rounds {

@@ -59,7 +59,9 @@ fn passes(code: &[u8], len: &[usize], counts: Counts, letters: &[u8], buf: &mut 
     let most = counts.outputs * letters.len();
     let mut k: usize = 0;
     while k < most {
-        if !pass(code, len, counts, letters, &mut buf[..]) {
+        let changed = pass(code, len, counts, letters, &mut buf[..]);
+        let settled = !changed;
+        if settled {
             return;
         }
         k += 1;

@@ -5,9 +5,9 @@ use native.Mathlib.Omega.{arith}
 use Rattle.monitor.proofs.Entries.{too_short_lem, prepare-done}
 use Rattle.monitor.proofs.prepare_on.Goals as goal
 
-pub returns-then-storage-lt-STORAGE_WORDS : goal.returns-then-storage-lt-STORAGE_WORDS
-returns-then-storage-lt-STORAGE_WORDS c =
-    λ bs ok. too_short_lem bs c.args.x ok c.args.storage.now _ c.refused_preparation.ensures (inl (c.if-storage-lt-STORAGE_WORDS.true, refl))
+pub returns-then-storage-needed : goal.returns-then-storage-needed
+returns-then-storage-needed c =
+    λ bs ok. too_short_lem bs c.args.x ok c.args.storage.now _ c.refused_preparation.ensures (inl (c.if-storage-needed.true, refl))
 
 pub returns : goal.returns
 returns c =

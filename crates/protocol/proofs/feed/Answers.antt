@@ -20,8 +20,8 @@ pub scan-pending-requires : goal.scan-pending-requires
 scan-pending-requires c =
     (c.requires.2, c.loop-i.invariant.6, omega (arith, c.loop-i.invariant.1, c.requires.0.1.usable.ranges.inputs))
 
-pub loop-i-preserved-then-b-ne10 : goal.loop-i-preserved-then-b-ne10
-loop-i-preserved-then-b-ne10 c = (
+pub loop-i-preserved-then-b-line_feed : goal.loop-i-preserved-then-b-line_feed
+loop-i-preserved-then-b-line_feed c = (
   omega arith,
   c.loop-i.invariant.1,
   omega (arith, c.loop-i.invariant.2),
@@ -29,7 +29,7 @@ loop-i-preserved-then-b-ne10 c = (
   c.loop-i.invariant.4,
   λ sheet seen wrote o m.
       rw (seen_more seen c.args.chunk.now c.loop-i.i c.loop-i-test.true)
-      (byte_more sheet _ _ _ _ _ _ (c.loop-i.invariant.5 sheet seen wrote o m) _ _ c.if-b-ne10.true (rw c.loop-i.invariant.1 at c.scan-pending.ensures.scanned)),
+      (byte_more sheet _ _ _ _ _ _ (c.loop-i.invariant.5 sheet seen wrote o m) _ _ c.if-b-line_feed.true (rw c.loop-i.invariant.1 at c.scan-pending.ensures.scanned)),
   c.scan-pending.ensures.in_table,
 )
 
@@ -51,7 +51,7 @@ returns-then-e c =
             accepts = st.accepts;
             stage = rw (wrote-more wrote _ _ le.text _ _ le.wrote)
                 (over_all sheet seen c.args.chunk.now _ (c.loop-i.i + 1)
-                (rw (seen_more seen c.args.chunk.now c.loop-i.i c.loop-i-test.true) (line-over sheet _ _ _ _ _ _ m _ _ _ _ _ le _ c.if-b-ne10.false c.if-e.true)));
+                (rw (seen_more seen c.args.chunk.now c.loop-i.i c.loop-i-test.true) (line-over sheet _ _ _ _ _ _ m _ _ _ _ _ le _ c.if-b-line_feed.false c.if-e.true)));
           };
       bound = omega (arith, c.line_end-e.ensures.bound, c.loop-i.invariant.2, c.loop-i.invariant.3, c.loop-i-test.true, c.requires.1);
       in_table = c.empty-pending.ensures.in_table;
@@ -68,7 +68,7 @@ loop-i-preserved c = (
       let m = c.loop-i.invariant.5 sheet seen wrote o k in
       let le = c.line_end-e.ensures.ended sheet m.book m.part o m.serves (rw c.loop-i.invariant.1 at c.asked-meaning.ensures m.part m.scanned) in
       rw (seen_more seen c.args.chunk.now c.loop-i.i c.loop-i-test.true, wrote-more wrote _ _ le.text _ _ le.wrote)
-      (line-more sheet _ _ _ _ _ _ m _ _ _ _ _ le _ _ c.if-b-ne10.false c.if-e.false (c.empty-pending.ensures.scanned _)),
+      (line-more sheet _ _ _ _ _ _ m _ _ _ _ _ le _ _ c.if-b-line_feed.false c.if-e.false (c.empty-pending.ensures.scanned _)),
   c.empty-pending.ensures.in_table,
 )
 

@@ -18,8 +18,8 @@ overflow_cast-len c = omega (arith, c.type_inv.s c.args.at)
 pub returns-then-len-lt1 : goal.returns-then-len-lt1
 returns-then-len-lt1 c = sym (too_small c.args.grammar c.args.at c.args.s.now c.if-s-at.false c.if-len-lt1.true)
 
-pub returns-then-len-gt64 : goal.returns-then-len-gt64
-returns-then-len-gt64 c = sym (too_large c.args.grammar c.args.at c.args.s.now c.if-s-at.false c.if-len-gt64.true)
+pub returns-then-most-len : goal.returns-then-most-len
+returns-then-most-len c = sym (too_large c.args.grammar c.args.at c.args.s.now c.if-s-at.false c.if-most-len.true)
 
 pub returns-then-s-start : goal.returns-then-s-start
 returns-then-s-start c = sym (too_far c.args.grammar c.args.at c.args.s.now c.if-s-at.false c.if-s-start.true)
@@ -29,7 +29,7 @@ returns-in-Accepted c =
     let l = get_or c.args.s.now c.args.at 0 in
     let q = sym c.in-Accepted.is ∙ c.read_expression-got.ensures in
     sym
-    (one-output c.args.grammar c.args.at c.args.s.now c.if-s-at.false c.if-len-lt1.false c.if-len-gt64.false c.if-s-start.false
+    (one-output c.args.grammar c.args.at c.args.s.now c.if-s-at.false c.if-len-lt1.false c.if-most-len.false c.if-s-start.false
     ∙ is-accepted l (parse c.args.grammar [] (take l (drop (c.args.at + 1) c.args.s.now))) (rw (add-sub_cancel_left (c.args.at + 1) l) at q))
 
 pub returns-in-Refused : goal.returns-in-Refused
@@ -37,5 +37,5 @@ returns-in-Refused c =
     let l = get_or c.args.s.now c.args.at 0 in
     let q = sym c.in-Refused.is ∙ c.read_expression-got.ensures in
     sym
-    (one-output c.args.grammar c.args.at c.args.s.now c.if-s-at.false c.if-len-lt1.false c.if-len-gt64.false c.if-s-start.false
+    (one-output c.args.grammar c.args.at c.args.s.now c.if-s-at.false c.if-len-lt1.false c.if-most-len.false c.if-s-start.false
     ∙ is-refused l _ (parse c.args.grammar [] (take l (drop (c.args.at + 1) c.args.s.now))) (rw (add-sub_cancel_left (c.args.at + 1) l) at q))

@@ -18,8 +18,8 @@ overflow_add-r c = omega (arith, mod-lt (1000 * c.args.trues) {m = c.args.rounds
 pub overflow_add-result : goal.overflow_add-result
 overflow_add-result c = omega (arith, quotient_small c.args.trues c.args.rounds (omega arith))
 
-pub returns-then-t-r : goal.returns-then-t-r
-returns-then-t-r c = sym (share-more c.args.trues c.args.rounds (omega arith))
+pub returns-then-whole-r : goal.returns-then-whole-r
+returns-then-whole-r c = sym (share-more c.args.trues c.args.rounds (omega arith))
 
 pub returns : goal.returns
 returns c = sym (share-same c.args.trues c.args.rounds (omega arith))

@@ -21,17 +21,17 @@ returns-then-depth-lt2-2 c =
     rw (← c.operation-op.ensures, c.in-Or.is)
     (simp (lt-ltb _ _ c.if-depth-lt2-2.true))
 
-pub returns-then-grammar-lt-NEWEST : goal.returns-then-grammar-lt-NEWEST
+pub returns-then-grammar-first : goal.returns-then-grammar-first
 unfolding depth_after
-returns-then-grammar-lt-NEWEST c =
+returns-then-grammar-first c =
     rw (← c.operation-op.ensures, c.in-Equal.is)
-    (simp (lt-leb 2 _ c.if-grammar-lt-NEWEST.true))
+    (simp (lt-leb 2 _ c.if-grammar-first.true))
 
 pub returns-then-depth-lt2-3 : goal.returns-then-depth-lt2-3
 unfolding depth_after
 returns-then-depth-lt2-3 c =
     rw (← c.operation-op.ensures, c.in-Equal.is)
-    (simp (le-leb 2 _ c.if-grammar-lt-NEWEST.false, lt-ltb _ _ c.if-depth-lt2-3.true))
+    (simp (le-leb 2 _ c.if-grammar-first.false, lt-ltb _ _ c.if-depth-lt2-3.true))
 
 pub returns-then-q-grammar : goal.returns-then-q-grammar
 unfolding depth_after
@@ -65,7 +65,7 @@ pub returns-else-depth-lt2-3 : goal.returns-else-depth-lt2-3
 unfolding depth_after
 returns-else-depth-lt2-3 c =
     rw (← c.operation-op.ensures, c.in-Equal.is)
-    (simp (le-leb 2 _ c.if-grammar-lt-NEWEST.false, le-ltb _ _ c.if-depth-lt2-3.false))
+    (simp (le-leb 2 _ c.if-grammar-first.false, le-ltb _ _ c.if-depth-lt2-3.false))
 
 pub returns-else-q-grammar : goal.returns-else-q-grammar
 unfolding depth_after

@@ -23,12 +23,12 @@ loop-i-preserved c =
       turn a.grammar a.e.now c.loop-i.i c.loop-i.depth (omega arith) c.loop-i.invariant.2 _ q,
     )
 
-pub returns-then-depth-eq1 : goal.returns-then-depth-eq1
-returns-then-depth-eq1 c =
+pub returns-then-left-eq1 : goal.returns-then-left-eq1
+returns-then-left-eq1 c =
     let a = c.args in
-    rw (one_left a.grammar a.e.now c.loop-i.i c.loop-i.depth (omega arith) c.loop-i.invariant.2 c.if-depth-eq1.true).1
+    rw (one_left a.grammar a.e.now c.loop-i.i c.loop-i.depth (omega arith) c.loop-i.invariant.2 c.if-left-eq1.true).1
 
-pub returns-else-depth-eq1 : goal.returns-else-depth-eq1
-returns-else-depth-eq1 c =
+pub returns-else-left-eq1 : goal.returns-else-left-eq1
+returns-else-left-eq1 c =
     let a = c.args in
-    rw (not-one-left a.grammar a.e.now c.loop-i.i c.loop-i.depth (omega arith) c.loop-i.invariant.2 c.if-depth-eq1.false)
+    rw (not-one-left a.grammar a.e.now c.loop-i.i c.loop-i.depth (omega arith) c.loop-i.invariant.2 c.if-left-eq1.false)

@@ -8,9 +8,9 @@ pub returns-then-rounds-eq0 : goal.returns-then-rounds-eq0
 returns-then-rounds-eq0 c =
     record { decided = extent-broken _ _ _ (inl c.if-rounds-eq0.true); ready = tt }
 
-pub returns-then-rounds-gt-MAX_LETTERS : goal.returns-then-rounds-gt-MAX_LETTERS
-returns-then-rounds-gt-MAX_LETTERS c =
-    record { decided = extent-broken _ _ _ (inr (inl c.if-rounds-gt-MAX_LETTERS.true)); ready = tt }
+pub returns-then-most-rounds : goal.returns-then-most-rounds
+returns-then-most-rounds c =
+    record { decided = extent-broken _ _ _ (inr (inl c.if-most-rounds.true)); ready = tt }
 
 pub returns-then-room-rounds : goal.returns-then-room-rounds
 returns-then-room-rounds c =

@@ -13,16 +13,16 @@ overflow_mul-most c =
 pub loop-k-init : goal.loop-k-init
 loop-k-init c = (omega arith, going_start _ _ _ _)
 
-pub pass-requires : goal.pass-requires
-pass-requires c = (c.requires.0, bytes-kept c.loop-k.invariant.1.kept c.requires.1)
+pub pass-changed-requires : goal.pass-changed-requires
+pass-changed-requires c = (c.requires.0, bytes-kept c.loop-k.invariant.1.kept c.requires.1)
 
-pub shape_of-buf-then-not-pass : goal.shape_of-buf-then-not-pass
-shape_of-buf-then-not-pass c =
-    c.pass.ensures.kept.same_length ∙ c.loop-k.invariant.1.kept.same_length
+pub shape_of-buf-then-settled : goal.shape_of-buf-then-settled
+shape_of-buf-then-settled c =
+    c.pass-changed.ensures.kept.same_length ∙ c.loop-k.invariant.1.kept.same_length
 
-pub returns-then-not-pass : goal.returns-then-not-pass
-returns-then-not-pass c =
-    going-quiet _ _ _ _ _ _ _ _ c.loop-k.invariant.1 c.pass.ensures (c.if-not-pass.true)
+pub returns-then-settled : goal.returns-then-settled
+returns-then-settled c =
+    going-quiet _ _ _ _ _ _ _ _ c.loop-k.invariant.1 c.pass-changed.ensures c.if-settled.true
 
 pub overflow_add-k : goal.overflow_add-k
 overflow_add-k c =
@@ -30,7 +30,7 @@ overflow_add-k c =
 
 pub loop-k-preserved : goal.loop-k-preserved
 loop-k-preserved c =
-    (omega arith, going_more _ _ _ _ _ _ _ _ c.loop-k.invariant.1 c.pass.ensures)
+    (omega arith, going_more _ _ _ _ _ _ _ _ c.loop-k.invariant.1 c.pass-changed.ensures)
 
 pub shape_of-buf : goal.shape_of-buf
 shape_of-buf c = c.loop-k.invariant.1.kept.same_length

@@ -107,7 +107,7 @@ static inline const char *jigwaret_text(uint32_t outcome)
     case JIGWARET_FULL:
         return "the journal holds 1,000,000 rounds";
     case JIGWARET_NO_ROUND:
-        return "the journal has no round";
+        return "a closing with no round";
     case JIGWARET_STORAGE:
         return "the storage is too short";
     case JIGWARET_EXTENT:

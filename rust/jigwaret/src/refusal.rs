@@ -52,7 +52,7 @@ refusals! {
     Letter = 11, "a known bit or a letter lies beyond the inputs, or a value bit is not known";
     Closed = 12, "the journal is closed";
     Full = 13, "the journal holds 1,000,000 rounds";
-    NoRound = 14, "the journal has no round";
+    NoRound = 14, "a closing with no round";
     Storage = 15, "the storage is too short";
     Extent = 16, "no letters, over 4,096, or a buffer that is too small";
     Line = 17, "a line of the program's input is malformed";

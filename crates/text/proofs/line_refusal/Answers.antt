@@ -4,10 +4,6 @@ use Rattle.buffer.proofs.PlacedLaws.{placed_then}
 use Rattle.buffer.proofs.DecimalLaws.{decimal-length}
 use Rattle.text.proofs.line_refusal.Goals as goal
 
--- no goal of today's: Need-slice-aggregate-bytes
--- slice-aggregate-bytes : tie.Need-slice-aggregate-bytes
--- slice-aggregate-bytes c = search rules
-
 pub decimal-index-requires : goal.decimal-index-requires
 decimal-index-requires c =
     omega (arith, c.refused-start.ensures.placed.size, c.refused-start.ensures.upper_bound, c.bytes-word.ensures.end, c.bytes-word.ensures.size, decimal-length 20 c.args.line (omega arith) (omega arith))

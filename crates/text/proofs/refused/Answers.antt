@@ -5,10 +5,6 @@ use Rattle.buffer.proofs.DecimalLaws.{decimal-length}
 use Rattle.outcomes.proofs.NumberLaws.{refusal_range}
 use Rattle.text.proofs.refused.Goals as goal
 
--- no goal of today's: Need-slice-aggregate-bytes
--- slice-aggregate-bytes : tie.Need-slice-aggregate-bytes
--- slice-aggregate-bytes c = search rules
-
 pub decimal-requires : goal.decimal-requires
 decimal-requires c =
     rw c.refusal_number.ensures (omega (arith, c.bytes-to.ensures.end, c.bytes-to.ensures.size, decimal-length 2 _ (omega arith) (refusal_range c.args.r).1))

@@ -3,10 +3,6 @@ use native.Mathlib.Omega.{arith}
 use Rattle.buffer.proofs.PlacedLaws.{placed_then}
 use Rattle.text.proofs.sheet_refusal.Goals as goal
 
--- no goal of today's: Need-slice-aggregate-bytes
--- slice-aggregate-bytes : tie.Need-slice-aggregate-bytes
--- slice-aggregate-bytes c = search rules
-
 pub returns : goal.returns
 returns c =
     record { placed = placed_then c.refused-start.ensures.placed (placed_then c.bytes-word.ensures c.byte.ensures); upper_bound = omega (arith, c.refused-start.ensures.upper_bound, c.bytes-word.ensures.end, c.byte.ensures.end) }

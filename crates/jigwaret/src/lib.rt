@@ -1,5 +1,4 @@
-// The functions that programs in C and Rust call: 0 for accepted, or the number of the refusal. A slice passes as a pointer, then its
-// length.
+// The functions that programs in C and Rust call, as `jigwaret_c` exports them: 0 for accepted, or the number of the refusal.
 #![tactic(auto)]
 
 ghost use Rattle.jigwaret.specs.Numbered.{Checked, EvaluatedAs, LettersAs};

@@ -52,3 +52,11 @@ decimal-length-of (suc m) k n h = go (ltb n 10) refl (decimal-length-of m (k - 1
 pub decimal-length : (k n : ℕ) → 0 < k → n < 10 ^ k → length (decimal n) ≤ k
 decimal-length zero n p h = absurd (omega arith)
 decimal-length (suc k) n p h = decimal-length-of 20 k n h
+
+-- a number of 64 bits has at most 20
+pub word_digits : (n : ℕ) → n < 2 ^ 64 → length (decimal n) ≤ 20
+word_digits n h = decimal-length 20 n (omega arith) (omega arith)
+
+-- and one of 32 bits at most 10
+pub half_word_digits : (n : ℕ) → n < 2 ^ 32 → length (decimal n) ≤ 10
+half_word_digits n h = decimal-length 10 n (omega arith) (omega arith)

@@ -5,7 +5,7 @@ use mathlib.Core.List.{[], ◌∷◌}
 use Prim.Native.Nat.{ℕ, ◌<◌, ◌≤◌}
 use native.Mathlib.Omega.{arith}
 use Rattle.outcomes.specs.Decided.{Decided}
-use Rattle.outcomes.specs.declared.Outcome.TheVariants.{Accepted}
+use Rattle.outcomes.specs.Outcome.{unbroken}
 use Rattle.outcomes.proofs.Decisions.{all-passed}
 use Rattle.record.specs.Record.{max_rounds, record_ok}
 use Rattle.record.specs.declared.JournalRecord.{JournalRecord}
@@ -20,7 +20,7 @@ is_false : (t : Bool) → (t ≡ true → ⊥) → t ≡ false
 is_false true n = absurd (n refl)
 is_false false n = refl
 
-pub enough : (lent : ℕ) → Decided (too_short lent ∷ []) Accepted → storage_words ≤ lent
+pub enough : (lent : ℕ) → Decided (too_short lent ∷ []) unbroken → storage_words ≤ lent
 enough lent d = omega (arith, (all-passed (too_short lent ∷ []) d).0)
 
 -- what an accepted round may take for granted
@@ -29,7 +29,7 @@ pub record RoundReady (n lent : ℕ) (r : JournalRecord) : Type 0 where
   pub right : record_ok n r ≡ true
   pub rounds-left : r.rounds < max_rounds
 
-pub round_ready : (m n lent : ℕ) (r : JournalRecord) (letters : ℕ) → Decided (round_rules m n lent r letters) Accepted → RoundReady n lent r
+pub round_ready : (m n lent : ℕ) (r : JournalRecord) (letters : ℕ) → Decided (round_rules m n lent r letters) unbroken → RoundReady n lent r
 round_ready m n lent r letters d =
     let p = all-passed (round_rules m n lent r letters) d in
     record {
@@ -45,11 +45,11 @@ pub record ClosingReady (n lent : ℕ) (r : JournalRecord) : Type 0 where
   pub shut : r.closed ≡ false
   pub some : 1 ≤ r.rounds
 
-pub closing_ready : (n lent : ℕ) (r : JournalRecord) → Decided (closing_rules n lent r) Accepted → ClosingReady n lent r
+pub closing_ready : (n lent : ℕ) (r : JournalRecord) → Decided (closing_rules n lent r) unbroken → ClosingReady n lent r
 closing_ready n lent r d =
     let p = all-passed (closing_rules n lent r) d in
     record { long = omega (arith, p.0); right = is_true (record_ok n r) p.1.0; shut = is_false r.closed p.1.1.0; some = omega (arith, p.1.1.1.0) }
 
 -- and a question about a set of outputs
-pub together-long : (n lent : ℕ) (r : JournalRecord) (set : ℕ) → Decided (together_rules n lent r set) Accepted → storage_words ≤ lent
+pub together-long : (n lent : ℕ) (r : JournalRecord) (set : ℕ) → Decided (together_rules n lent r set) unbroken → storage_words ≤ lent
 together-long n lent r set d = omega (arith, (all-passed (together_rules n lent r set) d).0)

@@ -3,7 +3,7 @@ use mathlib.Core.Path.{◌≡◌, sym, ◌∙◌}
 use mathlib.Core.List.{List, ◌++◌}
 use Prim.Native.Nat.{ℕ}
 use Rattle.outcomes.specs.Decided.{Check, Decided}
-use Rattle.outcomes.specs.declared.Outcome.{Outcome}
+use Rattle.outcomes.specs.Outcome.{Outcome}
 use Rattle.outcomes.proofs.Decisions.{decided-accepted}
 use Rattle.sheet.specs.ReadingChecks.{inputs_of, outputs_of}
 use Rattle.sheet.specs.Reading.{rule_sheet}

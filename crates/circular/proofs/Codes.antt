@@ -1,49 +1,45 @@
 -- The tables of numbers that the code keeps stand for the tables of entries.
-use mathlib.Core.Path.{◌≡◌, refl, sym, subst, ap, ap₂, ◌∙◌}
-use mathlib.Core.Bool.{Bool, true, false, ◌&&◌, false≢true, and-false}
+use mathlib.Core.Path.{◌≡◌, refl, sym, ap, ap₂, ◌∙◌}
+use mathlib.Core.Bool.{Bool, true, false, cond, ◌&&◌, false≢true}
 use mathlib.Core.List.{List}
-use Prim.Native.Nat.{ℕ, zero, suc, ◌+◌, ◌*◌, ◌-◌, ◌^◌, ◌≤◌, ◌<◌}
+use Rattle.std.specs.Prelude.{IsTrue, ◌↔◌}
+use Prim.Native.Nat.{ℕ, zero, suc, ◌+◌, ◌-◌, ◌^◌, ◌≤◌, ◌<◌, max}
 use native.Mathlib.Omega.{arith}
 use native.Mathlib.Numerals.{add-one}
 use lib.Pow.{pow_mono}
-use lib.ListN.{get_or}
-use lib.Dec.{leb, ltb, eqb}
-use borrow.Author.Tests.{ltb-true, ltb-false, leb-true, leb-false, lt-ltb, le-ltb, le-leb, lt-leb, eq-eqb, ne_eqb}
+use lib.Dec.{leb, eqb}
+use borrow.Author.Tests.{leb-true, leb-false, le-leb, lt-leb, eq-eqb, ne_eqb}
 use Rattle.words.specs.Below.{any_below}
 use Rattle.words.proofs.AnyLaws.{any_cong, some_any, any_none, none_any}
 use Rattle.circular.specs.Circular.{Edge, Reach, last, then, Circular}
-use Rattle.circular.specs.Table.{pick_n, larger_n, clip_n, plus_n, loop_n, cell_n, best_n, top_n, base_n, Next, Based, Closed, level_both}
+use Rattle.circular.specs.Table.{clip_n, plus_n, loop_n, entry, cell_n, best_n, top_n, base_n, Next, Based, Closed, level_both}
 use Rattle.circular.proofs.Closure.{Entry, none, fin, unb, pick, larger, plus, blow, loop, top, Best}
 use Rattle.circular.proofs.Decide.{turned, at_least0, circular_at, circular?, circular?_true, circular?_of}
 
 -- bounds
-pick_le : (b : Bool) (x y : ℕ) → x ≤ 4096 → y ≤ 4096 → pick_n b x y ≤ 4096
-pick_le true x y h g = h
-pick_le false x y h g = g
-
-pub larger_le : (x y : ℕ) → x ≤ 4096 → y ≤ 4096 → larger_n x y ≤ 4096
-unfolding larger_n
-larger_le x y h g = pick_le (ltb x y) y x g h
+cond_le : (b : Bool) (x y : ℕ) → x ≤ 4096 → y ≤ 4096 → cond b x y ≤ 4096
+cond_le true x y h g = h
+cond_le false x y h g = g
 
 clip_le : (s : ℕ) → clip_n s ≤ 4096
 unfolding clip_n
 clip_le s = go (leb 5120 s) refl
   where
-    go : (b : Bool) → leb 5120 s ≡ b → pick_n b 4096 (s - 1024) ≤ 4096
+    go : (b : Bool) → leb 5120 s ≡ b → cond b 4096 (s - 1024) ≤ 4096
     go true e = omega arith
     go false e = omega (arith, leb-false 5120 s e)
 
 pub plus_le : (x y : ℕ) → plus_n x y ≤ 4096
 unfolding plus_n
 plus_le x y =
-    pick_le (eqb x 0) 0 _ (omega arith)
-    (pick_le (eqb y 0) 0 _ (omega arith)
-    (pick_le (eqb x 4096) 4096 _ (omega arith)
-    (pick_le (eqb y 4096) 4096 _ (omega arith) (clip_le (x + y)))))
+    cond_le (eqb x 0) 0 _ (omega arith)
+    (cond_le (eqb y 0) 0 _ (omega arith)
+    (cond_le (eqb x 4096) 4096 _ (omega arith)
+    (cond_le (eqb y 4096) 4096 _ (omega arith) (clip_le (x + y)))))
 
 pub loop_le : (c x : ℕ) → x ≤ 4096 → loop_n c x ≤ 4096
 unfolding loop_n
-loop_le c x h = pick_le (leb c 1024) x _ h (pick_le (eqb x 0) 0 4096 (omega arith) (omega arith))
+loop_le c x h = cond_le (leb c 1024) x _ h (cond_le (eqb x 0) 0 4096 (omega arith) (omega arith))
 
 -- a number stands for an entry whose weight is at most w either way
 abbrev pub Rep : ℕ → Entry → ℕ → Type 0
@@ -57,25 +53,25 @@ rep_wider w v (fin p l) x h r = (r.0, omega arith, omega arith)
 rep_wider w v unb x h r = r
 
 -- the larger of two codes is one of them
-rep_larger : (w : ℕ) (a b : Entry) (x y : ℕ) → w ≤ 512 → Rep w a x → Rep w b y → Rep w (larger a b) (larger_n x y)
-unfolding larger larger_n pick
-rep_larger w none b x y h r q = go (ltb x y) refl
+larger_first : (w : ℕ) (e : Entry) (x y : ℕ) → y ≤ x → Rep w e x → Rep w e (max x y)
+larger_first w e x y h r = let z : max x y ≡ x = omega arith in rw z r
+
+larger_second : (w : ℕ) (e : Entry) (x y : ℕ) → x ≤ y → Rep w e y → Rep w e (max x y)
+larger_second w e x y h r = let z : max x y ≡ y = omega arith in rw z r
+
+rep_larger : (w : ℕ) (a b : Entry) (x y : ℕ) → w ≤ 512 → Rep w a x → Rep w b y → Rep w (larger a b) (max x y)
+unfolding larger pick
+rep_larger w none b x y h r q = larger_second w b x y (omega arith) q
+rep_larger w (fin p l) none x y h r q = larger_first w (fin p l) x y (omega arith) r
+rep_larger w (fin p l) (fin p' l') x y h r q = go (leb (p + l') (p' + l)) refl
   where
-    go : (t : Bool) → ltb x y ≡ t → Rep w b (pick_n t y x)
-    go true e = q
-    go false e = let z : x ≡ y = omega (arith, r, ltb-false x y e) in subst (Rep w b) (sym z) q
-rep_larger w (fin p l) none x y h r q = rw (le-ltb x y (omega arith)) r
-rep_larger w (fin p l) (fin p' l') x y h r q = go (leb (p + l') (p' + l)) (ltb x y) refl refl
-  where
-    go : (t u : Bool) → leb (p + l') (p' + l) ≡ t → ltb x y ≡ u → Rep w (pick t (fin p' l') (fin p l)) (pick_n u y x)
-    go true true e f = q
-    go true false e f = let z : x ≡ y = omega (arith, leb-true (p + l') (p' + l) e, ltb-false x y f) in subst (Rep w (fin p' l')) (sym z) q
-    go false true e f = absurd (omega (arith, leb-false (p + l') (p' + l) e, ltb-true x y f))
-    go false false e f = r
-rep_larger w (fin p l) unb x y h r q = rw (lt-ltb x y (omega arith)) q
-rep_larger w unb none x y h r q = rw (le-ltb x y (omega arith)) r
-rep_larger w unb (fin p l) x y h r q = rw (le-ltb x y (omega arith)) r
-rep_larger w unb unb x y h r q = rw (le-ltb x y (omega arith)) r
+    go : (t : Bool) → leb (p + l') (p' + l) ≡ t → Rep w (pick t (fin p' l') (fin p l)) (max x y)
+    go true e = larger_second w (fin p' l') x y (omega (arith, leb-true (p + l') (p' + l) e)) q
+    go false e = larger_first w (fin p l) x y (omega (arith, leb-false (p + l') (p' + l) e)) r
+rep_larger w (fin p l) unb x y h r q = larger_second w unb x y (omega arith) q
+rep_larger w unb none x y h r q = larger_first w unb x y (omega arith) r
+rep_larger w unb (fin p l) x y h r q = larger_first w unb x y (omega arith) r
+rep_larger w unb unb x y h r q = larger_first w unb x y (omega arith) r
 
 rep_plus : (w : ℕ) (a b : Entry) (x y : ℕ) → w ≤ 256 → Rep w a x → Rep w b y → Rep (w + w) (plus a b) (plus_n x y)
 unfolding plus plus_n clip_n
@@ -89,7 +85,7 @@ rep_plus w unb none x y h r q = simp (ne_eqb x 0 (λ e. omega arith), eq-eqb y 0
 rep_plus w unb (fin p l) x y h r q = simp (ne_eqb x 0 (λ e. omega arith), ne_eqb y 0 (λ e. omega arith), eq-eqb x 4096 r)
 rep_plus w unb unb x y h r q = simp (ne_eqb x 0 (λ e. omega arith), ne_eqb y 0 (λ e. omega arith), eq-eqb x 4096 r)
 
-rep_blow : (w : ℕ) (a : Entry) (y : ℕ) → w ≤ 512 → Rep w a y → Rep w (blow a) (pick_n (eqb y 0) 0 4096)
+rep_blow : (w : ℕ) (a : Entry) (y : ℕ) → w ≤ 512 → Rep w a y → Rep w (blow a) (cond (eqb y 0) 0 4096)
 unfolding blow
 rep_blow w none y h q = rw (eq-eqb y 0 q) refl
 rep_blow w (fin p l) y h q = rw (ne_eqb y 0 (λ e. omega arith)) refl
@@ -100,7 +96,7 @@ unfolding loop loop_n pick
 rep_loop w none a x y h r q = rw (le-leb x 1024 (omega arith)) q
 rep_loop w (fin p l) a x y h r q = go (leb p l) (leb x 1024) refl refl
   where
-    go : (t u : Bool) → leb p l ≡ t → leb x 1024 ≡ u → Rep w (pick t a (blow a)) (pick_n u y (pick_n (eqb y 0) 0 4096))
+    go : (t u : Bool) → leb p l ≡ t → leb x 1024 ≡ u → Rep w (pick t a (blow a)) (cond u y (cond (eqb y 0) 0 4096))
     go true true e f = q
     go true false e f = absurd (omega (arith, leb-true p l e, leb-false x 1024 f))
     go false true e f = absurd (omega (arith, leb-false p l e, leb-true x 1024 f))
@@ -126,7 +122,7 @@ module _ (E : ℕ → ℕ → ℕ → Bool) where
       let b : 2 ^ k ≤ 128 = pow_le k (omega arith) in
       rep_wider (2 ^ k + 2 ^ k) (2 ^ suc k)
       (larger (Best E k i j) (plus (Best E k i k) (loop (Best E k k k) (Best E k k j))))
-      (larger_n (best_n g k i j) (plus_n (best_n g k i k) (loop_n (best_n g k k k) (best_n g k k j)))) (omega arith)
+      (max (best_n g k i j) (plus_n (best_n g k i k) (loop_n (best_n g k k k) (best_n g k k j)))) (omega arith)
       (rep_larger (2 ^ k + 2 ^ k) (Best E k i j) (plus (Best E k i k) (loop (Best E k k k) (Best E k k j))) (best_n g k i j) (plus_n (best_n g k i k) (loop_n (best_n g k k k) (best_n g k k j))) (omega arith)
       (rep_wider (2 ^ k) (2 ^ k + 2 ^ k) (Best E k i j) (best_n g k i j) (omega arith) (rep-best g base k i j (omega arith)))
       (rep_plus (2 ^ k) (Best E k i k) (loop (Best E k k k) (Best E k k j)) (best_n g k i k) (loop_n (best_n g k k k) (best_n g k k j)) (omega arith)
@@ -146,7 +142,7 @@ rep_up w unb x h r = le-leb 1024 x (omega arith)
 -- the largest weights of single reads
 top_le : (a b c : Bool) → top_n a b c ≤ 4096
 unfolding top_n
-top_le a b c = pick_le c 1025 _ (omega arith) (pick_le b 1024 _ (omega arith) (pick_le a 1023 0 (omega arith) (omega arith)))
+top_le a b c = cond_le c 1025 _ (omega arith) (cond_le b 1024 _ (omega arith) (cond_le a 1023 0 (omega arith) (omega arith)))
 
 pub base_le : (up : Bool) (e : ℕ → Bool) → base_n up e ≤ 4096
 unfolding base_n
@@ -159,53 +155,47 @@ base_same true e f h = rw (h 0 (omega arith), h 1 (omega arith), h 2 (omega arit
 base_same false e f h = rw (h 0 (omega arith), h 1 (omega arith), h 2 (omega arith)) refl
 
 -- the table after k stages
-pub record Stage (n : ℕ) (g : ℕ → ℕ → ℕ) (k : ℕ) (t : List ℕ) : Type 0 where
-  pub cells : (i j : ℕ) → i < n → j < n → get_or t (8 * i + j) 0 ≡ best_n g k i j
+pub record Stage (n : ℕ) (g : ℕ → ℕ → ℕ) (k : ℕ) (t : List (List ℕ)) : Type 0 where
+  pub cells : (i j : ℕ) → i < n → j < n → entry t i j ≡ best_n g k i j
 
 module _ (n : ℕ) (g : ℕ → ℕ → ℕ) where
-  pub stage-start : (t : List ℕ) → Based n g t → Stage n g 0 t
+  pub stage-start : (t : List (List ℕ)) → Based n g t → Stage n g 0 t
   unfolding best_n
   stage-start t b = record { cells = b.cells }
 
-  pub stage-next : (k : ℕ) (t u : List ℕ) → k < n → n ≤ 8 → Stage n g k t → Next n t k u → Stage n g (k + 1) u
+  pub stage-next : (k : ℕ) (t u : List (List ℕ)) → k < n → n ≤ 8 → Stage n g k t → Next n t k u → Stage n g (k + 1) u
   unfolding cell_n best_n
   stage-next k t u h l s x =
       record {
         cells = λ i j hi hj.
             rw add-one
             (x.cells i j hi (omega arith)
-            ∙ ap₂ larger_n (s.cells i j hi hj) (ap₂ plus_n (s.cells i k hi h) (ap₂ loop_n (s.cells k k h h) (s.cells k j h hj))));
+            ∙ ap₂ max (s.cells i j hi hj) (ap₂ plus_n (s.cells i k hi h) (ap₂ loop_n (s.cells k k h h) (s.cells k j h hj))));
       }
 
-  pub stage-closed : (k : ℕ) (t : List ℕ) → k ≡ n → Stage n g k t → Closed n g t
+  pub stage-closed : (k : ℕ) (t : List (List ℕ)) → k ≡ n → Stage n g k t → Closed n g t
   stage-closed k t e s = record { cells = λ i j hi hj. s.cells i j hi hj ∙ ap (λ z. best_n g z i j) e }
 
 -- the entries of closed walks
 module _ (n : ℕ) (few : n ≤ 7) (E : ℕ → ℕ → ℕ → Bool) where
-  closed_is : (g : ℕ → ℕ → ℕ) → ((i j : ℕ) → Rep 1 (top (E i j 0) (E i j 1) (E i j 2)) (g i j)) → (r : List ℕ) → Closed n g r
-      → (s : ℕ) → s < n → leb 1024 (get_or r (8 * s + s) 0) ≡ at_least0 (Best E n s s)
+  closed_is : (g : ℕ → ℕ → ℕ) → ((i j : ℕ) → Rep 1 (top (E i j 0) (E i j 1) (E i j 2)) (g i j)) → (r : List (List ℕ)) → Closed n g r
+      → (s : ℕ) → s < n → leb 1024 (entry r s s) ≡ at_least0 (Best E n s s)
   closed_is g base r c s h =
       rw (c.cells s s h h)
       (rep_up (2 ^ n) (Best E n s s) (best_n g n s s) (omega (arith, pow_le n few)) (rep-best E g base n s s few))
 
--- the scan
 and_same : (a : Bool) → a && a ≡ false → a ≡ false
 and_same true e = e
 and_same false e = e
 
-pub any_more : (f : ℕ → Bool) (s : ℕ) → any_below s f ≡ false → f s ≡ false → any_below (s + 1) f ≡ false
-unfolding any_below
-any_more f s h e = rw add-one (rw e h)
-
-module _ (t u : List ℕ) (s : ℕ) where
-  pub level-at : (n : ℕ) → s < n → 1024 ≤ get_or t (8 * s + s) 0 → 1024 ≤ get_or u (8 * s + s) 0 → any_below n (level_both t u) ≡ true
-  level-at n h p q = some_any n (level_both t u) s h (rw (le-leb 1024 (get_or t (8 * s + s) 0) p) (le-leb 1024 (get_or u (8 * s + s) 0) q))
-
-  pub not_first : get_or t (8 * s + s) 0 < 1024 → level_both t u s ≡ false
-  not_first p = rw (lt-leb 1024 (get_or t (8 * s + s) 0) p) refl
-
-  pub not-second : get_or u (8 * s + s) 0 < 1024 → level_both t u s ≡ false
-  not-second q = rw (lt-leb 1024 (get_or u (8 * s + s) 0) q) (and-false (leb 1024 (get_or t (8 * s + s) 0)))
+-- what is found is found below n
+pub any_iff : (n : ℕ) (p : ℕ → Bool) (r : Bool) → (IsTrue r ↔ ((s : ℕ) × (s < n) × IsTrue (p s))) → r ≡ any_below n p
+any_iff n p true e = let x = e.0 refl in sym (some_any n p x.0 x.1 x.2)
+any_iff n p false e = sym (none_any n p (λ s h. go s h (p s) refl))
+  where
+    go : (s : ℕ) → s < n → (b : Bool) → p s ≡ b → p s ≡ false
+    go s h true k = absurd (false≢true (e.1 (s, h, k)))
+    go s h false k = k
 
 -- what the scan comes to, by the definition
 not_circular : (n : ℕ) (E : ℕ → ℕ → ℕ → Bool) → any_below n (circular_at n E) ≡ false → Circular n E → ⊥
@@ -223,8 +213,8 @@ none_reads n E f c = go c.reach
     go (last r) = no_edge r.edge
     go (then r w) = no_edge r.edge
 
-module _ (n : ℕ) (few : n ≤ 7) (E : ℕ → ℕ → ℕ → Bool) (r : List ℕ) (c : Closed n (λ s q. base_n true (E s q)) r) where
-  rising-is : (s : ℕ) → s < n → leb 1024 (get_or r (8 * s + s) 0) ≡ at_least0 (Best E n s s)
+module _ (n : ℕ) (few : n ≤ 7) (E : ℕ → ℕ → ℕ → Bool) (r : List (List ℕ)) (c : Closed n (λ s q. base_n true (E s q)) r) where
+  rising-is : (s : ℕ) → s < n → leb 1024 (entry r s s) ≡ at_least0 (Best E n s s)
   unfolding base_n
   rising-is = closed_is n few E (λ s q. base_n true (E s q)) (λ i j. rep_top (E i j 0) (E i j 1) (E i j 2)) r c
 
@@ -234,10 +224,10 @@ module _ (n : ℕ) (few : n ≤ 7) (E : ℕ → ℕ → ℕ → Bool) (r : List 
   none-rises e =
       not_circular n E
       (none_any n (circular_at n E)
-      (λ s h. rw (sym (rising-is s h) ∙ and_same (leb 1024 (get_or r (8 * s + s) 0)) (any_none n (level_both r r) e s h)) refl))
+      (λ s h. rw (sym (rising-is s h) ∙ and_same (leb 1024 (entry r s s)) (any_none n (level_both r r) e s h)) refl))
 
-  module _ (r' : List ℕ) (c' : Closed n (λ s q. base_n false (E s q)) r') where
-    falling-is : (s : ℕ) → s < n → leb 1024 (get_or r' (8 * s + s) 0) ≡ at_least0 (Best (turned E) n s s)
+  module _ (r' : List (List ℕ)) (c' : Closed n (λ s q. base_n false (E s q)) r') where
+    falling-is : (s : ℕ) → s < n → leb 1024 (entry r' s s) ≡ at_least0 (Best (turned E) n s s)
     unfolding base_n turned
     falling-is = closed_is n few (turned E) (λ s q. base_n false (E s q)) (λ i j. rep_top (E i j 2) (E i j 1) (E i j 0)) r' c'
 

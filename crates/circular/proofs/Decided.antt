@@ -5,8 +5,8 @@ use Prim.Native.Nat.{ℕ}
 use Rattle.outcomes.specs.Decided.{Check, check, Decided}
 use Rattle.outcomes.specs.declared.Refusal.{Refusal}
 use Rattle.outcomes.specs.declared.Refusal.TheVariants as refusal
-use Rattle.outcomes.specs.declared.Outcome.{Outcome}
-use Rattle.outcomes.specs.declared.Outcome.TheVariants.{Accepted, Refused}
+use Rattle.outcomes.specs.Outcome.{Outcome, unbroken}
+use Rattle.std.specs.Prelude.{Err}
 use Rattle.outcomes.proofs.Decisions.{breaks, passes, passed, passed-both, decided-refused, decided-accepted}
 use Rattle.sheet.specs.ReadingChecks.{reading_checks}
 use Rattle.sheet.specs.Decided.{reading_outcome}
@@ -23,21 +23,21 @@ module _ (bs : List ℕ) where
   ten = check refusal.Circular (OfSheet bs CircularSheet)
 
   -- a sheet that can't be read
-  pub unread : (r : Refusal) → read_sheet bs ≡ refused r → Decided (sheet_checks bs) (Refused r)
-  unread r e = decided-refused (reading_checks bs) (ten ∷ []) r (read-decided (Refused r) (ap reading_outcome e))
+  pub unread : (r : Refusal) → read_sheet bs ≡ refused r → Decided (sheet_checks bs) (Err r)
+  unread r e = decided-refused (reading_checks bs) (ten ∷ []) r (read-decided (Err r) (ap reading_outcome e))
 
   module _ (x : RuleSheet) (e : read_sheet bs ≡ accepted x) where
     -- one that is circular
-    pub round : CircularSheet x → Decided (sheet_checks bs) (Refused refusal.Circular)
+    pub round : CircularSheet x → Decided (sheet_checks bs) (Err refusal.Circular)
     round c =
-        decided-accepted (reading_checks bs) (ten ∷ []) (Refused refusal.Circular) (read-decided Accepted (ap reading_outcome e)) (breaks ten [] (x, e, c))
+        decided-accepted (reading_checks bs) (ten ∷ []) (Err refusal.Circular) (read-decided unbroken (ap reading_outcome e)) (breaks ten [] (x, e, c))
 
     -- one that isn't
-    pub level : (CircularSheet x → ⊥) → Decided (sheet_checks bs) Accepted
+    pub level : (CircularSheet x → ⊥) → Decided (sheet_checks bs) unbroken
     level n =
-        decided-accepted (reading_checks bs) (ten ∷ []) Accepted (read-decided Accepted (ap reading_outcome e))
-        (passes ten [] Accepted (λ b. n (let same : b.0 ≡ x = cc b.1 in subst CircularSheet same b.2)) refl)
+        decided-accepted (reading_checks bs) (ten ∷ []) unbroken (read-decided unbroken (ap reading_outcome e))
+        (passes ten [] unbroken (λ b. n (let same : b.0 ≡ x = cc b.1 in subst CircularSheet same b.2)) refl)
 
     -- one that is accepted isn't
-    pub accepted-level : Decided (sheet_checks bs) Accepted → CircularSheet x → ⊥
+    pub accepted-level : Decided (sheet_checks bs) unbroken → CircularSheet x → ⊥
     accepted-level d c = (passed ten [] (passed-both (reading_checks bs) (ten ∷ []) d).1).0 (x, e, c)

@@ -1,8 +1,8 @@
 -- The words and masks of reads.
-use mathlib.Core.Path.{◌≡◌, sym, ap, ◌∙◌}
-use mathlib.Core.Bool.{Bool, false, not, ◌||◌}
+use mathlib.Core.Path.{◌≡◌, refl, sym, ap, ◌∙◌}
+use mathlib.Core.Bool.{Bool, true, false, not, ◌||◌}
 use mathlib.Core.List.{List}
-use Prim.Native.Nat.{ℕ, zero, suc, ◌+◌, ◌*◌, ◌/◌, ◌%◌, ◌^◌, ◌≤◌, ◌<◌}
+use Prim.Native.Nat.{ℕ, zero, suc, ◌+◌, ◌*◌, ◌/◌, ◌^◌, ◌≤◌, ◌<◌}
 use native.Mathlib.Omega.{arith}
 use native.Mathlib.Decide.{dec_lt}
 use lib.ListN.{get_or, get_or-eq_default}
@@ -11,18 +11,19 @@ use lib.Dec.{eqb}
 use borrow.Author.Count.{below_more}
 use borrow.Author.Tests.{eqb-true, not-false}
 use Rattle.words.specs.Bits.{bit, digit}
+use mir.Val.{bool_byte}
 use Rattle.words.proofs.BitLaws.{bit-or, bit-none, bit-shr}
 use Rattle.words.proofs.Bools.{or-none}
 use Rattle.sheet.specs.Expression.{constant, newest}
-use Rattle.sheet.specs.Reading.{rule_sheet, Usable}
+use Rattle.sheet.specs.Reading.{rule_sheet}
 use Rattle.sheet.specs.declared.Sheet.{Sheet}
-use Rattle.sheet.proofs.Sheets.{sheet-outputs, tree-at}
+use Rattle.sheet.proofs.Sheets.{usable, sheet-outputs, tree-at}
 use Rattle.lola.specs.Reads.{has_read}
 use Rattle.lola.specs.ByteReads.{read_in}
 use Rattle.lola.proofs.TreeReads.{none_in, read-or}
 use Rattle.circular.specs.Circular.{Circular, CircularSheet, edges}
-use Rattle.circular.specs.Table.{reads_of, reads_of_words}
-use Rattle.circular.specs.Masks.{OutputWords, Mask, Masks, Tells}
+use Rattle.circular.specs.Table.{row_of, reads_of, reads_of_words}
+use Rattle.circular.specs.Masks.{OutputWords, Mask, MaskRow, Tells}
 use Rattle.circular.proofs.Sweep.{circular_map}
 
 -- ---- one word
@@ -31,22 +32,30 @@ use Rattle.circular.proofs.Sweep.{circular_map}
 abbrev Streams : ℕ → ℕ → ℕ → Type 0
 Streams w o x = (q : ℕ) → bit q x ≡ read_in w q o
 
+-- three bits side by side
+three : Bool → Bool → Bool → ℕ
+three x y z = bool_byte x + 2 * bool_byte y + 4 * bool_byte z
+
+three-bits : (x y z : Bool) → (bit 0 (three x y z) ≡ x) × (bit 1 (three x y z) ≡ y) × (bit 2 (three x y z) ≡ z)
+unfolding three bit digit
+three-bits false false false = (refl, refl, refl)
+three-bits false false true = (refl, refl, refl)
+three-bits false true false = (refl, refl, refl)
+three-bits false true true = (refl, refl, refl)
+three-bits true false false = (refl, refl, refl)
+three-bits true false true = (refl, refl, refl)
+three-bits true true false = (refl, refl, refl)
+three-bits true true true = (refl, refl, refl)
+
 module _ (w e n l : ℕ) (earlier : Streams w 0 e) (same : Streams w 1 n) (later : Streams w 2 l) where
-  -- three bits side by side
-  pub mask-bits : (q : ℕ) → Mask w q (e / 2 ^ q % 2 + 2 * (n / 2 ^ q % 2) + 4 * (l / 2 ^ q % 2))
-  unfolding bit digit
-  mask-bits q = record { bits = go }
+  pub mask-bits : (q x : ℕ) → x ≡ bool_byte (bit q e) + 2 * bool_byte (bit q n) + 4 * bool_byte (bit q l) → Mask w q x
+  unfolding three
+  mask-bits q x d = rw d (record { bits = go })
     where
-      x : ℕ
-      x = e / 2 ^ q % 2 + 2 * (n / 2 ^ q % 2) + 4 * (l / 2 ^ q % 2)
-
-      at : (o a : ℕ) → x / 2 ^ o % 2 ≡ a / 2 ^ q % 2 → bit q a ≡ read_in w q o → bit o x ≡ read_in w q o
-      at o a z g = ap (λ (d : ℕ). eqb d 1) z ∙ g
-
-      go : (o : ℕ) → o ≤ 2 → bit o x ≡ read_in w q o
-      go zero h = at 0 e (omega arith) (earlier q)
-      go (suc zero) h = at 1 n (omega arith) (same q)
-      go (suc (suc zero)) h = at 2 l (omega arith) (later q)
+      go : (o : ℕ) → o ≤ 2 → bit o (three (bit q e) (bit q n) (bit q l)) ≡ read_in w q o
+      go zero h = (three-bits (bit q e) (bit q n) (bit q l)).0 ∙ earlier q
+      go (suc zero) h = (three-bits (bit q e) (bit q n) (bit q l)).1 ∙ same q
+      go (suc (suc zero)) h = (three-bits (bit q e) (bit q n) (bit q l)).2 ∙ later q
       go (suc (suc (suc o))) h = absurd (omega arith)
 
   -- where no stream from m on is read at any offset
@@ -78,7 +87,7 @@ lacks_more ws w s k =
           (λ q o e. (or-none (read_in w q o) _ (sym (read-or w (get_or ws s 0) q o) ∙ e)).1);
     }
 
-module _ (x : Sheet) (u : Usable x) (ws : List ℕ) (r : OutputWords x.code x.len x.outputs ws) where
+module _ (x : Sheet) (ws : List ℕ) (r : OutputWords x ws) where
   word-edges : (s q o : ℕ) → s < 7 → reads_of_words ws x.inputs s q o ≡ edges (rule_sheet x) s q o
   unfolding edges has_read
   word-edges s q o l = go (dec_lt s x.outputs)
@@ -86,7 +95,7 @@ module _ (x : Sheet) (u : Usable x) (ws : List ℕ) (r : OutputWords x.code x.le
       go : Dec (s < x.outputs) → read_in (get_or ws s 0) (x.inputs + q) o ≡ has_read (get_or (rule_sheet x).expressions s (constant false)) (x.inputs + q) o
       go (yes h) =
           rw (tree-at (x.inputs + x.outputs) x.code x.len x.outputs s (constant false) h)
-          (((r.rows s l).there h).reads (newest (x.inputs + x.outputs)) _ (u.parts s h).parses (x.inputs + q) o)
+          (((r.rows s l).there h).reads (newest (x.inputs + x.outputs)) _ ((usable x).parts s h).parses (x.inputs + q) o)
       go (no h) =
           rw ((r.rows s l).absent (omega arith), get_or-eq_default (rule_sheet x).expressions (constant false) {n = s} (omega (arith, sheet-outputs x)))
           (none_in (x.inputs + q) o)
@@ -95,24 +104,17 @@ module _ (x : Sheet) (u : Usable x) (ws : List ℕ) (r : OutputWords x.code x.le
   sheet-circular =
       circular_map
       (λ s q o e.
-      let l : s < 7 = omega (arith, e.from, u.ranges.outputs) in
+      let l : s < 7 = omega (arith, e.from, x.ranges.outputs) in
       record { from = omega (arith, e.from, sheet-outputs x); to = omega (arith, e.to, sheet-outputs x); off = e.off; is = sym (word-edges s q o l) ∙ e.is })
 
   pub circular-sheet : CircularSheet (rule_sheet x) → Circular x.outputs (reads_of_words ws x.inputs)
   circular-sheet =
       circular_map
       (λ s q o e.
-      let l : s < 7 = omega (arith, e.from, u.ranges.outputs, sheet-outputs x) in
+      let l : s < 7 = omega (arith, e.from, x.ranges.outputs, sheet-outputs x) in
       record { from = omega (arith, e.from, sheet-outputs x); to = omega (arith, e.to, sheet-outputs x); off = e.off; is = word-edges s q o l ∙ e.is })
 
   -- the table of masks
-  pub tells : (masks : List ℕ) → Masks ws x.inputs masks → Tells (rule_sheet x) masks
+  pub tells : (masks : List (List ℕ)) → ((s : ℕ) → s < 7 → MaskRow (get_or ws s 0) x.inputs (row_of masks s)) → Tells (rule_sheet x) masks
   unfolding reads_of
-  tells masks m =
-      record {
-        reads = λ s q o hs hq ho.
-            let row : (7 * s + q) / 7 ≡ s = omega arith in
-            let col : (7 * s + q) % 7 ≡ q = omega arith in
-            let c : Mask (get_or ws s 0) (x.inputs + q) (get_or masks (7 * s + q) 0) = rw (row, col) at (m.cells (7 * s + q) (omega arith)) in
-            c.bits o ho ∙ word-edges s q o hs;
-      }
+  tells masks m = record { reads = λ s q o hs hq ho. ((m s hs).cells q hq).bits o ho ∙ word-edges s q o hs }

@@ -8,7 +8,7 @@ use native.Mathlib.Decide.{dec_lt}
 use lib.ListN.{length, get_or}
 use lib.Seq.{ext_get_or}
 use Rattle.outcomes.specs.Decided.{Decided}
-use Rattle.outcomes.specs.declared.Outcome.TheVariants.{Accepted}
+use Rattle.outcomes.specs.Outcome.{unbroken}
 use Rattle.words.specs.Bits.{bit}
 use Rattle.words.specs.Below.{one}
 use Rattle.words.proofs.BitLaws.{bits_ext}
@@ -138,5 +138,5 @@ one-trace bs x e level ls g =
     record { exists = a-trace x (read_formed bs x e) level ls g; only = no_other x (read_formed bs x e) level ls }
 
 -- the same from the outcome of rules 1 to 10
-pub accepted-one-trace : (bs : List ℕ) (x : RuleSheet) → Decided (sheet_checks bs) Accepted → read_sheet bs ≡ accepted x → (ls : List ℕ) → Letters x.inputs ls → OneTrace x ls
+pub accepted-one-trace : (bs : List ℕ) (x : RuleSheet) → Decided (sheet_checks bs) unbroken → read_sheet bs ≡ accepted x → (ls : List ℕ) → Letters x.inputs ls → OneTrace x ls
 accepted-one-trace bs x d e = one-trace bs x e (accepted-level bs x e d)

@@ -1,80 +1,109 @@
--- A table filled row by row.
-use mathlib.Core.Path.{◌≡◌, refl, sym, ap, ap₂, ◌∙◌, subst}
-use mathlib.Core.List.{List}
-use mathlib.Core.Bool.{Bool}
-use Prim.Native.Nat.{ℕ, ◌+◌, ◌*◌, ◌≤◌, ◌<◌}
-use native.Mathlib.Omega.{arith}
+-- Rows filled entry by entry, and tables filled row by row.
+use Rattle.std.proofs.Common.{◌≡◌, refl, ◌∙◌, ap, ap₂, List, [], ℕ, ◌+◌, ◌≤◌, ◌<◌, length, get_or, set, replicate, arith, below_more, get_or-set_same, get_or-set_other}
+use Prim.Native.Nat.{max}
+use lib.ListN.{get_or-replicate, length-set}
 use native.Mathlib.Decide.{dec_lt, ℕ_discrete}
-use lib.ListN.{length, get_or, set, replicate, length-set}
-use lib.Seq.{get_or-set_same, get_or-set_other}
-use borrow.Author.Tests.{le-ltb}
-use Rattle.words.proofs.ListLaws.{zeros, set-more-from}
-use Rattle.circular.specs.Table.{pick_n, larger_n, plus_n, cell_n, Small, Part, Tails, joined_n}
-use Rattle.circular.proofs.Codes.{loop_le}
+use Rattle.words.proofs.ListLaws.{zeros}
+use Rattle.circular.specs.Table.{row_of, entry, plus_n, loop_n, cell_n, Small, SmallTable, Tails, Joined}
+use Rattle.circular.proofs.Codes.{plus_le, loop_le}
 
-pub small-set : (l : List ℕ) (i v : ℕ) → i < 64 → v ≤ 4096 → Small l → Small (set l i v)
-small-set l i v h b s = record { size = length-set l i v ∙ s.size; small = λ j. go j (ℕ_discrete j i) }
-  where
-    go : (j : ℕ) → Dec (j ≡ i) → get_or (set l i v) j 0 ≤ 4096
-    go j (yes e) = rw (e, get_or-set_same l i v 0 (omega (arith, s.size))) b
-    go j (no e) = rw (get_or-set_other l i j v 0 (λ q. e (omega arith))) (s.small j)
+-- what holds of the entries below k, and of x at k, holds below k + 1 once x is put there
+pub put-more : {A : Type 0} (P : ℕ → A → Type 0) (d : A) (xs : List A) (k : ℕ) (x : A) → k < length xs → P k x → ((j : ℕ) → j < k → P j (get_or xs j d)) → (j : ℕ) → j < k + 1 → P j (get_or (set xs k x) j d)
+put-more P d xs k x h p f =
+    below_more (λ (j : ℕ). P j (get_or (set xs k x) j d)) k (λ j l. rw (get_or-set_other xs k j x d (omega arith)) (f j l)) (rw (get_or-set_same xs k x d h) p)
 
-pub small_zeros : Small (replicate 64 0)
-small_zeros = record { size = refl; small = λ i. rw (zeros 64 i) (omega arith) }
+-- the first n entries are those of f, and the others are kept
+pub record Front (n : ℕ) (f : ℕ → ℕ) (old new : List ℕ) : Type 0 where
+  pub same_length : length new ≡ length old
+  pub done : (q : ℕ) → q < n → get_or new q 0 ≡ f q
+  pub left : (q : ℕ) → n ≤ q → get_or new q 0 ≡ get_or old q 0
 
--- entries one after the other
-module _ (from : ℕ) (f : ℕ → ℕ) (old : List ℕ) where
-  pub part_none : Part from 0 f old old
-  part_none = record { part = λ q h. absurd (omega arith); below = λ i h. refl; above = λ i h. refl }
+larger_le : (x y : ℕ) → x ≤ 4096 → y ≤ 4096 → max x y ≤ 4096
+larger_le x y h g = omega arith
 
-  pub part-more : (n v : ℕ) (new : List ℕ) → from + n < length new → v ≡ f n → Part from n f old new → Part from (n + 1) f old (set new (from + n) v)
-  part-more n v new h e p =
+module _ (f : ℕ → ℕ) (old : List ℕ) where
+  pub front-more : (n v : ℕ) (new : List ℕ) → n < length new → v ≡ f n → Front n f old new → Front (n + 1) f old (set new n v)
+  front-more n v new h e p =
       record {
-        part = set-more-from (λ q x. x ≡ f q) from new n v h e p.part;
-        below = λ i l. get_or-set_other new (from + n) i v 0 (omega arith) ∙ p.below i l;
-        above = λ i l. get_or-set_other new (from + n) i v 0 (omega arith) ∙ p.above i (omega arith);
+        same_length = length-set new n v ∙ p.same_length;
+        done = put-more (λ q x. x ≡ f q) 0 new n v h e p.done;
+        left = λ q l. get_or-set_other new n q v 0 (omega arith) ∙ p.left q (omega arith);
       }
 
-pub part_as : (from n : ℕ) (f g : ℕ → ℕ) (old new : List ℕ) → ((q : ℕ) → q < n → f q ≡ g q) → Part from n f old new → Part from n g old new
-part_as from n f g old new e p = record { part = λ q h. p.part q h ∙ e q h; below = p.below; above = p.above }
-
--- the first i rows have their first w entries from f, and what comes after them is kept
-pub record FirstRows (w i : ℕ) (f : ℕ → ℕ → ℕ) (old new : List ℕ) : Type 0 where
-  pub done : (a b : ℕ) → a < i → b < w → get_or new (8 * a + b) 0 ≡ f a b
-  pub left : (j : ℕ) → 8 * i ≤ j → get_or new j 0 ≡ get_or old j 0
-
-module _ (w : ℕ) (f : ℕ → ℕ → ℕ) (old : List ℕ) where
-  pub rows_none : FirstRows w 0 f old old
-  rows_none = record { done = λ a b h l. absurd (omega arith); left = λ j h. refl }
-
-  pub rows_more : (i : ℕ) (t u : List ℕ) → w ≤ 8 → FirstRows w i f old t → Part (8 * i) w (f i) t u → FirstRows w (i + 1) f old u
-  rows_more i t u h r p =
-      record {
-        done = λ a b l m. go a b l m (dec_lt a i);
-        left = λ j l. p.above j (omega arith) ∙ r.left j (omega arith);
-      }
+module _ (n : ℕ) (f : ℕ → ℕ) (old new : List ℕ) (p : Front n f old new) where
+  pub small-front : ((q : ℕ) → q < n → f q ≤ 4096) → Small old → Small new
+  small-front b s = record { entries = λ q h. go q h (dec_lt q n) }
     where
-      go : (a b : ℕ) → a < i + 1 → b < w → Dec (a < i) → get_or u (8 * a + b) 0 ≡ f a b
-      go a b l m (yes q) = p.below (8 * a + b) (omega arith) ∙ r.done a b q m
-      go a b l m (no q) = let s : a ≡ i = omega arith in subst (λ (z : ℕ). get_or u (8 * z + b) 0 ≡ f z b) (sym s) (p.part b m)
+      go : (q : ℕ) → q < 8 → Dec (q < n) → get_or new q 0 ≤ 4096
+      go q h (yes l) = rw (p.done q l) (b q l)
+      go q h (no l) = rw (p.left q (omega arith)) (s.entries q h)
 
--- no walk leads to the output
-pub not-joined : (old : List ℕ) (i to : ℕ) (tails : List ℕ) → to ≡ 0 → Part (8 * i) 8 (joined_n old i to tails) old old
-unfolding larger_n plus_n
-not-joined old i to tails e =
-    record {
-      part = λ q h.
-          let x = get_or old (8 * i + q) 0 in
-          sym (ap (λ (z : ℕ). larger_n x (plus_n z (get_or tails q 0))) e ∙ ap (λ (b : Bool). pick_n b 0 x) (le-ltb x 0 (omega arith)));
-      below = λ j h. refl;
-      above = λ j h. refl;
-    }
+pub small_zeros : Small (replicate 8 0)
+small_zeros = record { entries = λ q h. rw (zeros 8 q) (omega arith) }
+
+pub eight-rows : SmallTable (replicate 8 (replicate 8 0))
+eight-rows = let zero : List ℕ = replicate 8 0 in record { size = refl; rows = λ s h. rw (get_or-replicate 8 s zero [] h) small_zeros }
+
+pub small_set : (t : List (List ℕ)) (i : ℕ) (row : List ℕ) → i < 8 → Small row → SmallTable t → SmallTable (set t i row)
+small_set t i row h r s = record { size = length-set t i row ∙ s.size; rows = λ j l. go j l (ℕ_discrete j i) }
+  where
+    go : (j : ℕ) → j < 8 → Dec (j ≡ i) → Small (row_of (set t i row) j)
+    go j l (yes e) = rw (e, get_or-set_same t i row [] (omega (arith, s.size))) r
+    go j l (no e) = rw (get_or-set_other t i j row [] (λ q. e (omega arith))) (s.rows j l)
+
+-- the first n rows have their first w entries from f, and the other rows are kept
+pub record FrontRows (n w : ℕ) (f : ℕ → ℕ → ℕ) (old new : List (List ℕ)) : Type 0 where
+  pub done : (i : ℕ) → i < n → (j : ℕ) → j < w → entry new i j ≡ f i j
+  pub left : (i : ℕ) → n ≤ i → row_of new i ≡ row_of old i
+
+module _ (w : ℕ) (f : ℕ → ℕ → ℕ) (old : List (List ℕ)) where
+  pub rows_none : FrontRows 0 w f old old
+  rows_none = record { done = λ i h. absurd (omega arith); left = λ i h. refl }
+
+  pub rows_more : (n : ℕ) (row : List ℕ) (new : List (List ℕ)) → n < length new → ((j : ℕ) → j < w → get_or row j 0 ≡ f n j) → FrontRows n w f old new → FrontRows (n + 1) w f old (set new n row)
+  rows_more n row new h e p =
+      record {
+        done = put-more (λ i x. (j : ℕ) → j < w → get_or x j 0 ≡ f i j) [] new n row h e p.done;
+        left = λ i l. get_or-set_other new n i row [] (omega arith) ∙ p.left i (omega arith);
+      }
+
+  pub rows-kept : (n : ℕ) (new : List (List ℕ)) → ((j : ℕ) → j < w → entry new n j ≡ f n j) → FrontRows n w f old new → FrontRows (n + 1) w f old new
+  rows-kept n new e p =
+      record { done = below_more (λ (i : ℕ). (j : ℕ) → j < w → entry new i j ≡ f i j) n p.done e; left = λ i l. p.left i (omega arith) }
 
 -- one row of a stage
-module _ (t₀ t : List ℕ) (k i to : ℕ) (on : List ℕ) (tails : Tails t₀ k on) (r : FirstRows 8 i (cell_n t₀ k) t₀ t) where
-  pub joined-cell : to ≡ get_or t (8 * i + k) 0 → (q : ℕ) → q < 8 → joined_n t i to on q ≡ cell_n t₀ k i q
-  unfolding cell_n
-  joined-cell e q h = ap₂ larger_n (r.left (8 * i + q) (omega arith)) (ap₂ plus_n (e ∙ r.left (8 * i + k) (omega arith)) (tails.cells q h))
+module _ (t₀ t : List (List ℕ)) (k i : ℕ) (on : List ℕ) (tails : Tails (row_of t₀ k) k on) (r : FrontRows i 8 (cell_n t₀ k) t₀ t) where
+  abbrev After : List (List ℕ) → Type 0
+  After u = SmallTable u × FrontRows (i + 1) 8 (cell_n t₀ k) t₀ u
 
-pub tails_small : (t : List ℕ) (k : ℕ) (on : List ℕ) → Small t → Tails t k on → (q : ℕ) → q < 8 → get_or on q 0 ≤ 4096
-tails_small t k on s x q h = rw (x.cells q h) (loop_le _ _ (s.small (8 * k + q)))
+  -- with walks to output k
+  pub stage-joined : i < 8 → (row : List ℕ) → Joined (row_of t i) (entry t i k) on row → SmallTable t → After (set t i row)
+  unfolding cell_n
+  stage-joined l row j s = (small_set t i row l j.small s, rows_more 8 (cell_n t₀ k) t₀ i row t (omega (arith, s.size)) cells r)
+    where
+      cells : (q : ℕ) → q < 8 → get_or row q 0 ≡ cell_n t₀ k i q
+      cells q h =
+          j.cells q h
+          ∙ ap₂ max (ap (λ (z : List ℕ). get_or z q 0) (r.left i (omega arith))) (ap₂ plus_n (ap (λ (z : List ℕ). get_or z k 0) (r.left i (omega arith))) (tails.cells q h))
+
+  -- with none
+  pub stage-kept : entry t i k ≡ 0 → SmallTable t → After t
+  unfolding cell_n plus_n
+  stage-kept e s = (s, rows-kept 8 (cell_n t₀ k) t₀ i t cells r)
+    where
+      cells : (q : ℕ) → q < 8 → entry t i q ≡ cell_n t₀ k i q
+      cells q h =
+          let same : row_of t i ≡ row_of t₀ i = r.left i (omega arith) in
+          let none : entry t₀ i k ≡ 0 = rw same at e in
+          rw (same, none) (omega arith)
+
+pub tails-of : (row : List ℕ) (k n : ℕ) (new : List ℕ) → 8 ≤ n → Small row → Front n (λ q. loop_n (get_or row k 0) (get_or row q 0)) row new → Tails row k new
+tails-of row k n new h s p =
+    record { small = record { entries = λ q l. rw (p.done q (omega arith)) (loop_le _ _ (s.entries q l)) }; cells = λ q l. p.done q (omega arith) }
+
+pub joined-of : (row : List ℕ) (to n : ℕ) (on new : List ℕ) → 8 ≤ n → Small row → Front n (λ q. max (get_or row q 0) (plus_n to (get_or on q 0))) row new → Joined row to on new
+joined-of row to n on new h s p =
+    record {
+      small = record { entries = λ q l. rw (p.done q (omega arith)) (larger_le _ _ (s.entries q l) (plus_le to (get_or on q 0))) };
+      cells = λ q l. p.done q (omega arith);
+    }

@@ -3,7 +3,7 @@
 use Rattle.std.specs.Prelude.{◌≡◌, List, [], ◌∷◌, ◌++◌, ℕ}
 use Rattle.outcomes.specs.Decided.{Check, check, Decided}
 use Rattle.outcomes.specs.declared.Refusal.TheVariants.{Circular}
-use Rattle.outcomes.specs.declared.Outcome.TheVariants.{Accepted}
+use Rattle.outcomes.specs.Outcome.{unbroken}
 use Rattle.sheet.specs.ReadingChecks.{reading_checks}
 use Rattle.sheet.specs.RuleSheet.{RuleSheet, accepted, read_sheet}
 use Rattle.sheet.specs.Reading.{rule_sheet, Usable}
@@ -20,7 +20,7 @@ sheet_checks bs = reading_checks bs ++ (check Circular (OfSheet bs CircularSheet
 
 -- the bytes are accepted, and x is what they were read as
 pub record AcceptedSheet (bs : List ℕ) (x : Sheet) : Type 0 where
-  pub decided : Decided (sheet_checks bs) Accepted
+  pub decided : Decided (sheet_checks bs) unbroken
   pub reads : read_sheet bs ≡ accepted (rule_sheet x)
   pub usable : Usable x
   pub level : CircularSheet (rule_sheet x) → ⊥

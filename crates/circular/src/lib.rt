@@ -1,44 +1,37 @@
 // Rule 10, and with it rules 1 to 10 of a sheet: a sheet is circular exactly if some value of some trace reaches itself by reads.
 #![tactic(auto)]
 
+ghost use Rattle.std.specs.Prelude.{IfOk};
+ghost use Rattle.outcomes.specs.Outcome.{as_outcome};
 ghost use Rattle.outcomes.specs.Decided.{Decided};
-ghost use Rattle.sheet.specs.Reading.{when_accepted, blank_if_refused};
 ghost use Rattle.circular.specs.SheetChecks.{sheet_checks, AcceptedSheet};
 
-use outcomes::{Outcome, Refusal};
-use sheet::SheetRead;
+use outcomes::Refusal;
+use sheet::Sheet;
 
 pub mod reads; // reads.rt: the reads between the outputs of a sheet
 mod table; // table.rt: the check on a table of reads
 
-// Reads a sheet and checks it by rules 1 to 10. Where it is refused, the sheet is blank.
-pub fn accept_sheet(s: &[u8]) -> SheetRead
-    ensures decided { Decided (sheet_checks s.now) result.outcome }
-    ensures sheet { when_accepted result.outcome (AcceptedSheet s.now result.sheet) }
-    ensures refused { blank_if_refused result.outcome result.sheet }
+// Reads a sheet and checks it by rules 1 to 10.
+pub fn accept_sheet(s: &[u8]) -> Result<Sheet, Refusal>
+    ensures decided { Decided (sheet_checks s.now) (as_outcome result) }
+    ensures sheet { IfOk result (AcceptedSheet s.now) }
 {
-    let got = reader::read_sheet(s);
-    let outcome = got.outcome;
-    match outcome {
-        Outcome::Accepted => {
-            let m = got.sheet.inputs;
-            let n = got.sheet.outputs as usize;
-            let words = reads::all_reads(&got.sheet.code, &got.sheet.len, n);
-            let circular = table::circular(&words, m, n);
-            let level = !circular;
-            if level {
-                return got;
-            }
-            reader::refused_sheet(Refusal::Circular)
-        }
-        Outcome::Refused(_) => got,
+    let sheet = reader::read_sheet(s)?;
+    let words = reads::all_reads(&sheet);
+    let outputs = usize::from(sheet.outputs);
+    let circular = table::circular(&words, sheet.inputs, outputs);
+    let level = !circular;
+    if level {
+        return Ok(sheet);
     }
+    Err(Refusal::Circular)
 }
 
 // Whether a sheet is accepted, or the first rule that it breaks.
-pub fn check_sheet(s: &[u8]) -> Outcome
+pub fn check_sheet(s: &[u8]) -> Result<(), Refusal>
     ensures { Decided (sheet_checks s.now) result }
 {
-    let got = accept_sheet(s);
-    got.outcome
+    accept_sheet(s)?;
+    Ok(())
 }

@@ -1,34 +1,30 @@
 // The reads between the outputs of a sheet, from the bytes of its expressions.
-ghost use Rattle.std.specs.Prelude.{◌≡◌, ℕ, ◌<◌, ◌≤◌, length, get_or};
-ghost use Rattle.sheet.specs.Reading.{rule_sheet, Usable};
-ghost use Rattle.circular.specs.Masks.{OutputWord, OutputWords, Mask, Masks, Tells};
+ghost use Rattle.std.specs.Prelude.{◌≡◌, ◌<◌, ◌≤◌};
+ghost use Rattle.sheet.specs.Parts.{code_at};
+ghost use Rattle.sheet.specs.Reading.{rule_sheet};
+ghost use Rattle.circular.specs.Masks.{OutputWords, Mask, MaskRow, Tells};
 
 use lola::reads::{expression_reads, streams_at};
 use sheet::{Offset, OutputNo, Sheet, StreamNo};
+use words::has_bit;
 
-// All reads of output s; none where there is no such output.
-fn output_reads(code: &[u8], len: &[usize], n: usize, s: usize) -> u64
-    requires { (n ≤ 7) × (length code.now ≡ 448) × (length len.now ≡ 7) × ((k : ℕ) → k < n → get_or len.now k 0 ≤ 64) }
-    ensures { OutputWord code.now len.now n s result }
+// The bytes of output k's expression.
+pub fn expression(sheet: &Sheet, k: usize) -> &[u8]
+    requires { k < sheet.now.outputs }
+    ensures { result.now ≡ code_at sheet.now.code sheet.now.len k }
 {
-    if n <= s {
-        return 0;
-    }
-    let from = 64 * s;
-    let to = from + len[s];
-    expression_reads(&code[from..to])
+    let from = 64 * k;
+    let to = from + sheet.len[k];
+    &sheet.code[from..to]
 }
 
-// The words of the outputs.
-pub fn all_reads<'a>(code: &'a [u8], len: &'a [usize], n: usize) -> [u64; 7]
-    requires { (n ≤ 7) × (length code.now ≡ 448) × (length len.now ≡ 7) × ((k : ℕ) → k < n → get_or len.now k 0 ≤ 64) }
-    ensures { OutputWords code.now len.now n result }
+// The reads of each output in a word; none where there is no such output.
+pub fn all_reads(sheet: &Sheet) -> [u64; 7]
+    ensures { OutputWords sheet.now result }
 {
-    let mut words = [0u64; 7];
-    let mut s: usize = 0;
-    while s < 7 {
-        words[s] = output_reads(code, len, n, s);
-        s += 1;
+    let mut words = [0; 7];
+    for s in 0..usize::from(sheet.outputs) {
+        words[s] = expression_reads(expression(sheet, s));
     }
     words
 }
@@ -38,34 +34,34 @@ pub fn mask_at(word: u64, stream: StreamNo) -> u8
     requires { stream.0 < 16 }
     ensures { Mask word stream.0 result }
 {
-    let q = stream.0 as u64;
-    let earlier = (streams_at(word, Offset::Earlier) >> q) % 2;
-    let now = (streams_at(word, Offset::Now) >> q) % 2;
-    let later = (streams_at(word, Offset::Later) >> q) % 2;
-    (earlier + 2 * now + 4 * later) as u8
+    let q = usize::from(stream.0);
+    let earlier = has_bit(streams_at(word, Offset::Earlier), q);
+    let now = has_bit(streams_at(word, Offset::Now), q);
+    let later = has_bit(streams_at(word, Offset::Later), q);
+    u8::from(earlier) + 2 * u8::from(now) + 4 * u8::from(later)
 }
 
-fn masks_of(words: &[u64; 7], m: u8) -> [u8; 49]
+// The masks of a word's reads of the outputs.
+fn masks_of(word: u64, m: u8) -> [u8; 7]
     requires { m ≤ 6 }
-    ensures { Masks words.now m result }
+    ensures { MaskRow word m result }
 {
-    let mut masks = [0u8; 49];
-    let mut i: usize = 0;
-    while i < 49 {
-        let q = OutputNo((i % 7) as u8);
-        let row = i / 7;
-        masks[i] = mask_at(words[row], sheet::stream_of(m, q));
-        i += 1;
+    let mut masks = [0; 7];
+    for q in 0..7 {
+        let stream = sheet::stream_of(m, OutputNo(q as u8));
+        masks[q] = mask_at(word, stream);
     }
     masks
 }
 
-// The table of masks of a sheet that was read.
-pub fn sheet_masks(x: Sheet) -> [u8; 49]
-    requires { Usable x }
-    ensures { Tells (rule_sheet x) result }
+// The masks of the reads of each output.
+pub fn sheet_masks(sheet: &Sheet) -> [[u8; 7]; 7]
+    ensures { Tells (rule_sheet sheet.now) result }
 {
-    let n = x.outputs as usize;
-    let words = all_reads(&x.code, &x.len, n);
-    masks_of(&words, x.inputs)
+    let words = all_reads(sheet);
+    let mut masks = [[0; 7]; 7];
+    for s in 0..7 {
+        masks[s] = masks_of(words[s], sheet.inputs);
+    }
+    masks
 }

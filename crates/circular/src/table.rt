@@ -1,17 +1,17 @@
 // The circularity check on the reads between outputs: Kleene's algorithm for the largest weights of walks.
-ghost use Rattle.std.specs.Prelude.{◌≡◌, true, false, ℕ, ◌+◌, ◌*◌, ◌<◌, ◌≤◌, get_or};
-ghost use Rattle.words.specs.Below.{any_below};
+ghost use Rattle.std.specs.Prelude.{◌≡◌, ◌↔◌, IsTrue, true, false, ℕ, ◌+◌, ◌*◌, ◌<◌, ◌≤◌, get_or};
 ghost use Rattle.words.specs.Bits.{bit};
 ghost use Rattle.lola.specs.ByteReads.{read_in};
 ghost use Rattle.circular.specs.Circular.{Circular};
-ghost use Rattle.circular.specs.Table.{pick_n, larger_n, clip_n, plus_n, loop_n, top_n, base_n, reads_of_words, Small, Part, Tails, joined_n, Next, Based, Closed, level_both};
+ghost use Rattle.circular.specs.Table.{clip_n, plus_n, loop_n, top_n, base_n, reads_of_words, row_of, Small, SmallTable, Tails, Joined, BaseRow, Next, Based, Closed, level_both};
 
 use super::reads::mask_at;
 use lola::reads::streams_at;
 use sheet::{Offset, OutputNo};
+use words::has_bit;
 
-// A table has 8 rows of 8 entries. Entry 8 * s + q tells the largest weight of the walks from output s to output q, where a read one round
-// earlier weighs -1 and one round later 1: LEVEL plus the weight.
+// An entry tells the largest weight of the walks from an output to an output, where a read one round earlier weighs -1 and one round later 1:
+// LEVEL plus the weight. The two special cases are numbers too, so that a row is eight numbers of 16 bits, which are worked on side by side.
 const NO_WALK: u16 = 0;
 
 const LEVEL: u16 = 1024;
@@ -24,177 +24,170 @@ const UNBOUNDED: u16 = 4096;
 // A sum of two entries from here on would be UNBOUNDED or more.
 const BEYOND: u16 = 5120;
 
-// The first of two entries, or the second.
-fn pick(first: bool, x: u16, y: u16) -> u16
-    ensures { result ≡ pick_n first x y }
-{
-    if first { x } else { y }
-}
-
-// The larger weight.
-fn larger(x: u16, y: u16) -> u16
-    ensures { result ≡ larger_n x y }
-{
-    pick(x < y, y, x)
-}
-
 // A sum of two entries, as an entry.
+#[tactic(auto, unfolding(crate::specs::Table::clip_n))]
 fn clip(s: u16) -> u16
     ensures { result ≡ clip_n s }
 {
     if s < LEVEL {
-        return NO_WALK;
+        NO_WALK
+    } else if BEYOND <= s {
+        UNBOUNDED
+    } else {
+        s - LEVEL
     }
-    pick(BEYOND <= s, UNBOUNDED, s - LEVEL)
 }
 
 // One walk after the other.
+#[tactic(auto, unfolding(crate::specs::Table::plus_n, crate::specs::Table::clip_n))]
 fn plus(x: u16, y: u16) -> u16
     requires { (x ≤ 4096) × (y ≤ 4096) }
     ensures { result ≡ plus_n x y }
 {
-    let bounded = pick(y == UNBOUNDED, UNBOUNDED, clip(x + y));
-    let some = pick(x == UNBOUNDED, UNBOUNDED, bounded);
-    pick(x == NO_WALK, NO_WALK, pick(y == NO_WALK, NO_WALK, some))
+    if x == NO_WALK || y == NO_WALK {
+        NO_WALK
+    } else if x == UNBOUNDED || y == UNBOUNDED {
+        UNBOUNDED
+    } else {
+        clip(x + y)
+    }
 }
 
 // Any number of rounds of a closed walk of weight c, and then x.
+#[tactic(auto, unfolding(crate::specs::Table::loop_n))]
 fn looped(c: u16, x: u16) -> u16
     ensures { result ≡ loop_n c x }
 {
     let top = LEVEL;
     if c <= top {
-        return x;
+        x
+    } else if x == NO_WALK {
+        NO_WALK
+    } else {
+        UNBOUNDED
     }
-    pick(x == NO_WALK, NO_WALK, UNBOUNDED)
 }
 
-// Walks from output k, after any number of rounds of a closed walk there.
-fn tails(t: &[u16], k: usize) -> [u16; 8]
-    requires { (k < 8) × Small t.now }
-    ensures { Tails t.now k result }
+// The entries of the walks from one output, by the output that they lead to.
+type Row = [u16; 8];
+
+// A row for each output that the walks come from.
+type Table = [Row; 8];
+
+// The walks from output k, after any number of rounds of a closed walk there.
+fn tails(row: &Row, k: usize) -> Row
+    requires { (k < 8) × Small row.now }
+    ensures { Tails row.now k result }
 {
-    let around = t[8 * k + k];
-    let mut new = [0u16; 8];
-    let mut q: usize = 0;
-    while q < 8 {
-        new[q] = looped(around, t[8 * k + q]);
-        q += 1;
+    let around = row[k];
+    let mut new = *row;
+    for entry in &mut new {
+        *entry = looped(around, *entry);
     }
     new
 }
 
-// The walks of row i, and those that go to an output and then on from there.
-fn extend(t: &mut [u16], i: usize, to: u16, tails: &[u16; 8])
-    requires { (i < 8) × (to ≤ 4096) × Small t.old × ((q : ℕ) → q < 8 → get_or tails.now q 0 ≤ 4096) }
-    ensures { Small t.new × Part (8 * i) 8 (joined_n t.old i to tails.now) t.old t.new }
+// The walks of a row, and those that go to an output by a walk `to` and then on from there.
+fn joined(row: &Row, to: u16, tails: &Row) -> Row
+    requires { (to ≤ 4096) × Small row.now × Small tails.now }
+    ensures { Joined row.now to tails.now result }
 {
-    if to == NO_WALK {
-        return;
+    let mut new = *row;
+    for (q, entry) in new.iter_mut().enumerate() {
+        *entry = (*entry).max(plus(to, tails[q]));
     }
-    let mut q: usize = 0;
-    while q < 8 {
-        let at = 8 * i + q;
-        t[at] = larger(t[at], plus(to, tails[q]));
-        q += 1;
-    }
+    new
 }
 
 // Walks that may also pass through output k.
-fn stage(t: &mut [u16], k: usize, n: usize)
-    requires { (k < n) × (n ≤ 7) × Small t.old }
-    ensures { Small t.new × Next n t.old k t.new }
+fn stage(t: &mut Table, k: usize, n: usize)
+    requires { (k < n) × (n ≤ 7) × SmallTable t.old }
+    ensures { SmallTable t.new × Next n t.old k t.new }
 {
-    let on = tails(t, k);
-    let mut i: usize = 0;
-    while i < n {
-        let to = t[8 * i + k];
-        extend(t, i, to, &on);
-        i += 1;
+    let on = tails(&t[k], k);
+    for i in 0..n {
+        let to = t[i][k];
+        if to != NO_WALK {
+            t[i] = joined(&t[i], to, &on);
+        }
     }
 }
 
 // The largest weight of a read, of those there are.
+#[tactic(auto, unfolding(crate::specs::Table::top_n))]
 fn top(earlier: bool, now: bool, later: bool) -> u16
     ensures { result ≡ top_n earlier now later }
 {
-    pick(
-        later,
-        HIGHER,
-        pick(now, LEVEL, pick(earlier, LOWER, NO_WALK)),
-    )
+    if later {
+        HIGHER
+    } else if now {
+        LEVEL
+    } else if earlier {
+        LOWER
+    } else {
+        NO_WALK
+    }
 }
 
 // The heaviest of the reads of a mask; the lightest, with its sign turned, where it is not `up`.
-fn base(up: bool, x: u8) -> u16
-    ensures { result ≡ base_n up (λ o. bit o x) }
+#[tactic(auto, unfolding(crate::specs::Table::base_n))]
+fn base(up: bool, mask: u8) -> u16
+    ensures { result ≡ base_n up (λ o. bit o mask) }
 {
-    let earlier = x % 2 == 1;
-    let now = x / 2 % 2 == 1;
-    let later = x / 4 % 2 == 1;
+    let mask = u64::from(mask);
+    let earlier = has_bit(mask, 0);
+    let now = has_bit(mask, 1);
+    let later = has_bit(mask, 2);
     if up {
-        return top(earlier, now, later);
+        top(earlier, now, later)
+    } else {
+        top(later, now, earlier)
     }
-    top(later, now, earlier)
 }
 
-// The same for the reads of one output, in row s.
-fn base_row(t: &mut [u16], s: usize, word: u64, m: u8, n: usize, up: bool)
-    requires { (s < 8) × (m ≤ 6) × (n ≤ 7) × Small t.old }
-    ensures { Small t.new × Part (8 * s) n (λ q. base_n up (read_in word (m + q))) t.old t.new }
+// The same for the reads of one output.
+fn base_row(word: u64, m: u8, n: usize, up: bool) -> Row
+    requires { (m ≤ 6) × (n ≤ 7) }
+    ensures { BaseRow n (λ q. base_n up (read_in word (m + q))) result }
 {
-    let mut q: usize = 0;
-    while q < n {
+    let mut row = [NO_WALK; 8];
+    for q in 0..n {
         let stream = sheet::stream_of(m, OutputNo(q as u8));
-        t[8 * s + q] = base(up, mask_at(word, stream));
-        q += 1;
+        row[q] = base(up, mask_at(word, stream));
     }
+    row
 }
 
 // The same for all outputs.
-fn based(words: &[u64; 7], m: u8, n: usize, up: bool) -> [u16; 64]
+fn based(words: &[u64; 7], m: u8, n: usize, up: bool) -> Table
     requires { (m ≤ 6) × (n ≤ 7) }
-    ensures { Small result × Based n (λ s q. base_n up (reads_of_words words.now m s q)) result }
+    ensures { SmallTable result × Based n (λ s q. base_n up (reads_of_words words.now m s q)) result }
 {
-    let mut t = [0u16; 64];
-    let mut s: usize = 0;
-    while s < n {
-        base_row(&mut t, s, words[s], m, n, up);
-        s += 1;
+    let mut t = [[NO_WALK; 8]; 8];
+    for s in 0..n {
+        t[s] = base_row(words[s], m, n, up);
     }
     t
 }
 
 // Walks of any length.
-fn closed(words: &[u64; 7], m: u8, n: usize, up: bool) -> [u16; 64]
+fn closed(words: &[u64; 7], m: u8, n: usize, up: bool) -> Table
     requires { (m ≤ 6) × (n ≤ 7) }
     ensures { Closed n (λ s q. base_n up (reads_of_words words.now m s q)) result }
 {
     let mut t = based(words, m, n, up);
-    let mut k: usize = 0;
-    while k < n {
+    for k in 0..n {
         stage(&mut t, k, n);
-        k += 1;
     }
     t
 }
 
 // Whether some output has a closed walk of weight at least 0 in both tables.
-fn level_in_both<'a>(t: &'a [u16; 64], u: &'a [u16; 64], n: usize) -> bool
+fn level_in_both<'a>(t: &'a Table, u: &'a Table, n: usize) -> bool
     requires { n ≤ 7 }
-    ensures { result ≡ any_below n (level_both t.now u.now) }
+    ensures { IsTrue result ↔ ((s : ℕ) × (s < n) × IsTrue (level_both t.now u.now s)) }
 {
-    let mut s: usize = 0;
-    while s < n {
-        let at = 8 * s + s;
-        if LEVEL <= t[at] {
-            if LEVEL <= u[at] {
-                return true;
-            }
-        }
-        s += 1;
-    }
-    false
+    (0..n).any(|s| LEVEL <= t[s][s] && LEVEL <= u[s][s])
 }
 
 // Whether some output reads an output.
@@ -203,17 +196,14 @@ fn has_reads(words: &[u64; 7], m: u8, n: usize) -> bool
     ensures { result ≡ false → (s : ℕ) → s < n → (q o : ℕ) → o ≤ 2 → reads_of_words words.now m s q o ≡ false }
 {
     let first = sheet::stream_of(m, OutputNo(0));
-    let from = first.0 as u64;
-    let mut all: u64 = 0;
-    let mut s: usize = 0;
-    while s < n {
-        all = all | words[s];
-        s += 1;
+    let mut all = 0;
+    for word in words {
+        all |= *word;
     }
     let streams = streams_at(all, Offset::Earlier)
         | streams_at(all, Offset::Now)
         | streams_at(all, Offset::Later);
-    streams >> from != 0
+    streams >> first.0 != 0
 }
 
 // Whether some value reaches itself: some output has a closed walk of weight at least 0 and one of weight at most 0. Word s has the reads of

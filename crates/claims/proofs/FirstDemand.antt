@@ -8,6 +8,9 @@ use native.Mathlib.Omega.{arith}
 use native.Mathlib.Decide.{ℕ_discrete, dec_lt}
 use lib.ListN.{length}
 use Rattle.outcomes.specs.Decided.{Check}
+use Rattle.std.specs.Prelude.{Err}
+use Rattle.outcomes.specs.Outcome.{unbroken}
+use Rattle.outcomes.proofs.NumberLaws.{not-both}
 use Rattle.outcomes.proofs.Decisions.{Decidable, decidable_both, decided-some, decided_once}
 use Rattle.words.proofs.BitLaws.{some-beyond, none-beyond}
 use Rattle.sheet.specs.RuleSheet.{Reading, refused, accepted, outputs, read_sheet}
@@ -20,7 +23,7 @@ use Rattle.trace.specs.EvaluationChecks.{letter_checks, run_checks}
 use Rattle.record.specs.Record.{record_ok}
 use Rattle.record.specs.declared.JournalRecord.{JournalRecord}
 use Rattle.completions.specs.Together.{named}
-use Rattle.letters.specs.Sets.{bad_set, mask_checks, Makes}
+use Rattle.letters.specs.Sets.{bad_set, mask_checks}
 use Rattle.checks.specs.JournalChecks.{too_short, journal_rules, heard_rules, end_rules, named_rules, round_rules, closing_rules, together_rules}
 use Rattle.monitor.specs.Entries.{Prepares, Rounds, Closes}
 use Rattle.claims.specs.Demands.{OneOutcome, FirstDemand}
@@ -123,7 +126,7 @@ first_demand = record {
   preparation = λ bs s. settled _ (decidable_both (sheet_checks bs) (too_short (length s) ∷ []) (sheet_tested bs) (dec_lt (length s) _, tt));
   preparation_refused = λ bs s t a e z o. (subst (Prepares bs s t a) o z.result).0;
   letters = λ m known val. settled (mask_checks m known val) (is _ true, (is _ true, tt));
-  letters_refused = λ m known val a e z o. subst (Makes m known val a.letters) o z.result;
+  letters_refused = λ m known val w e y z. not-both (decided_once (mask_checks m known val) (Err e) unbroken y.decided z.decided);
   round = λ bs s r letters. settled _ (decidable_both (sheet_checks bs) _ (sheet_tested bs) (round_tested (inputs_of bs) (outputs_of bs) (length s) r letters));
   round_refused = λ bs s t r letters a e z o. let y = subst (Rounds bs s t r letters a) o z.result in (y.0, y.1);
   closing = λ bs s r. settled _ (decidable_both (sheet_checks bs) _ (sheet_tested bs) (closing_tested (outputs_of bs) (length s) r));

@@ -9,7 +9,7 @@ use lib.ListN.{length}
 use borrow.Author.Tests.{leb-true, ltb-false}
 use Rattle.outcomes.specs.Decided.{test, Decided}
 use Rattle.outcomes.specs.declared.Refusal.TheVariants.{Leftover, Values}
-use Rattle.outcomes.specs.declared.Outcome.TheVariants.{Accepted}
+use Rattle.outcomes.specs.Outcome.{unbroken}
 use Rattle.outcomes.proofs.Decisions.{Passed, all-passed, passed-append}
 use Rattle.words.proofs.Bools.{and_split}
 use Rattle.sheet.specs.Header.{counts_ok}
@@ -40,7 +40,7 @@ sizes bs (suc r) k p (suc j) h =
     let q = passed-append (byte_checks bs k 0 (length_at bs k)) (test Values (bad_end bs k) ∷ output_checks bs (suc k) r) p.1 in
     subst (λ (i : ℕ). bad_length bs i ≡ true → ⊥) e (sizes bs r (suc k) q.1.1 j (omega arith))
 
-module _ (bs : List ℕ) (holds : Decided (reading_checks bs) Accepted) where
+module _ (bs : List ℕ) (holds : Decided (reading_checks bs) unbroken) where
   behind : Passed (output_checks bs 0 (outputs_of bs)) × Passed (test Leftover (left_over bs) ∷ [])
   unfolding reading_checks
   behind = passed-append (output_checks bs 0 (outputs_of bs)) (test Leftover (left_over bs) ∷ []) (all-passed (reading_checks bs) holds).1.1.1.1.1

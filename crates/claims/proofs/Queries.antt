@@ -7,7 +7,7 @@ use Prim.Native.Nat.{ℕ, ◌^◌}
 use lib.ListN.{length}
 use Rattle.outcomes.specs.Decided.{Check, check, Decided}
 use Rattle.outcomes.specs.declared.Refusal.TheVariants.{Closed, NoRound}
-use Rattle.outcomes.specs.declared.Outcome.{Outcome}
+use Rattle.outcomes.specs.Outcome.{Outcome}
 use Rattle.outcomes.proofs.Decisions.{decided_past, all-passed}
 use Rattle.words.proofs.BitLaws.{bit-pow, bit-none}
 use Rattle.sheet.specs.RuleSheet.{RuleSheet, outputs}

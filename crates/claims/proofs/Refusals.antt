@@ -11,8 +11,8 @@ use borrow.Author.Tests.{leb-true, leb-false, eqb-true, eq-eqb}
 use Rattle.outcomes.specs.Decided.{check, Decided}
 use Rattle.outcomes.specs.declared.Refusal.{Refusal}
 use Rattle.outcomes.specs.declared.Refusal.TheVariants.{Closed, Full, NoRound, RoundSet}
-use Rattle.outcomes.specs.declared.Outcome.{Outcome}
-use Rattle.outcomes.specs.declared.Outcome.TheVariants.{Accepted, Refused}
+use Rattle.outcomes.specs.Outcome.{Outcome, unbroken}
+use Rattle.std.specs.Prelude.{Err}
 use Rattle.outcomes.proofs.Decisions.{decided-accepted}
 use Rattle.sheet.specs.RuleSheet.{RuleSheet, outputs, accepted, read_sheet}
 use Rattle.sheet.specs.ReadingChecks.{inputs_of, outputs_of}
@@ -26,12 +26,12 @@ use Rattle.checks.specs.JournalChecks.{heard_rules, end_rules, round_rules, clos
 use Rattle.claims.specs.Book.{round, closing, refusal}
 
 abbrev pub outcome_by : Option Refusal → Outcome
-outcome_by none = Accepted
-outcome_by (some r) = Refused r
+outcome_by none = unbroken
+outcome_by (some r) = Err r
 
 -- the sheet's own checks hold
 pub record SheetOk (bs : List ℕ) (x : RuleSheet) : Type 0 where
-  pub holds : Decided (sheet_checks bs) Accepted
+  pub holds : Decided (sheet_checks bs) unbroken
   pub reads : read_sheet bs ≡ accepted x
 
 module _ (bs : List ℕ) (x : RuleSheet) (ok : SheetOk bs x) (lent : ℕ) (r : JournalRecord) (enough : storage_words ≤ lent) (right : record_ok (outputs x) r ≡ true) where
@@ -80,11 +80,11 @@ module _ (bs : List ℕ) (x : RuleSheet) (ok : SheetOk bs x) (lent : ℕ) (r : J
       decided-accepted (sheet_checks bs) (closing_rules (outputs_of bs) lent r) _ ok.holds (inr (short, inr (wrong, over r.closed refl)))
 
 -- what an outcome says of the book's refusal
-pub by_accepted : (o : Option Refusal) → Accepted ≡ outcome_by o → o ≡ none
+pub by_accepted : (o : Option Refusal) → unbroken ≡ outcome_by o → o ≡ none
 by_accepted none e = refl
 by_accepted (some r) e = absurd (true≢false cc)
 
-pub by_refused : (o : Option Refusal) (r : Refusal) → Refused r ≡ outcome_by o → o ≡ some r
+pub by_refused : (o : Option Refusal) (r : Refusal) → Err r ≡ outcome_by o → o ≡ some r
 by_refused none r e = absurd (true≢false cc)
 by_refused (some q) r e = cc
 

@@ -8,7 +8,8 @@ use native.Mathlib.Decide.{dec_lt}
 use lib.ListN.{length, take}
 use lib.Seq.{length-take-le}
 use Rattle.outcomes.specs.Decided.{Decided}
-use Rattle.outcomes.specs.declared.Outcome.TheVariants.{Accepted, Refused}
+use Rattle.std.specs.Prelude.{Err}
+use Rattle.outcomes.specs.Outcome.{unbroken}
 use Rattle.outcomes.proofs.Decisions.{Passed, all-passed, passed-both, decided_once}
 use Rattle.outcomes.proofs.NumberLaws.{not-both}
 use Rattle.sheet.specs.ReadingChecks.{inputs_of, reading_checks}
@@ -25,14 +26,14 @@ use Rattle.trace.specs.EvaluationChecks.{letter_checks, run_checks}
 use Rattle.claims.specs.Demands.{UniqueTraces, SecondDemand}
 
 -- a sheet that rules 1 to 10 accept is read: where reading refuses it, one of them is broken
-pub sheet-read : (bs : List ℕ) → Decided (sheet_checks bs) Accepted → (x : RuleSheet) × (read_sheet bs ≡ accepted x)
+pub sheet-read : (bs : List ℕ) → Decided (sheet_checks bs) unbroken → (x : RuleSheet) × (read_sheet bs ≡ accepted x)
 sheet-read bs d = go (read_sheet bs) refl
   where
     go : (r : Reading) → read_sheet bs ≡ r → (x : RuleSheet) × (read_sheet bs ≡ accepted x)
     go (accepted x) e = (x, e)
     go (refused q) e =
-        let f : Decided (reading_checks bs) (Refused q) = subst (Decided (reading_checks bs)) (ap reading_outcome e) (reading_decided bs) in
-        absurd (not-both (decided_once (reading_checks bs) (Refused q) Accepted f (passed-both (reading_checks bs) _ d).0))
+        let f : Decided (reading_checks bs) (Err q) = subst (Decided (reading_checks bs)) (ap reading_outcome e) (reading_decided bs) in
+        absurd (not-both (decided_once (reading_checks bs) (Err q) unbroken f (passed-both (reading_checks bs) _ d).0))
 
 pub unique_traces : UniqueTraces
 unique_traces bs d =

@@ -4,7 +4,7 @@ use mathlib.Core.List.{List, [], ◌∷◌}
 use Prim.Native.Nat.{ℕ}
 use lib.ListN.{length}
 use Rattle.outcomes.specs.Decided.{Decided}
-use Rattle.outcomes.specs.declared.Outcome.TheVariants.{Accepted}
+use Rattle.outcomes.specs.Outcome.{unbroken}
 use Rattle.outcomes.proofs.Decisions.{passed-both}
 use Rattle.sheet.specs.RuleSheet.{RuleSheet}
 use Rattle.circular.specs.SheetChecks.{sheet_checks}
@@ -26,10 +26,10 @@ pub record Began (bs t : List ℕ) (p : PrepareAnswer) : Type 0 where
   pub done : (s : List ℕ) × Prepared sheet s t p
   pub tracks : Tracks bs sheet ok empty_book (held t p.record)
 
-module _ (bs s t : List ℕ) (p : PrepareAnswer) (z : PrepareCall bs s t p) (o : p.outcome ≡ Accepted) where
+module _ (bs s t : List ℕ) (p : PrepareAnswer) (z : PrepareCall bs s t p) (o : p.outcome ≡ unbroken) where
   pub began : Began bs t p
   began =
-      let d : Decided (prepare_checks bs (length s)) Accepted = subst (Decided (prepare_checks bs (length s))) o z.decided in
+      let d : Decided (prepare_checks bs (length s)) unbroken = subst (Decided (prepare_checks bs (length s))) o z.decided in
       let y = subst (Prepares bs s t p) o z.result in
       let both = passed-both (sheet_checks bs) (too_short (length s) ∷ []) d in
       let ok : SheetOk bs y.0 = record { holds = both.0; reads = y.1 } in

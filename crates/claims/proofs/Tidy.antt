@@ -6,8 +6,8 @@ use mathlib.Core.Option.{Option}
 use Prim.Native.Nat.{ℕ, ◌+◌, ◌<◌, ◌≤◌}
 use native.Mathlib.Omega.{arith}
 use lib.Dec.{ltb}
-use Rattle.outcomes.specs.declared.Outcome.{Outcome}
-use Rattle.outcomes.specs.declared.Outcome.TheVariants.{Accepted, Refused}
+use Rattle.outcomes.specs.Outcome.{Outcome}
+use Rattle.std.specs.Prelude.{Ok, Err}
 use Rattle.words.specs.Bits.{bit}
 use Rattle.words.proofs.BitLaws.{bit-none}
 use Rattle.sheet.specs.RuleSheet.{RuleSheet}
@@ -84,9 +84,9 @@ module _ (bs : List ℕ) (x : RuleSheet) (ok : SheetOk bs x) where
       after = held t z.record
 
       go : (o : Outcome) → Rounds bs h.storage t h.record letters z o → Tidy x after
-      go Accepted e =
+      go (Ok _) e =
           round_tidy x h after (members letters) z (subst (λ (q : RuleSheet). RoundDone q h.storage t h.record (members letters) z) (same-sheet bs x ok e.0 e.1) e.2) y
-      go (Refused q) e = kept_tidy x h after e.0 y
+      go (Err q) e = kept_tidy x h after e.0 y
   call-tidy h k c a (a_closing z d) y = kept_tidy x h k refl y
 
   calls-tidy : (h k : Held) (cs : List Call) (as' : List Answer) → Session bs h cs as' k → Tidy x h → Tidy x k

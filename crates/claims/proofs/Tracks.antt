@@ -11,11 +11,10 @@ use lib.Pow.{pow_mono}
 use lib.Seq.{length-take-le}
 use Rattle.outcomes.specs.Numbers.{told_at, verdict_list, Verdicts}
 use Rattle.outcomes.specs.declared.Refusal.{Refusal}
-use Rattle.outcomes.specs.declared.Outcome.{Outcome}
-use Rattle.outcomes.specs.declared.Outcome.TheVariants.{Accepted, Refused}
+use Rattle.outcomes.specs.Outcome.{Outcome}
+use Rattle.std.specs.Prelude.{Ok, Err}
 use Rattle.outcomes.specs.declared.Verdict.{Verdict}
 use Rattle.outcomes.specs.declared.Verdict.TheVariants.{True}
-use Rattle.outcomes.specs.declared.Told.{Told}
 use Rattle.outcomes.proofs.Decisions.{decided_once}
 use Rattle.outcomes.proofs.NumberLaws.{told-size, told_at_lem, told_below}
 use Rattle.words.specs.Below.{one}
@@ -62,7 +61,7 @@ shares_at (x ∷ xs) (suc n) (suc i) y e =
     (omega (arith, r.0), r.1)
 
 -- what an answer says of each output
-each-verdict : (n m : ℕ) (f : ℕ → Verdict) (vs : List Told) (R : ℕ → Verdict → Type 0) → n ≡ m → n ≤ 7 → Verdicts n f vs → ((k : ℕ) → R k (f k)) → Each n R (verdict_list vs m)
+each-verdict : (n m : ℕ) (f : ℕ → Verdict) (vs : List Verdict) (R : ℕ → Verdict → Type 0) → n ≡ m → n ≤ 7 → Verdicts n f vs → ((k : ℕ) → R k (f k)) → Each n R (verdict_list vs m)
 each-verdict n m f vs R e few x h = record {
   size = told-size vs m (omega (arith, x.size)) ∙ sym e;
   right = λ k v g.
@@ -72,7 +71,7 @@ each-verdict n m f vs R e few x h = record {
 }
 
 -- the counts go up as the book's do
-counted_as : (n m : ℕ) (vs : List Told) (k : ℕ) (v : Verdict) → n ≡ m → n ≤ 7 → length vs ≡ 7 → k < n
+counted_as : (n m : ℕ) (vs : List Verdict) (k : ℕ) (v : Verdict) → n ≡ m → n ≤ 7 → length vs ≡ 7 → k < n
     → one (same_verdict (told_at vs k) v) ≡ one (is_at (get_elem? (verdict_list vs m) k) v)
 counted_as n m vs k v e few size h = rw (told_at_lem vs m k (omega arith) (omega arith))
 
@@ -226,10 +225,10 @@ module _ (bs : List ℕ) (x : RuleSheet) (ok : SheetOk bs x) where
       where
         go : (o : Outcome) → Rounds bs h.storage t r letters a o → o ≡ outcome_by (ask (round letters))
             → Follows b (round letters) (round_says (outputs_of bs) a o) (held t a.record)
-        go Accepted z e =
+        go (Ok _) z e =
             round-done letters t a (sym (asked (round letters)) ∙ by_accepted (ask (round letters)) e)
             (subst (λ (y : RuleSheet). RoundDone y h.storage t r (members letters) a) (same-sheet z.0 z.1) z.2)
-        go (Refused q) z e =
+        go (Err q) z e =
             refused-call (round letters) q (held t a.record) (λ i. held (z.0 i) (z.1 i))
             (sym (asked (round letters)) ∙ by_refused (ask (round letters)) q e)
 
@@ -242,10 +241,10 @@ module _ (bs : List ℕ) (x : RuleSheet) (ok : SheetOk bs x) where
       where
         go : (o : Outcome) → Closes bs h.storage r a o → o ≡ outcome_by (ask closing)
             → Follows b closing (closing_says (outputs_of bs) a o) (held h.storage a.record)
-        go Accepted z e =
+        go (Ok _) z e =
             closing-done a (sym (asked closing) ∙ by_accepted (ask closing) e)
             (subst (λ (y : RuleSheet). ClosingDone y h.storage r a) (same-sheet z.0 z.1) z.2)
-        go (Refused q) z e =
+        go (Err q) z e =
             refused-call closing q (held h.storage a.record) (λ i. held h.storage (z.0 i))
             (sym (asked closing) ∙ by_refused (ask closing) q e)
 

@@ -7,9 +7,10 @@ use lib.ListN.{drop}
 use Rattle.sheet.specs.Expression.{newest}
 use Rattle.sheet.specs.Header.{mark_ok, version_of, version_ok, header_of}
 use Rattle.sheet.specs.RuleSheet.{accepted, Outputs, trees, breaks, read_outputs, with_outputs, with_header, read_sheet}
-use Rattle.sheet.specs.declared.Assumed.{Assumed}
+use Rattle.sheet.specs.Parts.{Assumed}
 use Rattle.sheet.specs.declared.Header.{Header}
-use Rattle.sheet.specs.declared.Header.TheVariants.{Fields, Refused}
+use Rattle.std.specs.Prelude.{Result, Ok, Err}
+use Rattle.outcomes.specs.declared.Refusal.{Refusal}
 use Rattle.sheet.proofs.Formed.{FormedIn, formed_in}
 use Rattle.sheet.proofs.Versions.{outputs-newest}
 use Rattle.claims.specs.Further.{VersionOne, VersionsAgree}
@@ -26,6 +27,6 @@ versions_agree a b c bs x h = go (header_of (a ∷ (b ∷ (c ∷ (1 ∷ (0 ∷ b
     with m n y (trees ts) e k = rw (outputs-newest (record { version = 1; streams = m + n }) n (drop 3 bs) ts e) k
     with m n y (breaks r) e k = absurd (true≢false cc)
 
-    go : (f : Header) → with_header (a ∷ (b ∷ (c ∷ (1 ∷ (0 ∷ bs))))) f ≡ accepted x → with_header (a ∷ (b ∷ (c ∷ (2 ∷ (0 ∷ bs))))) f ≡ accepted x
-    go (Fields m n y) k = with m n y _ refl k
-    go (Refused r) k = absurd (true≢false cc)
+    go : (f : Result Header Refusal) → with_header (a ∷ (b ∷ (c ∷ (1 ∷ (0 ∷ bs))))) f ≡ accepted x → with_header (a ∷ (b ∷ (c ∷ (2 ∷ (0 ∷ bs))))) f ≡ accepted x
+    go (Ok h) k = with h.inputs h.outputs h.assumed _ refl k
+    go (Err r) k = absurd (true≢false cc)

@@ -4,7 +4,7 @@ use Rattle.std.specs.Prelude.{◌≡◌, false, List, [], ◌∷◌, ◌++◌, m
 use Rattle.std.proofs.Math.Option.{Option, none}
 use Rattle.outcomes.specs.declared.Verdict.{Verdict}
 use Rattle.outcomes.specs.declared.Verdict.TheVariants.{Broken}
-use Rattle.outcomes.specs.declared.Outcome.TheVariants.{Accepted}
+use Rattle.outcomes.specs.Outcome.{unbroken}
 use Rattle.sheet.specs.Expression.{constant}
 use Rattle.sheet.specs.Header.{version_of}
 use Rattle.sheet.specs.Postfix.{InSheet}
@@ -82,7 +82,7 @@ pub record EndNeedsNone : Type 0 where
 -- the exact reach is below the number of live pairs, which are those of L, and so it is in the answer of an accepted preparation (02, W13)
 pub record ReachBelow : Type 0 where
   pub of_sheet : (x : RuleSheet) → streams x ≤ 8 → (L : Pairs) → Represents 256 L (Live x) → (r : ℕ) → ExactReach x r → r < count_pairs 256 L
-  pub answered : (bs s t : List ℕ) (a : PrepareAnswer) → PrepareCall bs s t a → a.outcome ≡ Accepted → a.reach < a.live
+  pub answered : (bs s t : List ℕ) (a : PrepareAnswer) → PrepareCall bs s t a → a.outcome ≡ unbroken → a.reach < a.live
 
 -- a prefix of one or more rounds that has a completion has one with at most as many further rounds as the exact reach (02, W13)
 abbrev pub WithinReach : Type 0
@@ -126,7 +126,7 @@ StorageForgotten =
 -- P holds of what is held after one accepted preparation and any calls with the same sheet
 abbrev pub AfterCalls : (RuleSheet → Held → Type 0) → Type 0
 AfterCalls P =
-    (bs s t : List ℕ) (p : PrepareAnswer) → PrepareCall bs s t p → p.outcome ≡ Accepted
+    (bs s t : List ℕ) (p : PrepareAnswer) → PrepareCall bs s t p → p.outcome ≡ unbroken
     → (cs : List Call) (as' : List Answer) (h : Held) → Session bs (held t p.record) cs as' h
     → OfSheet bs (λ x. P x h)
 

@@ -4,7 +4,7 @@
 use Rattle.std.specs.Prelude.{◌≡◌, Bool, true, List, [], ◌∷◌, ◌++◌, ◌⊎◌, ◌↔◌, ℕ, ◌^◌, ◌≤◌, ◌<◌, length}
 use Rattle.outcomes.specs.Decided.{Check, check, Decided}
 use Rattle.outcomes.specs.declared.Refusal.TheVariants.{Closed, NoRound}
-use Rattle.outcomes.specs.declared.Outcome.TheVariants.{Accepted}
+use Rattle.outcomes.specs.Outcome.{unbroken}
 use Rattle.outcomes.specs.declared.Verdict.{Verdict}
 use Rattle.outcomes.specs.declared.Verdict.TheVariants.{False, True, Broken}
 use Rattle.sheet.specs.RuleSheet.{RuleSheet, outputs, streams}
@@ -31,14 +31,14 @@ book_checks x b set =
 -- the answer to it is the book's: refused as the book has it, or the verdict over the completions of the book's rounds
 pub record TogetherRight (x : RuleSheet) (b : Book) (set : ℕ) (a : TogetherAnswer) : Type 0 where
   pub decided : Decided (book_checks x b set) a.outcome
-  pub verdict : a.outcome ≡ Accepted → TogetherVerdict x b.rounds (named set) a.verdict
+  pub verdict : a.outcome ≡ unbroken → TogetherVerdict x b.rounds (named set) a.verdict
 
 -- After one accepted preparation with the sheet bs, whatever the storage s held, and any list of rounds and closings with that sheet, refused ones
 -- included, every question about a set of outputs, handed what is then held, is answered by the book. A question alters nothing, so a list with questions
 -- in it is the list without them.
 abbrev pub TogetherAnswered : Type 0
 TogetherAnswered =
-    (bs s t : List ℕ) (p : PrepareAnswer) → PrepareCall bs s t p → p.outcome ≡ Accepted
+    (bs s t : List ℕ) (p : PrepareAnswer) → PrepareCall bs s t p → p.outcome ≡ unbroken
     → (cs : List Call) (as' : List Answer) (h : Held) → Session bs (held t p.record) cs as' h
     → OfSheet bs (λ x. (b : Book) × BookRun x empty_book cs as' b
     × ((set : ℕ) (a : TogetherAnswer) → TogetherCall bs h.storage h.record set a → TogetherRight x b set a))

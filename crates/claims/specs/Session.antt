@@ -1,10 +1,9 @@
 -- Lists of calls after one accepted preparation (01, "Completions and verdicts"): each call is handed the record and the storage that
 -- the call before left.
 -- Manual: "Completions and verdicts".
-use Rattle.std.specs.Prelude.{◌≡◌, List, [], ◌∷◌, ℕ, ◌<◌, length, take}
+use Rattle.std.specs.Prelude.{◌≡◌, List, [], ◌∷◌, ℕ, ◌<◌, length, take, Ok, Err}
 use Rattle.outcomes.specs.Numbers.{verdict_list}
-use Rattle.outcomes.specs.declared.Outcome.{Outcome}
-use Rattle.outcomes.specs.declared.Outcome.TheVariants.{Accepted, Refused}
+use Rattle.outcomes.specs.Outcome.{Outcome}
 use Rattle.outcomes.specs.declared.Verdict.{Verdict}
 use Rattle.sheet.specs.RuleSheet.{RuleSheet, outputs}
 use Rattle.sheet.specs.ReadingChecks.{outputs_of}
@@ -25,12 +24,12 @@ held t r = record { storage = t; «record» = r }
 
 -- an entry's answer in the book's words; n is the number of outputs
 abbrev pub round_says : ℕ → RoundAnswer → Outcome → Answer
-round_says n a Accepted = verdicts (verdict_list a.verdicts n)
-round_says n a (Refused r) = refused r
+round_says n a (Ok _) = verdicts (verdict_list a.verdicts n)
+round_says n a (Err r) = refused r
 
 abbrev pub closing_says : ℕ → ClosingAnswer → Outcome → Answer
-closing_says n a Accepted = closed (verdict_list a.verdicts n) (take n a.shares)
-closing_says n a (Refused r) = refused r
+closing_says n a (Ok _) = closed (verdict_list a.verdicts n) (take n a.shares)
+closing_says n a (Err r) = refused r
 
 -- one call with the sheet bs: what is held before, the call, its answer, what is held after
 pub data SessionStep (bs : List ℕ) (h : Held) : Call → Answer → Held → Type 0 where

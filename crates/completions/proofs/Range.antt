@@ -1,6 +1,6 @@
 -- The valuations of a sheet of at most w valuations are below w, and so are those of live pairs; some valuation is allowed.
 use mathlib.Core.Bool.{true}
-use mathlib.Core.Path.{◌≡◌, sym, subst}
+use mathlib.Core.Path.{◌≡◌, refl, sym, subst}
 use mathlib.Core.List.{List, [], ◌∷◌}
 use mathlib.Core.Option.{Option, some, none}
 use Prim.Native.Nat.{ℕ, ◌+◌, ◌-◌, ◌^◌, ◌≤◌, ◌<◌}
@@ -10,9 +10,9 @@ use lib.Pow.{pow_pos}
 use Rattle.words.proofs.BitLaws.{bit-all}
 use Rattle.words.proofs.Tests.{and_left, and_both, of_true}
 use Rattle.sheet.specs.RuleSheet.{RuleSheet, outputs, streams, required_of}
-use Rattle.sheet.specs.Reading.{Below}
-use Rattle.sheet.specs.declared.Assumed.{Assumed}
-use Rattle.sheet.specs.declared.Assumed.TheVariants.{Nothing, Output}
+use Rattle.sheet.specs.Parts.{Below}
+use Rattle.sheet.specs.Parts.{Assumed}
+use Rattle.std.specs.Prelude.{None, Some}
 use Rattle.lola.specs.Equations.{first, output}
 use Rattle.completions.specs.Live.{all_true, assumed, allowed, Follows, Live}
 use Rattle.completions.specs.Steps.{Within}
@@ -40,8 +40,8 @@ module _ (s : RuleSheet) where
 
   all_set : (a : Assumed) → Below a (outputs s) → T (all_true s (required_of a) full)
   unfolding all_true
-  all_set Nothing h = tt
-  all_set (Output k) h = and_both (output s k.0 full) true (of_true (output s k.0 full) (bit-all (streams s) (s.inputs + k.0) (omega arith))) tt
+  all_set None h = tt
+  all_set (Some k) h = and_both (output s k.0 full) true (of_true (output s k.0 full) (bit-all (streams s) (s.inputs + k.0) (omega (arith, h k refl)))) tt
 
   pub some-allowed : (a : Assumed) → s.required ≡ required_of a → Below a (outputs s) → (v : ℕ) × T (allowed s v)
   unfolding allowed

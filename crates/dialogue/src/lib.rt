@@ -1,24 +1,21 @@
 // The program's talk with the system: which call is due, and what its answer makes of the run. Nothing here calls the system.
 #![tactic(auto)]
 
-ghost use Rattle.std.specs.Prelude.{◌+◌, ◌*◌, ◌≤◌, ◌≡◌, true, [], length};
-ghost use Rattle.circular.specs.Accepted.{IsAccepted};
+ghost use Rattle.std.specs.Prelude.{◌+◌, ◌*◌, ◌≤◌, ◌≡◌, Some, [], length};
 ghost use Rattle.pairs.specs.Storage.{storage_words};
-ghost use Rattle.letter_table.specs.Entry.{Sets};
-ghost use Rattle.line_scan.specs.Scan.{InTable};
 ghost use Rattle.dialogue.specs.History.{replied, came};
-ghost use Rattle.dialogue.specs.Talks.{Talks, Steps, Told, Wants, Within};
+ghost use Rattle.dialogue.specs.Talks.{Talks, Steps, Told, Within};
+ghost use Rattle.dialogue.specs.declared.Dialogue.{Dialogue};
 
-use outcomes::Outcome;
-use protocol::Progress;
-use sheet::Sheet;
+use letter_table::LetterTable;
+use protocol::Started;
 
 // The numbers of the errors after which a call is made again.
 const EINTR: i32 = 4;
 
 const EAGAIN: i32 = 11;
 
-// What the system said to a call: how many bytes it moved, or why none.
+// What the system said to a call: how many bytes it moved, or why none. No `Result`: of these four only the last ends a run.
 #[derive(Clone, Copy)]
 pub enum Reply {
     Moved(usize),
@@ -27,7 +24,8 @@ pub enum Reply {
     Failed,
 }
 
-// How a run of the program ends: with all that is to be written, with an input or an output that failed, or before its end.
+// How a run of the program ends: with all that is to be written, with an input or an output that failed, or before its end. No `Result`: for
+// each of the four it is said what has gone out.
 #[derive(Clone, Copy)]
 pub enum End {
     Whole,
@@ -36,20 +34,12 @@ pub enum End {
     Unfinished,
 }
 
-// Where the talk stands: the run, whether more of the input is wanted, and which bytes of the output's buffer are still to be written.
+// Where the talk stands: the run, none if nothing more is to be read, and which bytes of the output's buffer are still to be written.
 #[derive(Clone, Copy)]
 pub struct Dialogue {
-    pub state: Progress,
-    pub more: bool,
+    pub run: Option<Started>,
     pub from: usize,
     pub to: usize,
-}
-
-// The sheet that was read, and where the talk stands before the first call.
-#[derive(Clone, Copy)]
-pub struct Opened {
-    pub sheet: Sheet,
-    pub dialogue: Dialogue,
 }
 
 impl Reply {
@@ -60,81 +50,65 @@ impl Reply {
         if got >= 0 {
             return Reply::Moved(got as usize);
         }
-        if error == EINTR {
-            return Reply::Interrupted;
+        match error {
+            EINTR => Reply::Interrupted,
+            EAGAIN => Reply::NotReady,
+            _ => Reply::Failed,
         }
-        if error == EAGAIN {
-            return Reply::NotReady;
-        }
-        Reply::Failed
     }
 }
 
 // The beginning, with the bytes of the sheet.
-pub fn open(sheet: &[u8], storage: &mut [u64], out: &mut [u8]) -> Opened
+pub fn open(sheet: &[u8], storage: &mut [u64], out: &mut [u8]) -> Dialogue
     requires { (storage_words ≤ length storage.old) × (40 ≤ length out.old) }
-    ensures talks { Talks sheet.now result.sheet result.dialogue storage.new out.new [] }
-    ensures wants { Wants result.sheet result.dialogue }
-    ensures within { Within result.dialogue out.new }
+    ensures talks { Talks sheet.now result storage.new out.new [] }
+    ensures within { Within result out.new }
 {
-    let begun = protocol::start(sheet, storage, out);
-    let x = begun.sheet;
-    let state = begun.state;
-    let to = begun.at;
-    let outcome = begun.outcome;
-    match outcome {
-        Outcome::Accepted => {
-            let dialogue = Dialogue {
-                state,
-                more: !state.over,
-                from: 0,
-                to,
-            };
-            Opened { sheet: x, dialogue }
-        }
-        Outcome::Refused(_) => {
-            let dialogue = Dialogue {
-                state,
-                more: false,
-                from: 0,
-                to,
-            };
-            Opened { sheet: x, dialogue }
-        }
+    match protocol::start(sheet, storage, out) {
+        Ok(run) => Dialogue {
+            run: Some(run),
+            from: 0,
+            to: 0,
+        },
+        Err(to) => Dialogue {
+            run: None,
+            from: 0,
+            to,
+        },
     }
 }
 
 // A read brought these bytes, none at the end of the input: what they earn is in `out`, to be written.
 pub fn heard(
-    x: Sheet,
-    table: &[u64],
-    d: Dialogue,
+    run: &Started,
+    table: &LetterTable,
     storage: &mut [u64],
     chunk: &[u8],
     out: &mut [u8],
 ) -> Dialogue
-    requires { IsAccepted x × (8 * length chunk.now + 470 ≤ length out.old) × (d.more ≡ true) × (d.to ≤ d.from) × Sets table.now × InTable d.state.pending }
-    ensures steps { Steps x d storage.old out.old (came chunk.now) result storage.new out.new }
+    requires { 8 * length chunk.now + 470 ≤ length out.old }
+    ensures steps { (d : Dialogue) → d.run ≡ Some run.now → d.to ≤ d.from → Steps d storage.old out.old (came chunk.now) result storage.new out.new }
     ensures within { Within result out.new }
-    ensures in_table { InTable result.state.pending }
 {
-    let s = d.state;
     let at_end = chunk.len() == 0;
     if at_end {
-        let to = protocol::finish(x, table, s, storage, out);
+        let to = protocol::finish(&run.sheet, table, Some(run.state), storage, out);
         return Dialogue {
-            state: s,
-            more: false,
+            run: None,
             from: 0,
             to,
         };
     }
-    let fed = protocol::feed(x, table, s, storage, chunk, out);
-    let state = fed.state;
-    let over = state.over;
+    let fed = protocol::feed(&run.sheet, table, Some(run.state), storage, chunk, out);
+    let next = match fed.next {
+        Some(state) => Some(Started {
+            sheet: run.sheet,
+            state,
+        }),
+        None => None,
+    };
     Dialogue {
-        state,
-        more: !over,
+        run: next,
         from: 0,
         to: fed.at,
     }
@@ -144,12 +118,10 @@ pub fn heard(
 pub fn told(d: Dialogue, n: usize) -> Dialogue
     requires { d.from + n ≤ d.to }
     ensures told { Told d n result }
-    ensures left { (result.state ≡ d.state) × (result.more ≡ d.more) × (result.from ≡ d.from + n) × (result.to ≡ d.to) }
+    ensures left { (result.run ≡ d.run) × (result.from ≡ d.from + n) × (result.to ≡ d.to) }
 {
-    let state = d.state;
     Dialogue {
-        state,
-        more: d.more,
+        run: d.run,
         from: d.from + n,
         to: d.to,
     }

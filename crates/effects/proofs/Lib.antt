@@ -1,3 +1,4 @@
 pub mod Sharing
 pub mod Rounding
 pub mod Done
+pub mod Front

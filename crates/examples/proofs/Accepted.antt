@@ -5,8 +5,8 @@ use mathlib.Core.List.{List, [], ◌∷◌}
 use Prim.Native.Nat.{ℕ}
 use lib.Dec.{T}
 use Rattle.outcomes.specs.declared.Refusal.TheVariants.{Circular}
-use Rattle.outcomes.specs.declared.Outcome.{Outcome}
-use Rattle.outcomes.specs.declared.Outcome.TheVariants.{Refused}
+use Rattle.outcomes.specs.Outcome.{Outcome}
+use Rattle.std.specs.Prelude.{Err}
 use Rattle.outcomes.proofs.Decisions.{decided_once}
 use Rattle.words.proofs.Tests.{and_left, and_right, not-both, true_of, of_true}
 use Rattle.sheet.specs.RuleSheet.{RuleSheet, outputs, Reading, refused, accepted, read_sheet}
@@ -59,7 +59,7 @@ module _ (bs : List ℕ) (x : RuleSheet) (e : read_sheet bs ≡ accepted x) wher
       let n : CircularSheet x → ⊥ = λ c. not-both (circular_test x) (of_true (circular_test x) (circular?_of (outputs x) (edges x) c)) t in
       record { decided = level bs x e n; read = e }
 
-  pub refused-circular : T (circular_test x) → SheetOutcome bs (Refused Circular)
+  pub refused-circular : T (circular_test x) → SheetOutcome bs (Err Circular)
   refused-circular t = round bs x e (circular?_true (outputs x) (edges x) (true_of (circular_test x) t))
 
 -- ---- one outcome

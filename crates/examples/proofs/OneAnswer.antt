@@ -7,7 +7,8 @@ use native.Mathlib.Omega.{arith}
 use lib.ListN.{length}
 use lib.Pow.{pow_pos}
 use Rattle.outcomes.specs.Numbers.{refusal_no}
-use Rattle.outcomes.specs.declared.Outcome.TheVariants.{Accepted, Refused}
+use Rattle.std.specs.Prelude.{Err}
+use Rattle.outcomes.specs.Outcome.{unbroken}
 use Rattle.outcomes.proofs.NumberLaws.{not-both}
 use Rattle.sheet.specs.RuleSheet.{RuleSheet, outputs}
 use Rattle.lola.specs.Equations.{joined}
@@ -53,11 +54,11 @@ one_answer bs = (
   λ vs ws (x, a, h) (y, b, g).
       let each : Each (outputs x) (ClosingVerdict x (unheard ∷ [])) ws = subst (λ (z : RuleSheet). Each (outputs z) (ClosingVerdict z (unheard ∷ [])) ws) (one-sheet bs x y a b) g in
       each-unique (outputs x) (ClosingVerdict x (unheard ∷ [])) (λ k v w. (one-verdict-fits x (unheard ∷ []) k v w).1) vs ws h each,
-  λ n k (r, d, e) (q, c, f). let same : Refused r ≡ Refused q = one-outcome bs (Refused r) (Refused q) d c in let z : r ≡ q = cc in sym e ∙ ap refusal_no z ∙ f,
+  λ n k (r, d, e) (q, c, f). let same : Err r ≡ Err q = one-outcome bs (Err r) (Err q) d c in let z : r ≡ q = cc in sym e ∙ ap refusal_no z ∙ f,
   λ n k (x, a, L, h, e) (y, b, M, g, f).
       sym e ∙ same_count x L M h (subst (λ (z : RuleSheet). Represents 256 M (Live z)) (one-sheet bs x y a b) g) ∙ f,
   λ ls os ps (x, a, h) (y, b, g).
       let t : EvaluatesTo x ls ps = subst (λ (z : RuleSheet). EvaluatesTo z ls ps) (one-sheet bs x y a b) g in
       same_bytes x.inputs ls os ps h.size t.size (t.only (joined x.inputs ls os) h.trace),
-  λ n x (r, d, e) a. not-both (one-outcome bs (Refused r) Accepted d a.decided),
+  λ n x (r, d, e) a. not-both (one-outcome bs (Err r) unbroken d a.decided),
 )

@@ -1,13 +1,12 @@
 -- The marked examples a to l (01, "Marked examples of the language"): sheet bytes in, answers out.
 -- Manual: "Worked examples".
-use Rattle.std.specs.Prelude.{◌≡◌, List, [], ◌∷◌, ℕ, ◌^◌, ◌<◌, length, get_or}
+use Rattle.std.specs.Prelude.{◌≡◌, List, [], ◌∷◌, ℕ, ◌^◌, ◌<◌, length, get_or, Err}
 use Rattle.std.proofs.Math.Option.{some}
 use Rattle.std.proofs.Math.ListN.{get_elem?}
 use Rattle.outcomes.specs.Numbers.{refusal_no}
 use Rattle.outcomes.specs.Decided.{Decided}
 use Rattle.outcomes.specs.declared.Refusal.{Refusal}
-use Rattle.outcomes.specs.declared.Outcome.{Outcome}
-use Rattle.outcomes.specs.declared.Outcome.TheVariants.{Accepted, Refused}
+use Rattle.outcomes.specs.Outcome.{Outcome, unbroken}
 use Rattle.outcomes.specs.declared.Verdict.{Verdict}
 use Rattle.outcomes.specs.declared.Verdict.TheVariants.{False, True, Open, Broken}
 use Rattle.sheet.specs.RuleSheet.{RuleSheet, outputs, accepted, read_sheet}
@@ -42,7 +41,7 @@ SheetOutcome bs o = Decided (sheet_checks bs) o
 
 -- the bytes break none of them, and are the sheet x
 pub record AcceptedAs (bs : List ℕ) (x : RuleSheet) : Type 0 where
-  pub decided : SheetOutcome bs Accepted
+  pub decided : SheetOutcome bs unbroken
   pub read : read_sheet bs ≡ accepted x
 
 -- the letters ls evaluate to the bytes os (01, "Whole traces"): one byte for each letter, bit k of a byte being output k and no other bit set;
@@ -57,7 +56,7 @@ pub record EvaluatesTo (x : RuleSheet) (ls os : List ℕ) : Type 0 where
 abbrev pub Holds : Case → Type 0
 Holds (judged bs vs) = (x : RuleSheet) × AcceptedAs bs x × Each (outputs x) (RoundVerdict x (unheard ∷ [])) vs
 Holds (closing bs vs) = (x : RuleSheet) × AcceptedAs bs x × Each (outputs x) (ClosingVerdict x (unheard ∷ [])) vs
-Holds (turned_down bs n) = (r : Refusal) × SheetOutcome bs (Refused r) × (refusal_no r ≡ n)
+Holds (turned_down bs n) = (r : Refusal) × SheetOutcome bs (Err r) × (refusal_no r ≡ n)
 Holds (lives bs n) = (x : RuleSheet) × AcceptedAs bs x × (L : Pairs) × Represents 256 L (Live x) × (count_pairs 256 L ≡ n)
 Holds (values bs ls os) = (x : RuleSheet) × AcceptedAs bs x × EvaluatesTo x ls os
 

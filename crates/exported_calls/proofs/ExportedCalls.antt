@@ -10,8 +10,8 @@ use lib.ListN.{length, take, drop, length-replicate}
 use lib.Seq.{paste}
 use borrow.Author.Tests.{lt-leb}
 use Rattle.outcomes.specs.Numbers.{outcome_no, verdict_no}
-use Rattle.outcomes.specs.declared.Outcome.{Outcome}
-use Rattle.outcomes.specs.declared.Outcome.TheVariants.{Accepted, Refused}
+use Rattle.outcomes.specs.Outcome.{Outcome, unbroken}
+use Rattle.std.specs.Prelude.{Ok, Err}
 use Rattle.sheet.specs.RuleSheet.{RuleSheet, outputs, accepted, read_sheet}
 use Rattle.sheet.specs.ReadingChecks.{outputs_of}
 use Rattle.sheet.proofs.Formed.{counts_of}
@@ -105,11 +105,11 @@ module _ (bs : List ℕ) (h k : HeldSlices) (y : Reply) (w : Stands h.numbers) (
     RoundWritten o = SlicesAfter (numbers_of a.record) (paste y.before 0 (verdict_numbers a.verdicts n) n) (slices_of h y k) o
 
     round-holds : (o : Outcome) → Rounded o → RoundWritten o → Holds k.numbers a.record
-    round-holds Accepted (x, e, d) p = holds k.numbers a.record p.0 d.counts.size
-    round-holds (Refused r) d p = still_holds h.numbers k.numbers a.record p.0 d.1 w
+    round-holds (Ok _) (x, e, d) p = holds k.numbers a.record p.0 d.counts.size
+    round-holds (Err r) d p = still_holds h.numbers k.numbers a.record p.0 d.1 w
 
     round-shows : (o : Outcome) → Rounded o → y.number ≡ outcome_no o → RoundWritten o → Shows n (round_says n a o) y
-    round-shows Accepted (x, e, d) r p =
+    round-shows (Ok _) (x, e, d) r p =
         let few : n ≤ 7 = few-outputs bs (λ (u : RuleSheet). read_sheet bs ≡ accepted u) (x, e, e) in
         let seven : n ≤ length a.verdicts = omega (arith, d.verdicts.size) in
         let many : n ≤ length (verdict_numbers a.verdicts n) = omega (arith, numbers-size a.verdicts n seven) in (
@@ -117,7 +117,7 @@ module _ (bs : List ℕ) (h k : HeldSlices) (y : Reply) (w : Stands h.numbers) (
           ap (take n) p.1 ∙ front-first n y.before (verdict_numbers a.verdicts n) (omega arith) many ∙ numbers-all a.verdicts n seven,
           ap (drop n) p.1 ∙ front_rest n y.before (verdict_numbers a.verdicts n) (omega arith) many,
         )
-    round-shows (Refused q) d r p = (r, omega (arith, (refusal_range q).0), p.1)
+    round-shows (Err q) d r p = (r, omega (arith, (refusal_range q).0), p.1)
 
   -- a closing
   module _ (a : ClosingAnswer) where
@@ -128,12 +128,12 @@ module _ (bs : List ℕ) (h k : HeldSlices) (y : Reply) (w : Stands h.numbers) (
     ClosingWritten o = SlicesAfter (numbers_of a.record) (paste (paste y.before 0 (verdict_numbers a.verdicts n) n) n a.shares n) (slices_of h y k) o
 
     closing-holds : (o : Outcome) → ClosedBy o → ClosingWritten o → Holds k.numbers a.record
-    closing-holds Accepted (x, e, d) p =
+    closing-holds (Ok _) (x, e, d) p =
         holds k.numbers a.record p.0 (ap length d.counts ∙ ap (λ (l : List ℕ). length (drop 2 l)) w.same ∙ w.counts)
-    closing-holds (Refused r) d p = still_holds h.numbers k.numbers a.record p.0 d.0 w
+    closing-holds (Err r) d p = still_holds h.numbers k.numbers a.record p.0 d.0 w
 
     closing-shows : (o : Outcome) → ClosedBy o → y.number ≡ outcome_no o → ClosingWritten o → Shows n (closing_says n a o) y
-    closing-shows Accepted (x, e, d) r p =
+    closing-shows (Ok _) (x, e, d) r p =
         let few : n ≤ 7 = few-outputs bs (λ (u : RuleSheet). read_sheet bs ≡ accepted u) (x, e, e) in
         let room : n + n ≤ length y.before = omega arith in
         let seven : n ≤ length a.verdicts = omega (arith, d.verdicts.size) in
@@ -144,7 +144,7 @@ module _ (bs : List ℕ) (h k : HeldSlices) (y : Reply) (w : Stands h.numbers) (
           ap (λ (l : List ℕ). take n (drop n l)) p.1 ∙ both-second n y.before (verdict_numbers a.verdicts n) room many a.shares enough,
           ap (drop (n + n)) p.1 ∙ both_rest n y.before (verdict_numbers a.verdicts n) room many a.shares enough,
         )
-    closing-shows (Refused q) d r p = (r, omega (arith, (refusal_range q).0), p.1)
+    closing-shows (Err q) d r p = (r, omega (arith, (refusal_range q).0), p.1)
 
   one-call : (c : Call) → ExportedStep bs h c y k → Answered bs h c y k
   one-call (round letters) d =
@@ -217,14 +217,14 @@ returned_zero D s t z false d = absurd (omega (arith, d.0))
 record Started (bs s t : List ℕ) (z : Slices) : Type 0 where
   answer : PrepareAnswer
   call : PrepareCall bs s t answer
-  ok : answer.outcome ≡ Accepted
+  ok : answer.outcome ≡ unbroken
   holding : Holds z.rec' answer.record
 
 started : (bs s t : List ℕ) (z : Slices) → PreparedAs bs s t z 0 → Started bs s t z
 started bs s t z d =
     let v : PreparationNumbered bs s t z 0 = returned_zero (PreparationNumbered bs s t z 0) s t z (sized z.rec z.ans) d in
     let p : PrepareAnswer = v.answer in
-    let ok : p.outcome ≡ Accepted = zero-accepted p.outcome v.number in
+    let ok : p.outcome ≡ unbroken = zero-accepted p.outcome v.number in
     let prepared : OfSheet bs (λ x. Prepared x s t p) = subst (Prepares bs s t p) ok v.result.result in
     let new : z.rec' ≡ numbers_of p.record = (subst (SlicesAfter (numbers_of p.record) _ z) ok v.written).0 in
     record {
@@ -264,12 +264,12 @@ exported_calls bs s t z d cs ys k run =
 -- ---- a question about a set of outputs
 
 module _ (bs : List ℕ) (x : RuleSheet) (b : Book) (k : HeldSlices) (w : Stands k.numbers) (set : ℕ) (y : Reply) (large : 16 ≤ length y.before) where
-  reply : (a : TogetherAnswer) (o : Outcome) → (o ≡ Accepted → TogetherVerdict x b.rounds (named set) a.verdict)
+  reply : (a : TogetherAnswer) (o : Outcome) → (o ≡ unbroken → TogetherVerdict x b.rounds (named set) a.verdict)
       → SlicesAfter k.numbers (paste y.before 0 (verdict_no a.verdict ∷ []) 1) (slices_of k y k) o → TogetherReply x b set y o
-  reply a Accepted v p =
+  reply a (Ok _) v p =
       let vs : List ℕ = verdict_no a.verdict ∷ [] in
       (a.verdict, v refl, ap (take 1) p.1 ∙ front-first 1 y.before vs (omega arith) (omega arith), ap (drop 1) p.1 ∙ front_rest 1 y.before vs (omega arith) (omega arith))
-  reply a (Refused e) v p = p.1
+  reply a (Err e) v p = p.1
 
   shows-together : ((a : TogetherAnswer) → TogetherCall bs k.storage (record_of k.numbers) set a → TogetherRight x b set a) → AskedTogether bs k set y → TogetherShown x b set y
   shows-together f d =

@@ -8,8 +8,8 @@ use lib.ListN.{length}
 use Rattle.outcomes.specs.Numbers.{outcome_no}
 use Rattle.outcomes.specs.Decided.{Check, Decided}
 use Rattle.outcomes.specs.declared.Refusal.{Refusal}
-use Rattle.outcomes.specs.declared.Outcome.{Outcome}
-use Rattle.outcomes.specs.declared.Outcome.TheVariants.{Accepted, Refused}
+use Rattle.outcomes.specs.Outcome.{Outcome}
+use Rattle.std.specs.Prelude.{Ok, Err}
 use Rattle.outcomes.proofs.Decisions.{decided_once}
 use Rattle.circular.specs.SheetChecks.{sheet_checks}
 use Rattle.trace.specs.EvaluationChecks.{evaluation_checks}
@@ -49,17 +49,17 @@ one_mark_refused bs s t u y z r q d e = one_number (mark_checks bs (length s)) d
 
 -- a number above 0 is a refusal's, which leaves the slices and what was lent
 buffer_left : (bs ls old new : List ℕ) (o : Outcome) (r : ℕ) → r ≡ outcome_no o → 0 < r → Evaluated bs ls old new o → new ≡ old
-buffer_left bs ls old new Accepted r n h d = absurd (omega arith)
-buffer_left bs ls old new (Refused e) r n h d = d
+buffer_left bs ls old new (Ok _) r n h d = absurd (omega arith)
+buffer_left bs ls old new (Err e) r n h d = d
 
 set-left : (m known val old new : ℕ) (o : Outcome) (r : ℕ) → r ≡ outcome_no o → 0 < r → LettersAfter m known val old new o → new ≡ old
-set-left m known val old new Accepted r n h d = absurd (omega arith)
-set-left m known val old new (Refused e) r n h d = d
+set-left m known val old new (Ok _) r n h d = absurd (omega arith)
+set-left m known val old new (Err e) r n h d = d
 
 -- whatever an accepted call would have written
-slices-left : (s t : List ℕ) (z : Slices) (r : ℕ) → 0 < r → (new answer : List ℕ) (o : Outcome) → r ≡ outcome_no o → ((e : Refusal) → o ≡ Refused e → t ≡ s) → SlicesAfter new answer z o → Untouched s t z
-slices-left s t z r h new answer Accepted k f w = absurd (omega arith)
-slices-left s t z r h new answer (Refused e) k f w = (f e refl, w.0, w.1)
+slices-left : (s t : List ℕ) (z : Slices) (r : ℕ) → 0 < r → (new answer : List ℕ) (o : Outcome) → r ≡ outcome_no o → ((e : Refusal) → o ≡ Err e → t ≡ s) → SlicesAfter new answer z o → Untouched s t z
+slices-left s t z r h new answer (Ok _) k f w = absurd (omega arith)
+slices-left s t z r h new answer (Err e) k f w = (f e refl, w.0, w.1)
 
 module _ (bs s t : List ℕ) (z : Slices) (r : ℕ) (h : 0 < r) where
   preparation-left : PreparationNumbered bs s t z r → Untouched s t z

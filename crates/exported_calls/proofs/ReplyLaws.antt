@@ -1,4 +1,5 @@
 -- What a call leaves in its slices: verdicts, shares and the record as numbers.
+use Rattle.outcomes.specs.declared.Verdict.{Verdict}
 use mathlib.Core.Path.{◌≡◌, refl, sym, ap, ◌∙◌}
 use mathlib.Core.Bool.{Bool, true, false}
 use mathlib.Core.List.{List, ◌++◌, map, append_assoc}
@@ -9,9 +10,8 @@ use lib.Dec.{leb}
 use lib.ListN.{length, take, drop}
 use lib.Seq.{paste, length-paste, take-paste, drop-paste, take_at, drop_at, take_all, drop-drop, length-take-le}
 use Rattle.outcomes.specs.Numbers.{outcome_no, verdict_no, verdict_list}
-use Rattle.outcomes.specs.declared.Outcome.{Outcome}
-use Rattle.outcomes.specs.declared.Outcome.TheVariants.{Accepted, Refused}
-use Rattle.outcomes.specs.declared.Told.{Told}
+use Rattle.outcomes.specs.Outcome.{Outcome, unbroken}
+use Rattle.std.specs.Prelude.{Ok, Err}
 use Rattle.outcomes.proofs.NumberLaws.{refusal_range}
 use Rattle.words.specs.Below.{one}
 use Rattle.record.specs.declared.JournalRecord.{JournalRecord}
@@ -20,9 +20,9 @@ use Rattle.slices.proofs.SliceLaws.{numbers-size}
 
 -- ---- numbers of outcomes
 
-pub zero-accepted : (o : Outcome) → 0 ≡ outcome_no o → o ≡ Accepted
-zero-accepted Accepted e = refl
-zero-accepted (Refused r) e = absurd (omega (arith, (refusal_range r).0))
+pub zero-accepted : (o : Outcome) → 0 ≡ outcome_no o → o ≡ unbroken
+zero-accepted (Ok _) e = refl
+zero-accepted (Err r) e = absurd (omega (arith, (refusal_range r).0))
 
 -- ---- a record out of its own numbers
 
@@ -43,7 +43,7 @@ mark_right r = go r.closed
 
 -- ---- verdicts as numbers
 
-pub numbers-all : (vs : List Told) (n : ℕ) → n ≤ length vs → take n (verdict_numbers vs n) ≡ map verdict_no (verdict_list vs n)
+pub numbers-all : (vs : List Verdict) (n : ℕ) → n ≤ length vs → take n (verdict_numbers vs n) ≡ map verdict_no (verdict_list vs n)
 numbers-all vs n h = take_all n (verdict_numbers vs n) (omega (arith, numbers-size vs n h))
 
 -- ---- n numbers at the front, and n behind them

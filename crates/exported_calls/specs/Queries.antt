@@ -1,10 +1,9 @@
 -- A question about a set of outputs (02, W8) after a list of calls of the exported functions: what a caller in C or Rust gets back is the book's answer.
 -- Manual: "Calling it".
-use Rattle.std.specs.Prelude.{◌≡◌, List, [], ◌∷◌, ℕ, ◌≤◌, length, take, drop}
+use Rattle.std.specs.Prelude.{◌≡◌, List, [], ◌∷◌, ℕ, ◌≤◌, length, take, drop, Ok, Err}
 use Rattle.outcomes.specs.Numbers.{outcome_no, verdict_no}
 use Rattle.outcomes.specs.Decided.{Decided}
-use Rattle.outcomes.specs.declared.Outcome.{Outcome}
-use Rattle.outcomes.specs.declared.Outcome.TheVariants.{Accepted, Refused}
+use Rattle.outcomes.specs.Outcome.{Outcome}
 use Rattle.outcomes.specs.declared.Verdict.{Verdict}
 use Rattle.sheet.specs.RuleSheet.{RuleSheet}
 use Rattle.circular.specs.SheetChecks.{OfSheet}
@@ -21,12 +20,12 @@ AskedTogether bs h set y = TogetherAs bs h.storage set (slices_of h y h) y.numbe
 
 -- by the outcome: the number of the verdict over the completions of the book's rounds, and what stands behind it is as it was; or all of the answer is
 abbrev pub TogetherReply : RuleSheet → Book → ℕ → Reply → Outcome → Type 0
-TogetherReply x b set y Accepted =
+TogetherReply x b set y (Ok _) =
     (v : Verdict)
     × TogetherVerdict x b.rounds (named set) v
     × (take 1 y.after ≡ verdict_no v ∷ [])
     × (drop 1 y.after ≡ drop 1 y.before)
-TogetherReply x b set y (Refused e) = y.after ≡ y.before
+TogetherReply x b set y (Err e) = y.after ≡ y.before
 
 -- the book's answer as the caller sees it: 0 for accepted, or the refusal's number
 pub record TogetherShown (x : RuleSheet) (b : Book) (set : ℕ) (y : Reply) : Type 0 where

@@ -13,8 +13,8 @@ use Rattle.outcomes.specs.Numbers.{refusal_no, outcome_no, verdict_no}
 use Rattle.outcomes.specs.Decided.{Check, check, Decided}
 use Rattle.outcomes.specs.declared.Refusal.{Refusal}
 use Rattle.outcomes.specs.declared.Refusal.TheVariants.{Record}
-use Rattle.outcomes.specs.declared.Outcome.{Outcome}
-use Rattle.outcomes.specs.declared.Outcome.TheVariants.{Accepted, Refused}
+use Rattle.outcomes.specs.Outcome.{Outcome, unbroken}
+use Rattle.std.specs.Prelude.{Ok, Err}
 use Rattle.outcomes.proofs.Decisions.{all-passed, decided_behind, passed-both}
 use Rattle.sheet.specs.RuleSheet.{RuleSheet}
 use Rattle.sheet.specs.ReadingChecks.{outputs_of, reading_checks}
@@ -22,8 +22,7 @@ use Rattle.sheet.proofs.Formed.{counts_of, read_formed}
 use Rattle.circular.specs.SheetChecks.{OfSheet, sheet_checks}
 use Rattle.record.specs.Record.{record_ok}
 use Rattle.record.specs.declared.JournalRecord.{JournalRecord}
-use Rattle.letters.specs.Sets.{mask_checks, Makes, MasksCall}
-use Rattle.letters.specs.declared.LettersMade.{LettersMade}
+use Rattle.letters.specs.Sets.{MasksCall}
 use Rattle.checks.specs.JournalChecks.{too_short}
 use Rattle.slices.specs.Slices.{record_of, marked, numbers_of, verdict_numbers, sized}
 use Rattle.slices.specs.Loaded.{loaded}
@@ -38,17 +37,12 @@ use Rattle.jigwaret.specs.Journal.{Slices, slices, SlicesAfter, mark_checks, Mar
 
 -- ---- a set from masks
 
-module _ (m known val old : ℕ) (a : LettersMade) (d : MasksCall m known val a) where
-  pub set-kept : (e : Refusal) (r : ℕ) → a.outcome ≡ Refused e → r ≡ refusal_no e → LettersAs m known val old old r
-  set-kept e r o n = record { outcome = Refused e; decided = subst (Decided (mask_checks m known val)) o d.decided; number = n; written = refl }
+module _ (m known val old : ℕ) where
+  pub set-kept : (e : Refusal) (r : ℕ) → MasksCall m known val (Err e) → r ≡ refusal_no e → LettersAs m known val old old r
+  set-kept e r d n = record { outcome = Err e; decided = d.decided; number = n; written = refl }
 
-  pub set-written : a.outcome ≡ Accepted → LettersAs m known val old a.letters 0
-  set-written o = record {
-    outcome = Accepted;
-    decided = subst (Decided (mask_checks m known val)) o d.decided;
-    number = refl;
-    written = subst (Makes m known val a.letters) o d.result;
-  }
+  pub set-written : (w : ℕ) → MasksCall m known val (Ok w) → LettersAs m known val old w 0
+  set-written w d = record { outcome = unbroken; decided = d.decided; number = refl; written = d.result }
 
 -- ---- sizes
 
@@ -60,13 +54,13 @@ sizes-right Done s t z r w d = subst (λ (b : Bool). BySizes b Done s t z r) (sy
 
 -- ---- by the outcome
 
-pub written : (new answer : List ℕ) (z : Slices) (o : Outcome) → o ≡ Accepted → z.rec' ≡ new → z.ans' ≡ answer → SlicesAfter new answer z o
+pub written : (new answer : List ℕ) (z : Slices) (o : Outcome) → o ≡ unbroken → z.rec' ≡ new → z.ans' ≡ answer → SlicesAfter new answer z o
 written new answer z o e p q = subst (SlicesAfter new answer z) (sym e) (p, q)
 
-pub not_written : (new answer : List ℕ) (z : Slices) (o : Outcome) (r : Refusal) → o ≡ Refused r → z.rec' ≡ z.rec → z.ans' ≡ z.ans → SlicesAfter new answer z o
+pub not_written : (new answer : List ℕ) (z : Slices) (o : Outcome) (r : Refusal) → o ≡ Err r → z.rec' ≡ z.rec → z.ans' ≡ z.ans → SlicesAfter new answer z o
 not_written new answer z o r e p q = subst (SlicesAfter new answer z) (sym e) (p, q)
 
-pub number_of : (o : Outcome) (r : Refusal) (n : ℕ) → o ≡ Refused r → n ≡ refusal_no r → n ≡ outcome_no o
+pub number_of : (o : Outcome) (r : Refusal) (n : ℕ) → o ≡ Err r → n ≡ refusal_no r → n ≡ outcome_no o
 number_of o r n e f = f ∙ sym (ap outcome_no e)
 
 -- ---- verdicts at the front of an answer, and shares behind them
@@ -82,7 +76,7 @@ put_behind n old front new vs xs e f = rw (sym e) f
 module _ (bs s t : List ℕ) (z : Slices) (r : ℕ) where
   -- a record that is refused whatever else is handed over
   mark-refused : (P : Type 0) (rest : List Check) (o : Outcome) (new answer : List ℕ) → Decided (sheet_checks bs ++ (too_short (length s) ∷ (check Record P ∷ rest))) o → P → r ≡ outcome_no o
-      → ((e : Refusal) → o ≡ Refused e → t ≡ s) → SlicesAfter new answer z o → MarkRefused bs s t z r
+      → ((e : Refusal) → o ≡ Err e → t ≡ s) → SlicesAfter new answer z o → MarkRefused bs s t z r
   mark-refused P rest o new answer d p n f w =
       let e : Decided (mark_checks bs (length s)) o = decided_behind (sheet_checks bs) (too_short (length s) ∷ (check Record P ∷ rest)) (too_short (length s) ∷ (check Record (Unit {0}) ∷ [])) o stop d in
       record { outcome = o; decided = e; number = n; kept = kept o e f w }
@@ -92,14 +86,14 @@ module _ (bs s t : List ℕ) (z : Slices) (r : ℕ) where
       stop (inr (h, inl g)) = inr (h, inl (tt, g.1))
       stop (inr (h, inr g)) = absurd (g.0 p)
 
-      kept : (o : Outcome) → Decided (mark_checks bs (length s)) o → ((e : Refusal) → o ≡ Refused e → t ≡ s) → SlicesAfter new answer z o → (t ≡ s) × (z.rec' ≡ z.rec) × (z.ans' ≡ z.ans)
-      kept Accepted e f w = absurd ((all-passed (too_short (length s) ∷ (check Record (Unit {0}) ∷ [])) (passed-both (sheet_checks bs) _ e).1).1.0 tt)
-      kept (Refused q) e f w = (f q refl, w.0, w.1)
+      kept : (o : Outcome) → Decided (mark_checks bs (length s)) o → ((e : Refusal) → o ≡ Err e → t ≡ s) → SlicesAfter new answer z o → (t ≡ s) × (z.rec' ≡ z.rec) × (z.ans' ≡ z.ans)
+      kept (Ok _) e f w = absurd ((all-passed (too_short (length s) ∷ (check Record (Unit {0}) ∷ [])) (passed-both (sheet_checks bs) _ e).1).1.0 tt)
+      kept (Err q) e f w = (f q refl, w.0, w.1)
 
   -- by the mark: the record is what the numbers hold, or refused
   by-mark : (Done : Type 0) (rest : List Check) (o : Outcome) (new answer : List ℕ) → (loaded z.rec ≡ record_of z.rec → Done)
       → Decided (sheet_checks bs ++ (too_short (length s) ∷ (check Record (record_ok (outputs_of bs) (loaded z.rec) ≡ false) ∷ rest))) o → r ≡ outcome_no o
-      → ((e : Refusal) → o ≡ Refused e → t ≡ s) → SlicesAfter new answer z o → ByMark (marked z.rec) Done (MarkRefused bs s t z r)
+      → ((e : Refusal) → o ≡ Err e → t ≡ s) → SlicesAfter new answer z o → ByMark (marked z.rec) Done (MarkRefused bs s t z r)
   by-mark Done rest o new answer f d n k w = go (marked z.rec) refl
     where
       go : (b : Bool) → marked z.rec ≡ b → ByMark b Done (MarkRefused bs s t z r)
@@ -131,7 +125,7 @@ module _ (bs s : List ℕ) (z : Slices) (r : ℕ) where
 
 -- ---- an accepted sheet has a byte 6, and it is at most 7
 
-pub sheet-long : (bs : List ℕ) (cs : List Check) → Decided (sheet_checks bs ++ cs) Accepted → 8 ≤ length bs
+pub sheet-long : (bs : List ℕ) (cs : List Check) → Decided (sheet_checks bs ++ cs) unbroken → 8 ≤ length bs
 unfolding reading_checks
 sheet-long bs cs d = go (dec_lt (length bs) 8)
   where

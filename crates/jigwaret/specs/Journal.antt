@@ -1,13 +1,12 @@
 -- What the exported functions of preparation, rounds, closing and questions give and leave: what `prepare`, `round`, `close` and `together` do with the record
 -- that the slice holds, its number, and for an accepted call the new record and the answer in their slices (01, "What is turned down"; 02, W4, W8 and W13).
 -- Manual: "Calling it".
-use Rattle.std.specs.Prelude.{◌≡◌, Bool, true, false, List, ◌∷◌, [], ◌++◌, ℕ, length}
+use Rattle.std.specs.Prelude.{◌≡◌, Bool, true, false, List, ◌∷◌, [], ◌++◌, ℕ, length, Ok, Err}
 use Rattle.std.proofs.Math.Seq.{paste}
 use Rattle.outcomes.specs.Numbers.{outcome_no, verdict_no}
 use Rattle.outcomes.specs.Decided.{Check, check, Decided}
 use Rattle.outcomes.specs.declared.Refusal.TheVariants.{Record}
-use Rattle.outcomes.specs.declared.Outcome.{Outcome}
-use Rattle.outcomes.specs.declared.Outcome.TheVariants.{Accepted, Refused}
+use Rattle.outcomes.specs.Outcome.{Outcome}
 use Rattle.sheet.specs.ReadingChecks.{outputs_of}
 use Rattle.circular.specs.SheetChecks.{sheet_checks}
 use Rattle.checks.specs.JournalChecks.{too_short}
@@ -28,8 +27,8 @@ pub record Slices : Type 0 where
 
 -- by the outcome: the record and the answer are written, or both are as they were
 abbrev pub SlicesAfter : List ℕ → List ℕ → Slices → Outcome → Type 0
-SlicesAfter new answer z Accepted = (z.rec' ≡ new) × (z.ans' ≡ answer)
-SlicesAfter new answer z (Refused e) = (z.rec' ≡ z.rec) × (z.ans' ≡ z.ans)
+SlicesAfter new answer z (Ok _) = (z.rec' ≡ new) × (z.ans' ≡ answer)
+SlicesAfter new answer z (Err e) = (z.rec' ≡ z.rec) × (z.ans' ≡ z.ans)
 
 -- 18 for a record whose mark for closed is neither 0 nor 1, behind the sheet's rules and 15
 abbrev pub mark_checks : List ℕ → ℕ → List Check

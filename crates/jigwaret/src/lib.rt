@@ -4,8 +4,6 @@
 ghost use Rattle.jigwaret.specs.Numbered.{Checked, EvaluatedAs, LettersAs};
 ghost use Rattle.jigwaret.specs.Journal.{slices as in_slices, PreparedAs, RoundAs, ClosedAs, TogetherAs};
 
-use outcomes::Outcome;
-
 // Rules 1 to 10.
 pub fn jigwaret_check(sheet: &[u8]) -> u32
     ensures { Checked sheet.now result }
@@ -17,21 +15,19 @@ pub fn jigwaret_check(sheet: &[u8]) -> u32
 pub fn jigwaret_evaluate(sheet: &[u8], letters: &[u8], out: &mut [u8]) -> u32
     ensures { EvaluatedAs sheet.now letters.now out.old out.new result }
 {
-    outcomes::outcome_number(trace::evaluate(sheet, letters, &mut out[..]))
+    outcomes::outcome_number(trace::evaluate(sheet, letters, out))
 }
 
 // Writes the set of the letters that agree with the masks, with this number of inputs: bit l of it is letter l.
 pub fn jigwaret_letters(inputs: u8, known: u8, value: u8, letters: &mut u64) -> u32
     ensures { LettersAs inputs known value letters.old letters.new result }
 {
-    let made = letters::from_masks(inputs, known, value);
-    let outcome = made.outcome;
-    match outcome {
-        Outcome::Refused(e) => outcomes::refusal_number(e),
-        Outcome::Accepted => {
-            *letters = made.letters;
+    match letters::from_masks(inputs, known, value) {
+        Ok(set) => {
+            *letters = set;
             0
         }
+        Err(e) => u32::from(e),
     }
 }
 
@@ -50,15 +46,14 @@ pub fn jigwaret_prepare(
         return 255;
     }
     let a = monitor::prepare(sheet, storage);
-    let outcome = a.outcome;
-    match outcome {
-        Outcome::Refused(e) => outcomes::refusal_number(e),
-        Outcome::Accepted => {
+    match a.outcome {
+        Ok(()) => {
             slices::store(record, a.record);
             answer[0] = a.live;
             answer[1] = a.reach;
             0
         }
+        Err(e) => u32::from(e),
     }
 }
 
@@ -77,15 +72,13 @@ pub fn jigwaret_round(
     }
     let before = slices::load(record);
     let a = monitor::round(sheet, storage, before, letters);
-    let outcome = a.outcome;
-    match outcome {
-        Outcome::Refused(e) => outcomes::refusal_number(e),
-        Outcome::Accepted => {
+    match a.outcome {
+        Ok(()) => {
             slices::store(record, a.record);
-            let verdicts = a.verdicts;
-            slices::put_verdicts(answer, 0, verdicts, sheet[6] as usize);
+            slices::put_verdicts(answer, 0, a.verdicts, sheet[6] as usize);
             0
         }
+        Err(e) => u32::from(e),
     }
 }
 
@@ -98,18 +91,15 @@ pub fn jigwaret_close(sheet: &[u8], storage: &[u64], record: &mut [u32], answer:
     }
     let before = slices::load(record);
     let a = monitor::close(sheet, storage, before);
-    let outcome = a.outcome;
-    match outcome {
-        Outcome::Refused(e) => outcomes::refusal_number(e),
-        Outcome::Accepted => {
+    match a.outcome {
+        Ok(()) => {
             slices::store(record, a.record);
             let n = sheet[6] as usize;
-            let verdicts = a.verdicts;
-            slices::put_verdicts(answer, 0, verdicts, n);
-            let shares = a.shares;
-            slices::put_numbers(answer, n, &shares, n);
+            slices::put_verdicts(answer, 0, a.verdicts, n);
+            slices::put_numbers(answer, n, &a.shares, n);
             0
         }
+        Err(e) => u32::from(e),
     }
 }
 
@@ -128,13 +118,11 @@ pub fn jigwaret_together(
     }
     let before = slices::load(record);
     let a = queries::together(sheet, storage, before, outputs);
-    let outcome = a.outcome;
-    match outcome {
-        Outcome::Refused(e) => outcomes::refusal_number(e),
-        Outcome::Accepted => {
-            let verdict = a.verdict;
-            answer[0] = outcomes::verdict_number(verdict);
+    match a.outcome {
+        Ok(()) => {
+            answer[0] = u32::from(a.verdict);
             0
         }
+        Err(e) => u32::from(e),
     }
 }

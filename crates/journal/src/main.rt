@@ -1,16 +1,15 @@
 // The journal program: makes the calls of the system that are due, and hands what they gave to the crate `dialogue`.
 #![tactic(auto)]
 
-ghost use Rattle.std.specs.Prelude.{◌+◌, ◌*◌, ◌≤◌, ◌≡◌, true, length};
-ghost use Rattle.letter_table.specs.Entry.{Sets};
-ghost use Rattle.line_scan.specs.Scan.{InTable};
+ghost use Rattle.std.specs.Prelude.{◌+◌, ◌*◌, ◌≤◌, ◌≡◌, Some, length};
 ghost use Rattle.dialogue.specs.History.{Served};
-ghost use Rattle.dialogue.specs.Talks.{Wants, Within};
-ghost use Rattle.journal.specs.Turns.{MovesAtMost, Answers, Wrote, Read, goes_on, Goes, Serves, Added, Gave};
+ghost use Rattle.dialogue.specs.Talks.{Within};
+ghost use Rattle.journal.specs.Turns.{MovesAtMost, Answers, Wrote, Read, goes_on, end_of, Goes, Serves, Added, Gave};
 
 use dialogue::{Dialogue, End, Reply};
+use letter_table::LetterTable;
+use protocol::Started;
 use record::JournalRecord;
-use sheet::Sheet;
 use std::fs::File;
 use std::io;
 use std::io::{ErrorKind, Read, Write};
@@ -29,13 +28,12 @@ struct Called {
     dialogue: Dialogue,
 }
 
-// What the system said to the call of a turn, where the talk stands after it, and whether it goes on; if not, how it ends.
+// What the system said to the call of a turn, where the talk stands after it, and how it ends, unless it goes on.
 #[derive(Clone, Copy)]
 struct Turned {
     reply: Reply,
     dialogue: Dialogue,
-    going: bool,
-    end: End,
+    end: Option<End>,
 }
 
 // How a run ended, how many calls went before its end, and where the talk then stood.
@@ -46,19 +44,18 @@ struct Ended {
     dialogue: Dialogue,
 }
 
-// How many bytes the sheet's file gave, or why none.
+// Why the sheet's file gave no bytes.
 #[derive(Clone, Copy)]
-enum Loaded {
-    Bytes(usize),
+enum LoadError {
     Missing,
     Unopened,
     Unread,
 }
 
-// What came of the sheet's file, what the system said last, and how many reads there were.
+// How many bytes the sheet's file gave, what the system said last, and how many reads there were.
 #[derive(Clone, Copy)]
 struct Reading {
-    loaded: Loaded,
+    loaded: Result<usize, LoadError>,
     reply: Reply,
     calls: u64,
 }
@@ -98,11 +95,9 @@ impl System {
 fn write(system: &mut System, d: Dialogue, out: &[u8]) -> Called
     requires { Within d out.now }
     ensures wrote { Wrote d out.now result.reply result.dialogue }
-    ensures within { Within result.dialogue out.now × (result.dialogue.more ≡ d.more) × (result.dialogue.state ≡ d.state) }
+    ensures within { Within result.dialogue out.now }
 {
-    let from = d.from;
-    let to = d.to;
-    let reply = system.write(&out[from..to]);
+    let reply = system.write(&out[d.from..d.to]);
     match reply {
         Reply::Moved(n) => {
             if n == 0 {
@@ -124,21 +119,21 @@ fn write(system: &mut System, d: Dialogue, out: &[u8]) -> Called
 // Reads once, and has what came answered in `out`.
 fn read(
     system: &mut System,
-    x: Sheet,
-    table: &[u64],
+    run: &Started,
+    table: &LetterTable,
     d: Dialogue,
     storage: &mut [u64],
     buf: &mut [u8],
     out: &mut [u8],
 ) -> Called
-    requires { Wants x d × (8 * length buf.old + 470 ≤ length out.old) × Within d out.old × (d.more ≡ true) × (d.to ≤ d.from) × Sets table.now }
-    ensures read { Read x d storage.old out.old buf.new result.reply result.dialogue storage.new out.new }
-    ensures within { Within result.dialogue out.new × InTable result.dialogue.state.pending }
+    requires { (8 * length buf.old + 470 ≤ length out.old) × Within d out.old × (d.run ≡ Some run.now) × (d.to ≤ d.from) }
+    ensures read { Read d storage.old out.old buf.new result.reply result.dialogue storage.new out.new }
+    ensures within { Within result.dialogue out.new }
 {
     let reply = system.read(buf);
     match reply {
         Reply::Moved(n) => {
-            let heard = dialogue::heard(x, table, d, storage, &buf[..n], out);
+            let heard = dialogue::heard(run, table, storage, &buf[..n], out);
             Called {
                 reply,
                 dialogue: heard,
@@ -163,77 +158,73 @@ fn wait(system: &System, reply: Reply) -> bool
     }
 }
 
+// How a run ends where a call went well, or didn't.
+fn end_of(going: bool, end: End) -> Option<End>
+    ensures { result ≡ end_of going end }
+{
+    if going { None } else { Some(end) }
+}
+
 // Makes the call that is due, if one is.
 fn turn(
     system: &mut System,
-    x: Sheet,
-    table: &[u64],
+    table: &LetterTable,
     d: Dialogue,
     storage: &mut [u64],
     buf: &mut [u8],
     out: &mut [u8],
 ) -> Turned
-    requires { Wants x d × (8 * length buf.old + 470 ≤ length out.old) × Within d out.old × Sets table.now }
-    ensures turned { Goes x d storage.old out.old buf.new result storage.new out.new result.going }
-    ensures within { Wants x result.dialogue × Within result.dialogue out.new }
+    requires { (8 * length buf.old + 470 ≤ length out.old) × Within d out.old }
+    ensures turned { Goes d storage.old out.old buf.new result storage.new out.new result.end }
+    ensures within { Within result.dialogue out.new }
 {
     if d.from < d.to {
         let called = write(system, d, out);
-        let dialogue = called.dialogue;
-        let reply = called.reply;
-        let going = wait(system, reply);
+        let going = wait(system, called.reply);
         return Turned {
-            reply,
-            dialogue,
-            going,
-            end: End::OutputFailed,
+            reply: called.reply,
+            dialogue: called.dialogue,
+            end: end_of(going, End::OutputFailed),
         };
     }
-    if d.more {
-        let called = read(system, x, table, d, storage, buf, out);
-        let dialogue = called.dialogue;
-        let reply = called.reply;
-        let going = wait(system, reply);
+    if let Some(run) = d.run {
+        let called = read(system, &run, table, d, storage, buf, out);
+        let going = wait(system, called.reply);
         return Turned {
-            reply,
-            dialogue,
-            going,
-            end: End::InputFailed,
+            reply: called.reply,
+            dialogue: called.dialogue,
+            end: end_of(going, End::InputFailed),
         };
     }
     Turned {
         reply: Reply::Moved(0),
         dialogue: d,
-        going: false,
-        end: End::Whole,
+        end: Some(End::Whole),
     }
 }
 
 // All turns. A proved loop has to end, and nothing says that the input does, so the calls are counted.
-fn run(system: &mut System, x: Sheet, start: Dialogue, storage: &mut [u64], out: &mut [u8]) -> Ended
-    requires { Wants x start × (64470 ≤ length out.old) × Within start out.old }
-    ensures { Serves x start storage.old out.old result storage.new out.new }
+fn run(system: &mut System, start: Dialogue, storage: &mut [u64], out: &mut [u8]) -> Ended
+    requires { (64470 ≤ length out.old) × Within start out.old }
+    ensures { Serves start storage.old out.old result storage.new out.new }
 {
-    let table = letter_table::sets();
+    let table = LetterTable::new();
     let mut buf = [0u8; 8000];
     let mut d = start;
-    let mut calls = 0u64;
-    while calls < u64::MAX {
-        let turned = turn(system, x, &table, d, storage, &mut buf, out);
+    for calls in 0..u64::MAX {
+        let turned = turn(system, &table, d, storage, &mut buf, out);
         d = turned.dialogue;
-        if !turned.going {
-            let end = turned.end;
+        if let Some(end) = turned.end {
             return Ended {
                 end,
                 calls,
                 dialogue: d,
             };
         }
-        calls += 1;
     }
     Ended {
         end: End::Unfinished,
-        calls,
+        calls: u64::MAX,
         dialogue: d,
     }
 }
@@ -244,10 +235,8 @@ fn serve(system: &mut System, sheet: &[u8]) -> Ended
 {
     let mut storage = [0u64; JournalRecord::STORAGE_WORDS];
     let mut out = [0u8; 65536];
-    let opened = dialogue::open(sheet, &mut storage, &mut out);
-    let x = opened.sheet;
-    let d = opened.dialogue;
-    run(system, x, d, &mut storage, &mut out)
+    let start = dialogue::open(sheet, &mut storage, &mut out);
+    run(system, start, &mut storage, &mut out)
 }
 
 // Reads once more, behind the n bytes that came before.
@@ -264,45 +253,44 @@ fn read_file(system: &mut System, file: &mut File, bytes: &mut [u8]) -> Reading
     ensures { Gave result.loaded result.reply bytes.new result.calls }
 {
     let mut n = 0;
-    let mut calls = 0u64;
-    while calls < u64::MAX && n < bytes.len() {
-        calls += 1;
+    for calls in 0..u64::MAX {
+        if n == bytes.len() {
+            return Reading {
+                loaded: Ok(n),
+                reply: Reply::NotReady,
+                calls,
+            };
+        }
         let reply = read_more(system, file, bytes, n);
         if let Reply::Moved(k) = reply {
             if k == 0 {
-                let loaded = Loaded::Bytes(n);
                 return Reading {
-                    loaded,
+                    loaded: Ok(n),
                     reply,
-                    calls,
+                    calls: calls + 1,
                 };
             }
             n += k;
             continue;
         }
         if !wait(system, reply) {
-            let loaded = Loaded::Unread;
+            let loaded = Err(LoadError::Unread);
             return Reading {
                 loaded,
                 reply,
-                calls,
+                calls: calls + 1,
             };
         }
     }
-    let reply = Reply::NotReady;
-    if n < bytes.len() {
-        let loaded = Loaded::Unread;
-        return Reading {
-            loaded,
-            reply,
-            calls,
-        };
-    }
-    let loaded = Loaded::Bytes(n);
+    let loaded = if n < bytes.len() {
+        Err(LoadError::Unread)
+    } else {
+        Ok(n)
+    };
     Reading {
         loaded,
-        reply,
-        calls,
+        reply: Reply::NotReady,
+        calls: u64::MAX,
     }
 }
 
@@ -316,15 +304,14 @@ fn load(system: &mut System, bytes: &mut [u8]) -> Reading
         Ok(mut file) => read_file(system, &mut file, bytes),
         Err(error) => {
             system.error = error;
-            let loaded = if error.kind() == ErrorKind::NotFound {
-                Loaded::Missing
+            let why = if error.kind() == ErrorKind::NotFound {
+                LoadError::Missing
             } else {
-                Loaded::Unopened
+                LoadError::Unopened
             };
-            let reply = Reply::Failed;
             Reading {
-                loaded,
-                reply,
+                loaded: Err(why),
+                reply: Reply::Failed,
                 calls: 0,
             }
         }
@@ -353,8 +340,7 @@ fn fail(system: &System, what: &str) {
 
 fn answer(system: &mut System, sheet: &[u8]) {
     let ended = serve(system, sheet);
-    let end = ended.end;
-    report(system, end);
+    report(system, ended.end);
 }
 
 // A missing sheet counts as an empty one.
@@ -365,19 +351,10 @@ fn main(rt: HostRuntime) {
     };
     let mut sheet = [0u8; 464];
     let reading = load(&mut system, &mut sheet);
-    let loaded = reading.loaded;
-    match loaded {
-        Loaded::Bytes(n) => {
-            answer(&mut system, &sheet[..n]);
-        }
-        Loaded::Missing => {
-            answer(&mut system, &[]);
-        }
-        Loaded::Unopened => {
-            fail(&system, "journal: cannot open sheet.slr");
-        }
-        Loaded::Unread => {
-            fail(&system, "journal: cannot read sheet.slr");
-        }
+    match reading.loaded {
+        Ok(n) => answer(&mut system, &sheet[..n]),
+        Err(LoadError::Missing) => answer(&mut system, &[]),
+        Err(LoadError::Unopened) => fail(&system, "journal: cannot open sheet.slr"),
+        Err(LoadError::Unread) => fail(&system, "journal: cannot read sheet.slr"),
     }
 }

@@ -14,21 +14,21 @@ use Rattle.sheet.specs.declared.Offset.{Offset}
 use Rattle.sheet.specs.declared.Offset.TheVariants.{Earlier, Now, Later}
 use Rattle.lola.specs.Value.{near, neighbours}
 use Rattle.lola.specs.Slots.{read_no}
-use Rattle.lanes.specs.Around.{read_at, lane_look, here, Beside, Before, Seen, Ahead, unless}
+use Rattle.lanes.specs.Around.{read_at, lane_look, here, Beside, Before, Seen, Ahead}
 
 -- ---- the word
 
-pub absent_beside : (f : Bool) (v : ℕ) → f ≡ true → Beside 0xff00 (unless f v)
-unfolding near unless
-absent_beside f v e = rw e record {
+pub absent_beside : Beside 0xff00 none
+unfolding near
+absent_beside = record {
   small = omega arith;
   unset = λ q h. bit-low 8 q 0 255 h (omega arith) ∙ bit-none q;
   set = λ q h. bit-above 8 q 0 255 (omega arith) ∙ bit-all 8 q h;
 }
 
-pub there-beside : (f : Bool) (v : ℕ) → f ≡ false → v < 256 → Beside (v + 256 * v) (unless f v)
-unfolding near unless
-there-beside f v e l = rw e record {
+pub there-beside : (v : ℕ) → v < 256 → Beside (v + 256 * v) (some v)
+unfolding near
+there-beside v l = record {
   small = omega arith;
   unset = λ q h. bit-low 8 q v v h l;
   set = λ q h. bit-above 8 q v v l;
@@ -76,15 +76,11 @@ module _ (env own v : ℕ) where
   shared-read k e = rw e
 
 module _ (own b v : ℕ) where
-  lowest : bit 0 own ≡ eqb (own % 2) 1
-  unfolding bit
-  lowest = ap (λ (d : ℕ). eqb d 1) (digit-zero own)
+  pub own-here : bit 0 own ≡ true → here own b v ≡ v
+  own-here e = ap (λ (u : Bool). cond u v b) e
 
-  pub own-here : own % 2 ≡ 1 → here own b v ≡ v
-  own-here e = ap (λ (u : Bool). cond u v b) (lowest ∙ eq-eqb (own % 2) 1 e)
-
-  pub shared-here : (own % 2 ≡ 1 → ⊥) → here own b v ≡ b
-  shared-here n = ap (λ (u : Bool). cond u v b) (lowest ∙ ne_eqb (own % 2) 1 n)
+  pub shared-here : bit 0 own ≡ false → here own b v ≡ b
+  shared-here e = ap (λ (u : Bool). cond u v b) e
 
 -- the sixteen reads from m on are the lane's own
 module _ (env m v k : ℕ) where

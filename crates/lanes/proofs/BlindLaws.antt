@@ -12,15 +12,16 @@ use Rattle.words.specs.Bits.{bit}
 use Rattle.words.proofs.BitLaws.{bit-and}
 use Rattle.words.proofs.Bools.{or-first, or-second}
 use Rattle.sheet.specs.Expression.{Expr, constant, negation, conjunction, disjunction, equality, read, newest, parse}
-use Rattle.sheet.specs.Reading.{tree_of, code_at}
+use Rattle.sheet.specs.Parts.{code_at}
+use Rattle.sheet.specs.Reading.{tree_of}
 use Rattle.sheet.specs.declared.Offset.TheVariants.{Earlier, Now, Later}
 use Rattle.lola.specs.Value.{value, near, neighbours}
 use Rattle.lola.specs.Reads.{has_read}
 use Rattle.lola.specs.Equations.{holds}
-use Rattle.lola.specs.ByteReads.{read_in}
+use Rattle.lola.specs.ByteReads.{read_in, ReadsOf}
 use Rattle.lola.proofs.TreeReads.{read-or}
 use Rattle.lanes.specs.Coded.{Coded, sheet_of}
-use Rattle.lanes.proofs.CodeLaws.{agreed-same, agreed-holds}
+use Rattle.lanes.proofs.CodeLaws.{agreed-same, agreed-holds, part-parses}
 
 -- ---- the outputs
 
@@ -31,13 +32,14 @@ pub record Covers (s : ℕ) (code len : List ℕ) (w k : ℕ) : Type 0 where
 pub covers_none : (s : ℕ) (code len : List ℕ) (w : ℕ) → Covers s code len w 0
 covers_none s code len w = record { has = λ j h. absurd (omega arith) }
 
-pub covers_more : (s : ℕ) (code len : List ℕ) (w k x : ℕ) → Covers s code len w k → ((q o : ℕ) → read_in x q o ≡ has_read (tree_of (parse (newest s) [] (code_at code len k))) q o)
-    → Covers s code len (bit_or w x) (k + 1)
-covers_more s code len w k x f g =
+-- x has the reads of the expression of output k
+pub covers_more : (m n : ℕ) (code len : List ℕ) (w k x : ℕ) (bytes : List ℕ) → Coded m n code len → k < n → bytes ≡ code_at code len k
+    → Covers (m + n) code len w k → ReadsOf bytes x → Covers (m + n) code len (bit_or w x) (k + 1)
+covers_more m n code len w k x bytes c l e f g =
     record {
-      has = below_more (λ j. (q : ℕ) → has_read (tree_of (parse (newest s) [] (code_at code len j))) q 0 ≡ true → read_in (bit_or w x) q 0 ≡ true) k
-          (λ j h q e. read-or w x q 0 ∙ or-first (read_in w q 0) (read_in x q 0) (f.has j h q e))
-          (λ q e. read-or w x q 0 ∙ or-second (read_in w q 0) (read_in x q 0) (g q 0 ∙ e));
+      has = below_more (λ j. (q : ℕ) → has_read (tree_of (parse (newest (m + n)) [] (code_at code len j))) q 0 ≡ true → read_in (bit_or w x) q 0 ≡ true) k
+          (λ j h q r. read-or w x q 0 ∙ or-first (read_in w q 0) (read_in x q 0) (f.has j h q r))
+          (λ q r. read-or w x q 0 ∙ or-second (read_in w q 0) (read_in x q 0) (g.reads _ _ (part-parses m n code len c k l bytes e) q 0 ∙ r));
     }
 
 pub covers_all : (s : ℕ) (code len : List ℕ) (w k n : ℕ) → n ≤ k → Covers s code len w k → Covers s code len w n

@@ -3,16 +3,17 @@ use mathlib.Core.Path.{◌≡◌, refl, sym, ap, ap₂, ◌∙◌}
 use mathlib.Core.Bool.{Bool, true, false, ◌&&◌, beq, and_assoc, and-true}
 use mathlib.Core.List.{List, [], ◌∷◌, ◌++◌}
 use mathlib.Core.Option.{Option}
-use Prim.Native.Nat.{ℕ, zero, suc, ◌+◌, ◌-◌, ◌*◌, ◌≤◌, ◌<◌}
+use Prim.Native.Nat.{ℕ, zero, suc, ◌+◌, ◌-◌, ◌≤◌, ◌<◌}
 use native.Mathlib.Nat.{add-suc}
 use native.Mathlib.Numerals.{add-one}
 use native.Mathlib.Omega.{arith}
-use lib.ListN.{length, get_or, take, drop}
+use lib.ListN.{length}
 use Rattle.words.specs.Bits.{bit}
 use Rattle.sheet.specs.Expression.{Expr, newest, parse, tree}
-use Rattle.sheet.specs.Reading.{tree_of, code_at, trees_of}
+use Rattle.sheet.specs.Parts.{code_at}
+use Rattle.sheet.specs.Reading.{tree_of, trees_of}
 use Rattle.sheet.specs.declared.Offset.{Offset}
-use Rattle.sheet.proofs.Sheets.{length-trees}
+use Rattle.sheet.proofs.Sheets.{length-trees, parses-of}
 use Rattle.lola.specs.Value.{Look, value, neighbours}
 use Rattle.lola.specs.Equations.{equations, holds}
 use Rattle.lola.proofs.ValueLaws.{value-of-bytes}
@@ -93,16 +94,10 @@ module _ (m n : ℕ) (code len : List ℕ) (c : Coded m n code len) where
       → (ks : List ℕ) → agreed look (trees_of (m + n) code len n) m v ≡ holds (sheet_of m n code len ks) p v x
   look-holds look p v x f ks =
       agreed-same look (neighbours p v x) (m + n) code len m v n
-      (λ j l. value-of-bytes look (neighbours p v x) f (newest (m + n)) (code_at code len j) _ (c.parts j l).parses)
+      (λ j l. value-of-bytes look (neighbours p v x) f (newest (m + n)) (code_at code len j) _ (parses-of _ _ (c.parts j l)).parses)
       ∙ agreed-holds ks p v x
 
--- ---- the bytes of output k, as the code cuts them out
-
-module _ (m n : ℕ) (code len : List ℕ) (c : Coded m n code len) (k : ℕ) (h : k < n) where
-  pub part_room : (k < 7) × (get_or len k 0 ≤ 64) × (64 * k + get_or len k 0 ≤ 448)
-  part_room = (omega (arith, c.ranges.outputs), c.small k h, omega (arith, c.ranges.outputs, c.small k h))
-
-  pub part-parses : parse (newest (m + n)) [] (take (64 * k + get_or len k 0 - 64 * k) (drop (64 * k) code)) ≡ tree (tree_of (parse (newest (m + n)) [] (code_at code len k)))
-  part-parses =
-      let e : 64 * k + get_or len k 0 - 64 * k ≡ get_or len k 0 = omega arith in
-      ap (λ (l : ℕ). parse (newest (m + n)) [] (take l (drop (64 * k) code))) e ∙ (c.parts k h).parses
+-- the expression of output k parses
+pub part-parses : (m n : ℕ) (code len : List ℕ) → Coded m n code len → (k : ℕ) → k < n → (bytes : List ℕ) → bytes ≡ code_at code len k
+    → parse (newest (m + n)) [] bytes ≡ tree (tree_of (parse (newest (m + n)) [] (code_at code len k)))
+part-parses m n code len c k h bytes e = ap (parse (newest (m + n)) []) e ∙ (parses-of (m + n) (code_at code len k) (c.parts k h)).parses

@@ -1,4 +1,5 @@
 -- In each lane the stack of truth values follows the stack of trees.
+use Rattle.std.specs.Prelude.{Ok, Err}
 use mathlib.Core.Path.{◌≡◌, refl, sym, ap, ◌∙◌}
 use mathlib.Core.Bool.{Bool, true, false, cond}
 use mathlib.Core.List.{List, [], ◌∷◌}
@@ -10,13 +11,12 @@ use lib.ListN.{length, drop, get_or, drop_of_length-le}
 use lib.Seq.{drop-cons}
 use Rattle.outcomes.specs.declared.Refusal.TheVariants.{Byte, Values}
 use Rattle.words.specs.Bits.{bit}
-use Rattle.sheet.specs.Bytes.{op_of, read_of}
+use Rattle.sheet.specs.Bytes.{op_of, read_of, Decoded}
 use Rattle.sheet.specs.Expression.{Expr, constant, negation, conjunction, disjunction, equality, read, stack, breaks, tree, apply_op, final, go_on, parse}
 use Rattle.sheet.specs.declared.Grammar.{Grammar}
 use Rattle.sheet.specs.declared.Offset.{Offset}
 use Rattle.sheet.specs.declared.Offset.TheVariants.{Earlier, Now, Later}
-use Rattle.sheet.specs.declared.Op.{Op}
-use Rattle.sheet.specs.declared.Op.TheVariants.{Const, Not, And, Or, Equal, Read, Rejected}
+use Rattle.sheet.specs.declared.Op.TheVariants.{Const, Not, And, Or, Equal, Read}
 use Rattle.sheet.proofs.Ops.{op-cases}
 use Rattle.sheet.proofs.Sheets.{no_tree, at-equal}
 use Rattle.lola.specs.Value.{Look, value}
@@ -36,14 +36,14 @@ reads env q o d = env (read_no q o d)
 
 -- ---- what a byte's operation does to the stack of values
 
-abbrev Means : (ℕ → Bool) → ℕ → Op → Type 0
-Means env b (Const v) = (s : List Bool) → v ∷ s ≡ stepped env b s
-Means env b Not = (s : List Bool) → neg_top s ≡ stepped env b s
-Means env b And = (s : List Bool) → and_top s ≡ stepped env b s
-Means env b Or = (s : List Bool) → or_top s ≡ stepped env b s
-Means env b Equal = (s : List Bool) → equal_top s ≡ stepped env b s
-Means env b (Read q o d) = (s : List Bool) → env (read_no q.0 o d) ∷ s ≡ stepped env b s
-Means env b (Rejected r) = Unit {0}
+abbrev Means : (ℕ → Bool) → ℕ → Decoded → Type 0
+Means env b (Ok (Const v)) = (s : List Bool) → v ∷ s ≡ stepped env b s
+Means env b (Ok Not) = (s : List Bool) → neg_top s ≡ stepped env b s
+Means env b (Ok And) = (s : List Bool) → and_top s ≡ stepped env b s
+Means env b (Ok Or) = (s : List Bool) → or_top s ≡ stepped env b s
+Means env b (Ok Equal) = (s : List Bool) → equal_top s ≡ stepped env b s
+Means env b (Ok (Read q o d)) = (s : List Bool) → env (read_no q.0 o d) ∷ s ≡ stepped env b s
+Means env b (Err r) = Unit {0}
 
 -- a read of one of the five families, whose byte is lo + q, has the word k + q, where k = lo - 0x40
 family : (env : ℕ → Bool) (lo hi k b : ℕ) (o : Offset) (d : Bool) → ((q : ℕ) → read_no q o d ≡ k + q) → lo ≡ 0x40 + k → hi ≤ 0x6F → lo ≤ b → b ≤ hi
@@ -81,28 +81,28 @@ pub record Stacked (look : Look) (r : List Bool) (s : Grammar) (x : Expr) (rest 
   pub same : vs ≡ values look r trees
 
 module _ (env : ℕ → Bool) (r : List Bool) (s : Grammar) (x : Expr) (b : ℕ) (bs : List ℕ) (vs : List Bool) where
-  by-op : (op : Op) → Means env b op → (st : List Expr) → vs ≡ values (reads env) r st → go_on (apply_op s op st) (λ st'. parse s st' bs) ≡ tree x
+  by-op : (op : Decoded) → Means env b op → (st : List Expr) → vs ≡ values (reads env) r st → go_on (apply_op s op st) (λ st'. parse s st' bs) ≡ tree x
       → Stacked (reads env) r s x bs (stepped env b vs)
   unfolding apply_op values value neg_top and_top or_top equal_top
-  by-op (Const v) m st e h = record { trees = constant v ∷ st; left = h; same = sym (m vs) ∙ ap (λ (z : List Bool). v ∷ z) e }
-  by-op Not m [] e h = absurd (no_tree Values x h)
-  by-op Not m (y ∷ st) e h = record { trees = negation y ∷ st; left = h; same = sym (m vs) ∙ ap neg_top e }
-  by-op And m [] e h = absurd (no_tree Values x h)
-  by-op And m (y ∷ []) e h = absurd (no_tree Values x h)
-  by-op And m (y ∷ (z ∷ st)) e h = record { trees = conjunction z y ∷ st; left = h; same = sym (m vs) ∙ ap and_top e }
-  by-op Or m [] e h = absurd (no_tree Values x h)
-  by-op Or m (y ∷ []) e h = absurd (no_tree Values x h)
-  by-op Or m (y ∷ (z ∷ st)) e h = record { trees = disjunction z y ∷ st; left = h; same = sym (m vs) ∙ ap or_top e }
-  by-op Equal m st e h =
+  by-op (Ok (Const v)) m st e h = record { trees = constant v ∷ st; left = h; same = sym (m vs) ∙ ap (λ (z : List Bool). v ∷ z) e }
+  by-op (Ok Not) m [] e h = absurd (no_tree Values x h)
+  by-op (Ok Not) m (y ∷ st) e h = record { trees = negation y ∷ st; left = h; same = sym (m vs) ∙ ap neg_top e }
+  by-op (Ok And) m [] e h = absurd (no_tree Values x h)
+  by-op (Ok And) m (y ∷ []) e h = absurd (no_tree Values x h)
+  by-op (Ok And) m (y ∷ (z ∷ st)) e h = record { trees = conjunction z y ∷ st; left = h; same = sym (m vs) ∙ ap and_top e }
+  by-op (Ok Or) m [] e h = absurd (no_tree Values x h)
+  by-op (Ok Or) m (y ∷ []) e h = absurd (no_tree Values x h)
+  by-op (Ok Or) m (y ∷ (z ∷ st)) e h = record { trees = disjunction z y ∷ st; left = h; same = sym (m vs) ∙ ap or_top e }
+  by-op (Ok Equal) m st e h =
       at-equal s (λ st'. parse s st' bs) x (λ st'. vs ≡ values (reads env) r st' → Stacked (reads env) r s x bs (stepped env b vs))
       (λ v y z st' k e'. record { trees = equality z y ∷ st'; left = k; same = sym (m vs) ∙ ap equal_top e' }) st h e
-  by-op (Read q o d) m st e h = go (ltb q.0 s.streams) h
+  by-op (Ok (Read q o d)) m st e h = go (ltb q.0 s.streams) h
     where
       go : (u : Bool) → go_on (cond u (stack (read q.0 o d ∷ st)) (breaks Byte)) (λ st'. parse s st' bs) ≡ tree x
           → Stacked (reads env) r s x bs (stepped env b vs)
       go true k = record { trees = read q.0 o d ∷ st; left = k; same = sym (m vs) ∙ ap (λ (z : List Bool). env (read_no q.0 o d) ∷ z) e }
       go false k = absurd (no_tree Byte x k)
-  by-op (Rejected f) m st e h = absurd (no_tree f x h)
+  by-op (Err f) m st e h = absurd (no_tree f x h)
 
   next : Stacked (reads env) r s x (b ∷ bs) vs → Stacked (reads env) r s x bs (stepped env b vs)
   unfolding parse

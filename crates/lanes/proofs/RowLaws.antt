@@ -1,44 +1,47 @@
 -- The words of a row, written one after the other.
-use mathlib.Core.Path.{◌≡◌, refl, ap, ◌∙◌}
-use mathlib.Core.Bool.{Bool, cond}
+use mathlib.Core.Path.{◌≡◌, ap, ◌∙◌}
+use mathlib.Core.Bool.{Bool, true, false, cond}
 use mathlib.Core.List.{List}
-use Prim.Native.Nat.{ℕ, suc, ◌+◌, ◌*◌, ◌≤◌, ◌<◌}
-use native.Mathlib.Nat.{mul-le-mul_left}
+use Prim.Native.Nat.{ℕ, suc, ◌+◌, ◌-◌, ◌*◌, ◌≤◌, ◌<◌}
+use native.Mathlib.Nat.{mul-le-mul_left, mul-suc}
 use native.Mathlib.Omega.{arith}
 use native.Mathlib.Decide.{dec_le}
-use lib.ListN.{length, get_or, set, length-set}
+use lib.ListN.{length, get_or, set, length-set, replicate, take, drop}
+use Rattle.std.proofs.lemmas.List.{get_or-replicate, get_or-take, get_or-drop}
 use lib.Seq.{get_or-set_other}
+use Rattle.std.specs.List.{list_all}
+use Rattle.std.proofs.lemmas.Bool.{eqb-true}
+use Rattle.std.proofs.lemmas.List.Elements.{All-get_or}
+use Rattle.std.proofs.lemmas.List.Sums.{AllPass-from_list_all}
+use Rattle.words.proofs.BitLaws.{bit-none}
+use lib.Dec.{eqb}
+use Rattle.words.specs.Bits.{bit}
 use borrow.Author.Tests.{le-leb, lt-leb}
-use Rattle.words.proofs.ListLaws.{set_more, set-more-from}
-use Rattle.lanes.specs.Around.{Stored, stack_words}
+use Rattle.words.proofs.ListLaws.{set_more}
+use Rattle.lanes.specs.Around.{Filled, stack_words}
 
--- the first n words fit, and the others are those of row
-pub record Writing (Fit : ℕ → ℕ → Type 0) (row row' : List ℕ) (n : ℕ) : Type 0 where
-  pub within : n ≤ 4
-  pub size : length row' ≡ 4
+-- a row of w words is written: the first n words fit, and the others are those of row
+pub record Writing (w : ℕ) (Fit : ℕ → ℕ → Type 0) (row row' : List ℕ) (n : ℕ) : Type 0 where
+  pub size : length row' ≡ w
   pub fit : (j : ℕ) → j < n → Fit j (get_or row' j 0)
   pub rest : (j : ℕ) → n ≤ j → get_or row' j 0 ≡ get_or row j 0
 
-module _ (Fit : ℕ → ℕ → Type 0) (row : List ℕ) where
-  pub writing-none : length row ≡ 4 → Writing Fit row row 0
-  writing-none l = record { within = omega arith; size = l; fit = λ j h. absurd (omega arith); rest = λ j h. refl }
-
-  pub writing_more : (row' : List ℕ) (n x : ℕ) → Writing Fit row row' n → n < 4 → Fit n x → Writing Fit row (set row' n x) (n + 1)
-  writing_more row' n x w h f = record {
-    within = omega arith;
-    size = length-set row' n x ∙ w.size;
-    fit = set_more Fit row' n x (omega (arith, w.size)) f w.fit;
-    rest = λ j g. get_or-set_other row' n j x 0 (omega arith) ∙ w.rest j (omega arith);
+module _ (w : ℕ) (Fit : ℕ → ℕ → Type 0) (row : List ℕ) where
+  pub writing_more : (row' : List ℕ) (n x : ℕ) → Writing w Fit row row' n → n < w → Fit n x → Writing w Fit row (set row' n x) (n + 1)
+  writing_more row' n x h l f = record {
+    size = length-set row' n x ∙ h.size;
+    fit = set_more Fit row' n x (omega (arith, h.size)) f h.fit;
+    rest = λ j g. get_or-set_other row' n j x 0 (omega arith) ∙ h.rest j (omega arith);
   }
 
-  pub writing-all : (w : ℕ) (row' : List ℕ) (n : ℕ) → Writing Fit row row' n → w ≤ n → (j : ℕ) → j < w → Fit j (get_or row' j 0)
-  writing-all w row' n x h j g = x.fit j (omega arith)
+-- every word of a row is x
+pub filled : (row : List ℕ) (n w x : ℕ) → row ≡ replicate n x → w ≤ n → Filled w (λ j. x) row
+filled row n w x e l j h = ap (λ (r : List ℕ). get_or r j 0) e ∙ get_or-replicate n j x 0 (omega arith)
 
--- each word is made from what it was
-pub writing_by : (G : ℕ → ℕ → ℕ) (row row' : List ℕ) (n : ℕ) → Writing (λ j w. w ≡ G j (get_or row j 0)) row row' n → n < 4
-    → Writing (λ j w. w ≡ G j (get_or row j 0)) row (set row' n (G n (get_or row' n 0))) (n + 1)
-writing_by G row row' n w h =
-    writing_more (λ j w. w ≡ G j (get_or row j 0)) row row' n (G n (get_or row' n 0)) w h (ap (G n) (w.rest n (omega arith)))
+-- no lane of a row is set where each of its words is 0
+pub none_set : (row : List ℕ) (w : ℕ) → length row ≡ w → list_all (λ x. eqb x 0) row ≡ true → (j i : ℕ) → j < w → bit i (get_or row j 0) ≡ false
+none_set row w l e j i h =
+    ap (bit i) (eqb-true _ 0 (All-get_or (λ (x : ℕ). eqb x 0 ≡ true) row j 0 (omega arith) (AllPass-from_list_all (λ x. eqb x 0) row e))) ∙ bit-none i
 
 -- row k of w words of the stack: its first n words are those of the row
 pub record Storing (w k : ℕ) (row t t' : List ℕ) (n : ℕ) : Type 0 where
@@ -47,21 +50,16 @@ pub record Storing (w k : ℕ) (row t t' : List ℕ) (n : ℕ) : Type 0 where
   pub words : (j : ℕ) → j < n → get_or t' (w * k + j) 0 ≡ get_or row j 0
   pub others : (i : ℕ) → i < w * k → get_or t' i 0 ≡ get_or t i 0
 
-module _ (w k : ℕ) (row t : List ℕ) where
-  pub storing-none : Storing w k row t t 0
-  storing-none = record { within = omega arith; size = refl; words = λ j h. absurd (omega arith); others = λ i h. refl }
+-- the row of w words under row k of the stack
+abbrev pub under : ℕ → ℕ → List ℕ → List ℕ
+under w k t = take (w * k - w * (k - 1)) (drop (w * (k - 1)) t)
 
-  pub storing-more : (t' : List ℕ) (n : ℕ) → Storing w k row t t' n → n < w → w * k + w ≤ length t
-      → Storing w k row t (set t' (w * k + n) (get_or row n 0)) (n + 1)
-  storing-more t' n x h l = record {
-    within = omega arith;
-    size = length-set t' (w * k + n) (get_or row n 0) ∙ x.size;
-    words = set-more-from (λ j v. v ≡ get_or row j 0) (w * k) t' n (get_or row n 0) (omega (arith, x.size)) refl x.words;
-    others = λ i g. get_or-set_other t' (w * k + n) i (get_or row n 0) 0 (omega arith) ∙ x.others i g;
-  }
-
-  pub storing-all : (t' : List ℕ) (n : ℕ) → Storing w k row t t' n → w ≤ n → Stored w k row t t'
-  storing-all t' n x h = record { words = λ j g. x.words j (omega arith); others = x.others }
+pub word-under : (w k : ℕ) (t : List ℕ) → (k ≡ 0 → ⊥) → (j : ℕ) → j < w → get_or (under w k t) j 0 ≡ get_or t (w * (k - 1) + j) 0
+word-under w k t n j h =
+    let p : k ≡ suc (k - 1) = omega arith in
+    let e : w * k ≡ w * (k - 1) + w = ap (λ (z : ℕ). w * z) p ∙ mul-suc w (k - 1) in
+    let g : get_or (under w k t) j 0 ≡ get_or (drop (w * (k - 1)) t) j 0 = get_or-take _ _ j 0 (omega arith) in
+    g ∙ get_or-drop _ t j 0
 
 -- a word before row n of w words
 pub inside : (w k n j : ℕ) → k < n → j < w → w * k + j < w * n

@@ -11,7 +11,7 @@ use Rattle.words.specs.Bits.{bit}
 use Rattle.words.proofs.BitLaws.{bit-and, bit-or}
 use Rattle.lanes.specs.Machine.{and_top, or_top, equal_top, stepped}
 use Rattle.lanes.specs.Around.{read_at, lane_stack, Stepped, Filled, Stored}
-use Rattle.lanes.proofs.RowLaws.{inside}
+use Rattle.lanes.proofs.RowLaws.{inside, under, word-under}
 use Rattle.lanes.proofs.StackLaws.{byte-and, byte_or, byte-equal, lane-read, lane-const, lane_not, lane-two, lane_lacks}
 
 module _ (w env own e : ℕ) (st top : List ℕ) (used : ℕ) (st' top' : List ℕ) where
@@ -45,32 +45,33 @@ module _ (w env own e : ℕ) (st top : List ℕ) (used : ℕ) (top' : List ℕ) 
 
   -- an operator on two values
   step-two : (op : Bool → Bool → Bool) → ((f : ℕ → Bool) (x v : Bool) (s : List Bool) → op v x ∷ s ≡ stepped f e (x ∷ (v ∷ s))) → (used ≡ 0 → ⊥)
-      → ((j i : ℕ) → j < w → i < 64 → bit i (get_or top' j 0) ≡ op (bit i (get_or st (w * (used - 1) + j) 0)) (bit i (get_or top j 0)))
+      → ((j i : ℕ) → j < w → i < 64 → bit i (get_or top' j 0) ≡ op (bit i (get_or (under w used st) j 0)) (bit i (get_or top j 0)))
       → Stepped w env own e st top used st top' (used - 1)
   step-two op does n r = record {
     grows = omega arith;
     lanes = λ j i h g.
         lane-two (read_at env own (64 * j + i)) e (bit i (get_or top j 0)) (λ k. bit i (get_or st (w * k + j) 0)) (bit i (get_or top' j 0))
-        (λ k. bit i (get_or st (w * k + j) 0)) op (does (read_at env own (64 * j + i)) (bit i (get_or top j 0))) used (omega arith) (r j i h g) (λ k m. refl);
+        (λ k. bit i (get_or st (w * k + j) 0)) op (does (read_at env own (64 * j + i)) (bit i (get_or top j 0))) used (omega arith)
+        (r j i h g ∙ ap (λ (z : ℕ). op (bit i z) (bit i (get_or top j 0))) (word-under w used st n j h)) (λ k m. refl);
   }
 
-  pub step-and : (used ≡ 0 → ⊥) → e ≡ 3 → Filled w (λ j. bit_and (get_or st (w * (used - 1) + j) 0) (get_or top j 0)) top'
+  pub step-and : (used ≡ 0 → ⊥) → e ≡ 3 → ((j : ℕ) → j < w → get_or top' j 0 ≡ bit_and (get_or (under w used st) j 0) (get_or top j 0))
       → Stepped w env own e st top used st top' (used - 1)
   unfolding and_top
   step-and n q z =
-      step-two ◌&&◌ (λ f x v s. byte-and f e (x ∷ (v ∷ s)) q) n (λ j i h g. ap (bit i) (z j h) ∙ bit-and i (get_or st (w * (used - 1) + j) 0) (get_or top j 0))
+      step-two ◌&&◌ (λ f x v s. byte-and f e (x ∷ (v ∷ s)) q) n (λ j i h g. ap (bit i) (z j h) ∙ bit-and i (get_or (under w used st) j 0) (get_or top j 0))
 
-  pub step-or : (used ≡ 0 → ⊥) → e ≡ 4 → Filled w (λ j. bit_or (get_or st (w * (used - 1) + j) 0) (get_or top j 0)) top'
+  pub step-or : (used ≡ 0 → ⊥) → e ≡ 4 → ((j : ℕ) → j < w → get_or top' j 0 ≡ bit_or (get_or (under w used st) j 0) (get_or top j 0))
       → Stepped w env own e st top used st top' (used - 1)
   unfolding or_top
   step-or n q z =
-      step-two ◌||◌ (λ f x v s. byte_or f e (x ∷ (v ∷ s)) q) n (λ j i h g. ap (bit i) (z j h) ∙ bit-or i (get_or st (w * (used - 1) + j) 0) (get_or top j 0))
+      step-two ◌||◌ (λ f x v s. byte_or f e (x ∷ (v ∷ s)) q) n (λ j i h g. ap (bit i) (z j h) ∙ bit-or i (get_or (under w used st) j 0) (get_or top j 0))
 
   pub step-equal : (used ≡ 0 → ⊥) → 4 < e → e < 64
-      → ((j i : ℕ) → j < w → i < 64 → bit i (get_or top' j 0) ≡ beq (bit i (get_or st (w * (used - 1) + j) 0)) (bit i (get_or top j 0)))
+      → ((j : ℕ) → j < w → (i : ℕ) → i < 64 → bit i (get_or top' j 0) ≡ beq (bit i (get_or (under w used st) j 0)) (bit i (get_or top j 0)))
       → Stepped w env own e st top used st top' (used - 1)
   unfolding equal_top
-  step-equal n l u r = step-two beq (λ f x v s. byte-equal f e (x ∷ (v ∷ s)) l u) n r
+  step-equal n l u r = step-two beq (λ f x v s. byte-equal f e (x ∷ (v ∷ s)) l u) n (λ j i h g. r j h i g)
 
 pub step_lacks : (w env own e : ℕ) (st top : List ℕ) (used : ℕ) → used ≡ 0 → 2 < e → e < 64 → Stepped w env own e st top used st top 0
 step_lacks w env own e st top used z l u = record {

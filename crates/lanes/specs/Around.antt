@@ -1,7 +1,7 @@
 -- For the contracts of inner functions: the reads of a round in one word, bit byte - 0x40 for the read byte, and stacks of words.
 -- A second word has the same bit set for the reads that are the lane's own: each lane stands for a valuation of the round itself, of the one
 -- earlier or of the one later, and the reads of that round are of this valuation.
-use Rattle.std.specs.Prelude.{◌≡◌, Bool, true, false, cond, List, [], ◌∷◌, ℕ, zero, suc, ◌+◌, ◌*◌, ◌%◌, ◌^◌, ◌<◌, ◌≤◌, leb, get_or}
+use Rattle.std.specs.Prelude.{◌≡◌, Bool, true, false, cond, List, [], ◌∷◌, ℕ, zero, suc, ◌+◌, ◌*◌, ◌%◌, ◌^◌, ◌<◌, ◌≤◌, leb, get_or, Some, None, Option as Maybe}
 use Rattle.std.proofs.Math.Option.{Option, none, some}
 use Rattle.words.specs.Bits.{bit}
 use Rattle.lola.specs.Value.{Look, near}
@@ -73,6 +73,7 @@ pub record Ahead (w : ℕ) (b : ℕ) (c : Option ℕ) : Type 0 where
   pub unset : (q : ℕ) → q < 8 → bit (32 + q) w ≡ near c q false
   pub set : (q : ℕ) → q < 8 → bit (40 + q) w ≡ near c q true
 
--- how the code has a neighbouring round that may be missing
-unfoldable pub unless : Bool → ℕ → Option ℕ
-unless absent v = cond absent none (some v)
+-- a neighbouring round as the code has it, which may be missing
+abbrev pub neighbour : Maybe ℕ → Option ℕ
+neighbour None = none
+neighbour (Some v) = some v

@@ -2,12 +2,11 @@
 use Rattle.std.specs.Prelude.{Bool, true, ◌&&◌, ◌≡◌, List, [], ◌∷◌, ℕ, suc, ◌+◌, ◌*◌, ◌≤◌, ◌<◌, length, get_or}
 use Rattle.std.specs.Bool.{beq}
 use Rattle.words.specs.Bits.{bit}
-use Rattle.words.specs.Sizes.{Sized}
-use Rattle.words.specs.declared.Size.{Size}
 use Rattle.sheet.specs.Expression.{Expr, parse, tree}
 use Rattle.sheet.specs.declared.Grammar.{Grammar}
 use Rattle.sheet.specs.RuleSheet.{RuleSheet}
-use Rattle.sheet.specs.Reading.{Ranges, Parses, code_at, trees_of}
+use Rattle.sheet.specs.Parts.{Ranges, code_at, parses}
+use Rattle.sheet.specs.Reading.{trees_of}
 use Rattle.lola.specs.Value.{Look, value}
 use Rattle.lanes.specs.Around.{lane_look, here}
 
@@ -17,19 +16,11 @@ pub record Coded (m n : ℕ) (code len : List ℕ) : Type 0 where
   pub code_size : length code ≡ 448
   pub sizes : length len ≡ 7
   pub small : (k : ℕ) → k < n → get_or len k 0 ≤ 64
-  pub parts : (k : ℕ) → k < n → Parses (m + n) (code_at code len k)
+  pub parts : (k : ℕ) → k < n → parses (m + n) (code_at code len k) ≡ true
 
 -- the rule sheet that they stand for; which outputs it requires is of no concern to the equations
 abbrev pub sheet_of : ℕ → ℕ → List ℕ → List ℕ → List ℕ → RuleSheet
 sheet_of m n code len ks = record { inputs = m; expressions = trees_of (m + n) code len n; required = ks }
-
--- the same by the size of a sheet
-pub record CodedBy (z : Size) (code len : List ℕ) : Type 0 where
-  pub sized : Sized z
-  pub coded : Coded z.inputs z.outputs code len
-
-abbrev pub sheet_by : Size → List ℕ → List ℕ → List ℕ → RuleSheet
-sheet_by z code len ks = sheet_of z.inputs z.outputs code len ks
 
 -- the streams q, q + 1, .. of v have the values of the expressions es, with any reads
 unfoldable pub agreed : Look → List Expr → ℕ → ℕ → Bool

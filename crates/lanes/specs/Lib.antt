@@ -1,3 +1,4 @@
 pub mod Machine
 pub mod Around
 pub mod Coded
+pub mod Sheets

@@ -1,147 +1,115 @@
-// One row of words, 64 lanes each: the first w words of four.
-ghost use Rattle.std.specs.Prelude.{◌≡◌, true, false, not, ◌&&◌, ℕ, ◌+◌, ◌*◌, ◌%◌, ◌<◌, ◌≤◌, length, get_or};
+// Rows of W words, 64 lanes each. They are written word by word: `fill` and `copy_from_slice` keep a row in memory instead of in registers, which
+// takes twice the time.
+ghost use Rattle.std.specs.Prelude.{◌≡◌, true, false, not, ◌&&◌, ℕ, ◌+◌, ◌*◌, ◌%◌, ◌<◌, ◌≤◌, eqb, length, get_or};
+ghost use Rattle.std.specs.List.{list_all};
 ghost use Rattle.std.specs.Bool.{beq};
-ghost use Rattle.std.specs.Int.Bits.{bit_and, bit_or};
 ghost use Rattle.words.specs.Bits.{bit};
-ghost use Rattle.lanes.specs.Around.{read_at, Filled, Stored, here};
+ghost use Rattle.lanes.specs.Around.{read_at, here, Filled, Stored};
+
+use super::Reads;
 
 // Every word of the row becomes x.
-pub fn fill_row(row: &mut [u64], w: usize, x: u64)
-    requires { (w ≤ 4) × (length row.old ≡ 4) }
-    ensures { Filled w (λ j. x) row.new }
+pub fn fill_row<const W: usize>(row: &mut [u64; W], x: u64)
+    ensures size { length row.new ≡ W }
+    ensures words { Filled W (λ j. x) row.new }
 {
-    let mut j: usize = 0;
-    while j < w {
+    for j in 0..W {
         row[j] = x;
-        j += 1;
-    }
-}
-
-// Every lane of the row turned over.
-pub fn not_row(row: &mut [u64], w: usize)
-    requires { (w ≤ 4) × (length row.old ≡ 4) }
-    ensures { (j i : ℕ) → j < w → i < 64 → bit i (get_or row.new j 0) ≡ not (bit i (get_or row.old j 0)) }
-{
-    let mut j: usize = 0;
-    while j < w {
-        row[j] = !row[j];
-        j += 1;
-    }
-}
-
-// Row k of the stack and the row, either of them, or where they are alike.
-pub fn and_row(row: &mut [u64], w: usize, st: &[u64], k: usize)
-    requires { (w ≤ 4) × (length row.old ≡ 4) × (w * k + w ≤ length st.now) }
-    ensures { Filled w (λ j. bit_and (get_or st.now (w * k + j) 0) (get_or row.old j 0)) row.new }
-{
-    let mut j: usize = 0;
-    while j < w {
-        row[j] = st[w * k + j] & row[j];
-        j += 1;
-    }
-}
-
-pub fn or_row(row: &mut [u64], w: usize, st: &[u64], k: usize)
-    requires { (w ≤ 4) × (length row.old ≡ 4) × (w * k + w ≤ length st.now) }
-    ensures { Filled w (λ j. bit_or (get_or st.now (w * k + j) 0) (get_or row.old j 0)) row.new }
-{
-    let mut j: usize = 0;
-    while j < w {
-        row[j] = st[w * k + j] | row[j];
-        j += 1;
-    }
-}
-
-pub fn equal_row(row: &mut [u64], w: usize, st: &[u64], k: usize)
-    requires { (w ≤ 4) × (length row.old ≡ 4) × (w * k + w ≤ length st.now) }
-    ensures { (j i : ℕ) → j < w → i < 64 → bit i (get_or row.new j 0) ≡ beq (bit i (get_or st.now (w * k + j) 0)) (bit i (get_or row.old j 0)) }
-{
-    let mut j: usize = 0;
-    while j < w {
-        row[j] = alike(st[w * k + j], row[j]);
-        j += 1;
     }
 }
 
 // Puts the row into the stack as row k.
-pub fn store_row(st: &mut [u64], w: usize, k: usize, row: &[u64])
-    requires { (w ≤ 4) × (length row.now ≡ 4) × (w * k + w ≤ length st.old) }
-    ensures { Stored w k row.now st.old st.new }
+pub fn store_row<const W: usize>(st: &mut [u64], k: usize, row: &[u64; W])
+    requires { W * k + W ≤ length st.old }
+    ensures { Stored W k row.now st.old st.new }
 {
-    let mut j: usize = 0;
-    while j < w {
-        st[w * k + j] = row[j];
-        j += 1;
+    for j in 0..W {
+        st[W * k + j] = row[j];
+    }
+}
+
+// Every lane of the row turned over.
+pub fn not_row<const W: usize>(row: &mut [u64; W])
+    ensures size { length row.new ≡ W }
+    ensures words { (j i : ℕ) → j < W → i < 64 → bit i (get_or row.new j 0) ≡ not (bit i (get_or row.old j 0)) }
+{
+    for word in row.iter_mut() {
+        *word = !*word;
+    }
+}
+
+// Each word of the row becomes what `op` makes of the word below and of it.
+pub fn combine<const W: usize, F: Fn(u64, u64) -> u64>(row: &mut [u64; W], below: &[u64], op: F)
+    requires callable { F.IsAlwaysCallable op }
+    requires size { length below.now ≡ W }
+    ensures size { length row.new ≡ W }
+    ensures words { (j : ℕ) → j < W → F.post op (get_or below.now j 0) (get_or row.old j 0) (get_or row.new j 0) }
+{
+    for j in 0..W {
+        row[j] = op(below[j], row[j]);
     }
 }
 
 // Stream q of the valuation in each lane of the row.
-fn stream_row(row: &mut [u64], w: usize, q: usize)
-    requires { (w ≤ 4) × (length row.old ≡ 4) × (q < 8) }
-    ensures { (j i : ℕ) → j < w → i < 64 → bit i (get_or row.new j 0) ≡ bit q (64 * j + i) }
+fn stream_row<const W: usize>(row: &mut [u64; W], q: usize)
+    requires { (W ≤ 4) × (q < 8) }
+    ensures size { length row.new ≡ W }
+    ensures words { (j i : ℕ) → j < W → i < 64 → bit i (get_or row.new j 0) ≡ bit q (64 * j + i) }
 {
-    let mut j: usize = 0;
-    while j < w {
+    for j in 0..W {
         row[j] = words::stream_word(q, j);
-        j += 1;
     }
 }
 
 // The value of the read byte e in each lane of the row.
-pub fn read_row(row: &mut [u64], w: usize, env: u64, own: u64, e: u8)
-    requires { (w ≤ 4) × (length row.old ≡ 4) }
-    ensures { (j i : ℕ) → j < w → i < 64 → bit i (get_or row.new j 0) ≡ read_at env own (64 * j + i) (e % 64) }
+pub fn read_row<const W: usize>(row: &mut [u64; W], reads: &Reads, e: u8)
+    requires { W ≤ 4 }
+    ensures size { length row.new ≡ W }
+    ensures words { (j i : ℕ) → j < W → i < 64 → bit i (get_or row.new j 0) ≡ read_at reads.now.env reads.now.own (64 * j + i) (e % 64) }
 {
-    let k = e % 64;
-    if (own >> k) % 2 == 1 {
-        stream_row(row, w, (k % 8) as usize);
+    let k = (e % 64) as usize;
+    if words::has_bit(reads.own, k) {
+        stream_row(row, k % 8);
         return;
     }
-    fill_row(row, w, words::spread((env >> k) % 2 == 1));
+    let value = words::has_bit(reads.env, k);
+    fill_row(row, words::spread(value));
 }
 
-// Stream q of the round itself in the lanes of the valuations from 64 * j on: of b, or of the lane's valuation where the reads of the round
+// Stream q of the round itself in the lanes of the valuations from 64 * j on: of reads.round, or of the lane's valuation where the reads of the round
 // itself are its own.
-fn here_word(own: u64, b: usize, q: usize, j: usize) -> u64
+fn here_word(reads: &Reads, q: usize, j: usize) -> u64
     requires { (q < 8) × (j < 4) }
-    ensures { (i : ℕ) → i < 64 → bit i result ≡ bit q (here own b (64 * j + i)) }
+    ensures { (i : ℕ) → i < 64 → bit i result ≡ bit q (here reads.now.own reads.now.round (64 * j + i)) }
 {
-    if own % 2 == 1 {
+    if words::has_bit(reads.own, 0) {
         return words::stream_word(q, j);
     }
-    words::spread((b >> q) % 2 == 1)
+    let value = words::has_bit(reads.round as u64, q);
+    words::spread(value)
 }
 
 // The lanes in which x and y are alike.
-fn alike(x: u64, y: u64) -> u64
+pub fn alike(x: u64, y: u64) -> u64
     ensures { (i : ℕ) → i < 64 → bit i result ≡ beq (bit i x) (bit i y) }
 {
     x & y | !(x | y)
 }
 
 // The lanes of acc in which x is stream q of the round itself.
-pub fn keep_row(acc: &mut [u64], w: usize, x: &[u64], own: u64, b: usize, q: usize)
-    requires { (w ≤ 4) × (length acc.old ≡ 4) × (length x.now ≡ 4) × (q < 8) }
-    ensures { (j i : ℕ) → j < w → i < 64 → bit i (get_or acc.new j 0) ≡ (bit i (get_or acc.old j 0) && beq (bit i (get_or x.now j 0)) (bit q (here own b (64 * j + i)))) }
+pub fn keep_row<const W: usize>(acc: &mut [u64; W], x: &[u64; W], reads: &Reads, q: usize)
+    requires { (W ≤ 4) × (q < 8) }
+    ensures size { length acc.new ≡ W }
+    ensures words { (j i : ℕ) → j < W → i < 64 → bit i (get_or acc.new j 0) ≡ (bit i (get_or acc.old j 0) && beq (bit i (get_or x.now j 0)) (bit q (here reads.now.own reads.now.round (64 * j + i)))) }
 {
-    let mut j: usize = 0;
-    while j < w {
-        acc[j] = acc[j] & alike(x[j], here_word(own, b, q, j));
-        j += 1;
+    for j in 0..W {
+        acc[j] = acc[j] & alike(x[j], here_word(reads, q, j));
     }
 }
 
 // Whether no lane of the row is set.
-pub fn is_empty(row: &[u64], w: usize) -> bool
-    requires { (w ≤ 4) × (length row.now ≡ 4) }
-    ensures { result ≡ true → (j i : ℕ) → j < w → bit i (get_or row.now j 0) ≡ false }
+pub fn is_empty<const W: usize>(row: &[u64; W]) -> bool
+    ensures { result ≡ list_all (λ x. eqb x 0) row.now }
 {
-    let mut j: usize = 0;
-    while j < w {
-        if row[j] != 0 {
-            return false;
-        }
-        j += 1;
-    }
-    true
+    row.iter().all(|x| *x == 0)
 }

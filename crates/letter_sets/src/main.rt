@@ -1,10 +1,12 @@
 // The program that prints the table of letter sets: its entries from 0 up, in decimal, one a line. It takes no input.
 #![tactic(auto)]
 
+use letter_table::LetterTable;
+
 fn main(rt: HostRuntime) {
-    let table = letter_table::sets();
-    let mut out = [0u8; 65536];
-    let to = letter_table::table_text(&table, &mut out);
+    let table = LetterTable::new();
+    let mut out = [0; 65536];
+    let to = table.table_text(&mut out);
     if let Err(error) = rt.write_all(&out[..to]) {
         failures::fail(&rt, "letter_sets: cannot write standard output", error);
     }

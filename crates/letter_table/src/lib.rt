@@ -11,26 +11,38 @@ mod table; // table.rt: the numbers
 
 pub use table::sets;
 
-// The entry of an index.
-pub fn entry(table: &[u64], e: usize) -> u64
-    requires { Sets table.now × (e < 729) }
-    ensures { result ≡ entry_of e }
-{
-    table[e]
+// The table. A constant array is built anew wherever it is indexed: a program makes the table once and passes it by reference.
+#[derive(Drop)]
+pub struct LetterTable {
+    pub entries: [u64; 729],
+    pub ghost sets: { Sets entries },
 }
 
-// All entries in decimal, one a line, at the start of `out`: at most 729 * 21 bytes. Answers how many.
-pub fn table_text(table: &[u64], out: &mut [u8]) -> usize
-    requires { Sets table.now × (15309 ≤ length out.old) }
-    ensures text { Placed out.old 0 (table_text 0 729) out.new result }
-    ensures bound { result ≤ length out.new }
-{
-    let mut to = 0;
-    let mut e: usize = 0;
-    while e < 729 {
-        let digits = decimal(out, to, entry(table, e));
-        to = byte(out, digits, b'\n');
-        e += 1;
+impl LetterTable {
+    pub fn new() -> LetterTable {
+        LetterTable { entries: sets() }
     }
-    to
+
+    // The entry of an index.
+    pub fn entry(&self, e: usize) -> u64
+        requires { e < 729 }
+        ensures { result ≡ entry_of e }
+    {
+        self.entries[e]
+    }
+
+    // All entries in decimal, one a line, at the start of `out`: at most 729 * 21 bytes. Answers how many.
+    #[tactic(auto, using(buffer::proofs::DecimalLaws::word_digits))]
+    pub fn table_text(&self, out: &mut [u8]) -> usize
+        requires { 15309 ≤ length out.old }
+        ensures text { Placed out.old 0 (table_text 0 729) out.new result }
+        ensures bound { result ≤ length out.new }
+    {
+        let mut to = 0;
+        for e in 0..729 {
+            let digits = decimal(out, to, self.entry(e));
+            to = byte(out, digits, b'\n');
+        }
+        to
+    }
 }

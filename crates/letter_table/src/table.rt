@@ -734,7 +734,7 @@ const SETS: [u64; 729] = [
     18446744073709551615,
 ];
 
-// A constant array is built anew wherever it is indexed: whoever looks entries up calls this once and hands the array on.
+// The numbers, for `LetterTable::new`.
 pub fn sets() -> [u64; 729]
     ensures { Sets result }
 {

@@ -1,5 +1,5 @@
 -- Rule 21, and the sets that masks stand for.
-use mathlib.Core.Path.{◌≡◌, refl, sym, ap, ◌∙◌, subst}
+use mathlib.Core.Path.{◌≡◌, refl, sym, ap, ◌∙◌}
 use mathlib.Core.Bool.{Bool, true, false, not, ◌&&◌, true≢false, false≢true}
 use mathlib.Core.Logic.{inl, inr}
 use Prim.Native.Nat.{ℕ, ◌/◌, ◌^◌, ◌≤◌, ◌<◌}
@@ -11,9 +11,9 @@ use lib.Dec.{eqb, leb, ltb}
 use lib.Pow.{pow_pos, pow_mono}
 use borrow.Author.Tests.{eq-eqb, ne_eqb, le-leb, lt-leb, leb-false, lt-ltb, ltb-true, not-false, eqb-true}
 use Rattle.outcomes.specs.Decided.{Decided}
-use Rattle.outcomes.specs.declared.Refusal.{Refusal}
 use Rattle.outcomes.specs.declared.Refusal.TheVariants.{Counts, Letter}
-use Rattle.outcomes.specs.declared.Outcome.TheVariants.{Accepted, Refused}
+use Rattle.std.specs.Prelude.{Err}
+use Rattle.outcomes.specs.Outcome.{unbroken}
 use Rattle.words.specs.Bits.{bit}
 use Rattle.words.proofs.BitLaws.{bit-none, bits_ext}
 use Rattle.words.proofs.Bools.{or-none}
@@ -21,8 +21,7 @@ use Rattle.words.proofs.FromBits.{from_lt, from_word}
 use Rattle.completions.specs.Completion.{masked}
 use Rattle.letters.specs.Masks.{bad_masks}
 use Rattle.letters.specs.Matching.{matches}
-use Rattle.letters.specs.Sets.{bad_set, MaskSet, mask_checks, Makes, MasksCall}
-use Rattle.letters.specs.declared.LettersMade.{LettersMade}
+use Rattle.letters.specs.Sets.{bad_set, MaskSet, mask_checks}
 use Rattle.letters.proofs.Matching.{valid, matches-masked}
 
 -- ---- rule 21
@@ -50,23 +49,20 @@ bad_shift m w n = rw (ne_eqb w 0 n) (go (dec_lt w (2 ^ (2 ^ m))))
 
 module _ (m known val : ℕ) where
   -- the checks, by their tests
-  pub no-inputs : m ≡ 0 → Decided (mask_checks m known val) (Refused Counts)
+  pub no-inputs : m ≡ 0 → Decided (mask_checks m known val) (Err Counts)
   no-inputs e = inl (rw e refl, refl)
 
-  pub many-inputs : (m ≡ 0 → ⊥) → ltb 6 m ≡ true → Decided (mask_checks m known val) (Refused Counts)
+  pub many-inputs : (m ≡ 0 → ⊥) → ltb 6 m ≡ true → Decided (mask_checks m known val) (Err Counts)
   many-inputs n e = inl (rw (le-leb 1 m (omega arith), lt-leb m 6 (ltb-true 6 m e)) refl, refl)
 
   few : 1 ≤ m → m ≤ 6 → not (leb 1 m && leb m 6) ≡ true → ⊥
   few n h e = false≢true (rw (le-leb 1 m n, le-leb m 6 h) at e)
 
-  pub masks-refused : 1 ≤ m → m ≤ 6 → bad_masks m known val ≡ true → Decided (mask_checks m known val) (Refused Letter)
+  pub masks-refused : 1 ≤ m → m ≤ 6 → bad_masks m known val ≡ true → Decided (mask_checks m known val) (Err Letter)
   masks-refused n h e = inr (few n h, inl (e, refl))
 
-  pub masks-taken : 1 ≤ m → m ≤ 6 → bad_masks m known val ≡ false → Decided (mask_checks m known val) Accepted
+  pub masks-taken : 1 ≤ m → m ≤ 6 → bad_masks m known val ≡ false → Decided (mask_checks m known val) unbroken
   masks-taken n h e = inr (few n h, inr ((λ b. false≢true (sym e ∙ b)), refl))
-
-  pub made_none : (a : LettersMade) (e : Refusal) → (a.outcome ≡ Refused e) × (a.letters ≡ 0) → Decided (mask_checks m known val) (Refused e) → MasksCall m known val a
-  made_none a e p d = record { decided = rw p.0 d; result = subst (Makes m known val a.letters) (sym p.0) p.1 }
 
   -- the letters that match, as a word, are the set of the masks
   pub mask-set : (w : ℕ) → m ≤ 6 → bad_masks m known val ≡ false → w < 2 ^ 64

@@ -1,14 +1,13 @@
 -- A round's set of letters as a number (02, W4): rule 21, and the set that masks stand for, with its refusals.
 -- Manual: "Completions and verdicts", "Refusals".
-use Rattle.std.specs.Prelude.{◌≡◌, Bool, not, ◌&&◌, ◌||◌, List, [], ◌∷◌, ℕ, ◌^◌, ◌<◌, eqb, leb}
+use Rattle.std.specs.Prelude.{Result, IfOk, ◌≡◌, Bool, not, ◌&&◌, ◌||◌, List, [], ◌∷◌, ℕ, ◌^◌, ◌<◌, eqb, leb}
 use Rattle.outcomes.specs.Decided.{Check, test, Decided}
 use Rattle.outcomes.specs.declared.Refusal.TheVariants.{Counts, Letter}
-use Rattle.outcomes.specs.declared.Outcome.{Outcome}
-use Rattle.outcomes.specs.declared.Outcome.TheVariants.{Accepted, Refused}
+use Rattle.outcomes.specs.Outcome.{as_outcome}
+use Rattle.outcomes.specs.declared.Refusal.{Refusal}
 use Rattle.words.specs.Bits.{bit}
 use Rattle.completions.specs.Completion.{masked}
 use Rattle.letters.specs.Masks.{bad_masks}
-use Rattle.letters.specs.declared.LettersMade.{LettersMade}
 
 -- the set is empty, or has a letter that isn't below 2^m
 unfoldable pub bad_set : ℕ → ℕ → Bool
@@ -26,12 +25,7 @@ mask_checks m known val =
     ∷ (test Letter (bad_masks m known val)
     ∷ [])
 
--- by the outcome: the set, or no letter
-abbrev pub Makes : ℕ → ℕ → ℕ → ℕ → Outcome → Type 0
-Makes m known val w Accepted = MaskSet m known val w
-Makes m known val w (Refused e) = w ≡ 0
-
--- what a call that makes a set from masks means
-pub record MasksCall (m known val : ℕ) (a : LettersMade) : Type 0 where
-  pub decided : Decided (mask_checks m known val) a.outcome
-  pub result : Makes m known val a.letters a.outcome
+-- what a call that makes a set from masks means: how it is decided, and the set; a refusal comes without one
+pub record MasksCall (m known val : ℕ) (r : Result ℕ Refusal) : Type 0 where
+  pub decided : Decided (mask_checks m known val) (as_outcome r)
+  pub result : IfOk r (MaskSet m known val)

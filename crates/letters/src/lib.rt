@@ -7,7 +7,7 @@ ghost use Rattle.letters.specs.Masks.{bad_masks};
 ghost use Rattle.letters.specs.Matching.{agrees, matches};
 ghost use Rattle.letters.specs.Sets.{bad_set, MasksCall};
 
-use outcomes::{Outcome, Refusal};
+use outcomes::Refusal;
 
 // Rule 11 for masks: a known bit beyond m, or a value bit that isn't known.
 fn bad_masks(m: u8, known: u8, value: u8) -> bool
@@ -21,20 +21,13 @@ fn bad_masks(m: u8, known: u8, value: u8) -> bool
     true
 }
 
-fn bit_of(x: u8, i: usize) -> bool
-    requires { i < 8 }
-    ensures { result ≡ bit i x }
-{
-    (x >> i) % 2 == 1
-}
-
 // The letters that agree with the masks in input i, out of a set.
 fn narrowed(set: u64, known: u8, value: u8, i: usize) -> u64
     requires { i < 6 }
     ensures { (l : ℕ) → l < 64 → bit l result ≡ (bit l set && agrees known value i l) }
 {
-    if bit_of(known, i) {
-        let want = bit_of(value, i);
+    if words::has_bit(known as u64, i) {
+        let want = words::has_bit(value as u64, i);
         return set & words::agree(words::stream_word(i, 0), want);
     }
     set
@@ -47,44 +40,23 @@ fn letters_of(m: u8, known: u8, value: u8) -> u64
 {
     let size: usize = 1 << m;
     let mut set = words::lanes_below(size, 0);
-    let mut i: usize = 0;
-    while i < 6 {
+    for i in 0..6 {
         set = narrowed(set, known, value, i);
-        i += 1;
     }
     set
 }
 
-// A set made from masks; 0 where it is refused.
-#[derive(Clone, Copy)]
-pub struct LettersMade {
-    pub outcome: Outcome,
-    pub letters: u64,
-}
-
-fn refused(e: Refusal) -> LettersMade
-    ensures { (result.outcome ≡ Outcome.Refused e) × (result.letters ≡ 0) }
-{
-    LettersMade {
-        outcome: Outcome::Refused(e),
-        letters: 0,
-    }
-}
-
 // The set of the letters of m inputs that agree with the masks.
-pub fn from_masks(m: u8, known: u8, value: u8) -> LettersMade
+pub fn from_masks(m: u8, known: u8, value: u8) -> Result<u64, Refusal>
     ensures { MasksCall m known value result }
 {
     if m == 0 || 6 < m {
-        return refused(Refusal::Counts);
+        return Err(Refusal::Counts);
     }
     if bad_masks(m, known, value) {
-        return refused(Refusal::Letter);
+        return Err(Refusal::Letter);
     }
-    LettersMade {
-        outcome: Outcome::Accepted,
-        letters: letters_of(m, known, value),
-    }
+    Ok(letters_of(m, known, value))
 }
 
 // Rule 21: a set that is empty, or has a letter beyond m inputs. Six inputs have a letter for every bit.

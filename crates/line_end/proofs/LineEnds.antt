@@ -23,6 +23,8 @@ use Rattle.line_scan.specs.Meaning.{line_of}
 use Rattle.line_scan.specs.declared.Meaning.{Meaning}
 use Rattle.line_end.specs.Printed.{next_line, malformed_rule, passed, rounded, shut, turned_down, unread}
 use Rattle.line_end.specs.LineEnd.{Serves, Answered, LineEnded, most_bytes, due}
+use Rattle.std.specs.Prelude.{None, Some}
+use Rattle.line_end.specs.declared.Place.{Place}
 use Rattle.line_end.specs.declared.Ended.{Ended}
 use Rattle.line_end.proofs.Serving.{serves-matches}
 
@@ -36,31 +38,31 @@ asks-told sheet x b j s part m v sv l e = rw (← (serves-matches sheet x b (hel
 module _ (sheet : List ℕ) (x : RuleSheet) (b : Book) (line : ℕ) (part d : List ℕ) (at : ℕ) (e t : List ℕ) (r : Ended) where
   -- the run is over
   pub refused-ends : (c : Call) (q : Refusal) (h : Held) → asks x b part ≡ calls c → Answered sheet x b c (refused q) h
-      → r.over ≡ true → Placed d at (line_refusal q line) e r.at → LineEnded sheet x b line part d at e t r
+      → r.next ≡ None → Placed d at (line_refusal q line) e r.at → LineEnded sheet x b line part d at e t r
   refused-ends c q h l a o w = record { text = line_refusal q line; wrote = placed-wrote w; ends = rw o (λ ls. turned_down l a.step) }
 
   pub malformed-ends : (j : JournalRecord) (s : List ℕ) → Serves sheet x b (held s j) → asks x b part ≡ malformed
-      → r.over ≡ true → Placed d at (line_refusal (cond j.closed Closed Line) line) e r.at → LineEnded sheet x b line part d at e t r
+      → r.next ≡ None → Placed d at (line_refusal (cond j.closed Closed Line) line) e r.at → LineEnded sheet x b line part d at e t r
   malformed-ends j s sv l o w =
       let m = serves-matches sheet x b (held s j) sv in
       record { text = line_refusal (malformed_rule b) line; wrote = rw m.shut at (placed-wrote w); ends = rw o (λ ls. unread l) }
 
   -- it goes on
-  module _ (o : r.over ≡ false) (n : r.line ≡ next_line line) where
-    pub blank-ends : asks x b part ≡ blank → Serves sheet x b (held t r.record) → Wrote d at [] e r.at → LineEnded sheet x b line part d at e t r
+  module _ (p : Place) (o : r.next ≡ Some p) (n : p.line ≡ next_line line) where
+    pub blank-ends : asks x b part ≡ blank → Serves sheet x b (held t p.record) → Wrote d at [] e r.at → LineEnded sheet x b line part d at e t r
     blank-ends l sv w = record { text = []; wrote = w; ends = rw (o, n) (record { book = b; serves = sv; onward = λ ls u f. passed l f }) }
 
-    pub round-ends : (c : Call) (vs : List Verdict) → asks x b part ≡ calls c → Answered sheet x b c (verdicts vs) (held t r.record)
+    pub round-ends : (c : Call) (vs : List Verdict) → asks x b part ≡ calls c → Answered sheet x b c (verdicts vs) (held t p.record)
         → Placed d at (verdict_line vs) e r.at → LineEnded sheet x b line part d at e t r
     round-ends c vs l a w = record { text = verdict_line vs; wrote = placed-wrote w; ends = rw (o, n) (record { book = a.book; serves = a.serves; onward = λ ls u f. rounded l a.step f }) }
 
-    pub closing-ends : (m : ℕ) (vs : List Verdict) (counts shares : List ℕ) → outputs x ≡ m → counts ≡ r.record.counts → asks x b part ≡ calls closing
-        → Answered sheet x b closing (closed vs (take m shares)) (held t r.record)
+    pub closing-ends : (m : ℕ) (vs : List Verdict) (counts shares : List ℕ) → outputs x ≡ m → counts ≡ p.record.counts → asks x b part ≡ calls closing
+        → Answered sheet x b closing (closed vs (take m shares)) (held t p.record)
         → Placed d at (closing_text m vs (count_at counts) shares) e r.at → LineEnded sheet x b line part d at e t r
     closing-ends m vs counts shares f g l a w =
         let xs : List ℕ = take m shares in
         let tally : ℕ → Verdict → ℕ = counted a.book.told in
-        let ma = serves-matches sheet x a.book (held t r.record) a.serves in
+        let ma = serves-matches sheet x a.book (held t p.record) a.serves in
         let same : tally_lines (count_at counts) shares 0 m ≡ tally_lines tally xs 0 (outputs x) =
         tally-lines-same (count_at counts) tally shares xs 0 m
         (λ j z i. (
@@ -81,5 +83,5 @@ bytes-least true = omega arith
 bytes-least false = omega arith
 
 -- a run that is over asks for nothing more
-pub over_bound : (o c k : Bool) (at to : ℕ) → o ≡ true → to ≤ at + 40 → to + due o c ≤ at + most_bytes k + 8
-over_bound o c k at to e h = rw e (omega (arith, bytes-least k))
+pub over_bound : (r : Ended) (k : Bool) (at : ℕ) → r.next ≡ None → r.at ≤ at + 40 → r.at + due r.next ≤ at + most_bytes k + 8
+over_bound r k at e h = rw e (omega (arith, bytes-least k))

@@ -7,8 +7,8 @@ use Prim.Native.Nat.{ℕ, ◌≤◌}
 use native.Mathlib.Omega.{arith}
 use lib.ListN.{length}
 use Rattle.outcomes.specs.Decided.{Decided}
-use Rattle.outcomes.specs.declared.Outcome.{Outcome}
-use Rattle.outcomes.specs.declared.Outcome.TheVariants.{Accepted, Refused}
+use Rattle.outcomes.specs.Outcome.{Outcome, unbroken}
+use Rattle.std.specs.Prelude.{Ok, Err}
 use Rattle.outcomes.proofs.Decisions.{decided_once, decided-accepted, passed-both}
 use Rattle.sheet.specs.RuleSheet.{RuleSheet}
 use Rattle.sheet.specs.ReadingChecks.{outputs_of}
@@ -31,6 +31,10 @@ use Rattle.claims.specs.Session.{Held, held, round_says, closing_says, SessionSt
 use Rattle.claims.specs.Session as session
 use Rattle.claims.proofs.BookLaws.{step-unique}
 use Rattle.claims.proofs.ThirdDemand.{third_demand}
+use Rattle.circular.specs.Accepted.{IsAccepted}
+use mathlib.Core.HLevel.{Unit-prop}
+use Rattle.std.proofs.Math.Logic.{∥∥₁_elim}
+use Rattle.std.proofs.Props.{props}
 use Rattle.line_end.specs.LineEnd.{Serves, Answered}
 
 -- ---- runs of the book
@@ -77,8 +81,8 @@ module _ (sheet : List ℕ) (x : Sheet) (o : AcceptedSheet sheet x) where
   -- storage that was prepared
   pub serves-prepared : (s t : List ℕ) (p : PrepareAnswer) → storage_words ≤ length s → PrepareCall sheet s t p → Serves sheet (rule_sheet x) empty_book (held t p.record)
   serves-prepared s t p l d cs as' k ss =
-      let fits : Decided (prepare_checks sheet (length s)) Accepted = decided-accepted (sheet_checks sheet) (too_short (length s) ∷ []) Accepted o.decided (inr ((λ h. omega arith), refl)) in
-      let e : p.outcome ≡ Accepted = decided_once (prepare_checks sheet (length s)) p.outcome Accepted d.decided fits in
+      let fits : Decided (prepare_checks sheet (length s)) unbroken = decided-accepted (sheet_checks sheet) (too_short (length s) ∷ []) unbroken o.decided (inr ((λ h. omega arith), refl)) in
+      let e : p.outcome ≡ unbroken = decided_once (prepare_checks sheet (length s)) p.outcome unbroken d.decided fits in
       let z = third_demand sheet s t p d e cs as' k ss in
       subst (λ (y : RuleSheet). (b : Book) × BookRun y empty_book cs as' b × Matches y b k.record) (one-sheet sheet z.0 (rule_sheet x) z.1 o.reads) z.2
 
@@ -89,8 +93,8 @@ pub round-kept : (sheet s t : List ℕ) (r : JournalRecord) (letters : ℕ) (a :
 round-kept sheet s t r letters a d = go a.outcome d.result
   where
     go : (o : Outcome) → Rounds sheet s t r letters a o → when_accepted o (a.record.closed ≡ r.closed)
-    go Accepted w = w.2.closed
-    go (Refused e) w = tt
+    go (Ok _) w = w.2.closed
+    go (Err e) w = tt
 
 -- a closing that is accepted found the journal open
 pub closing-kept : (sheet s : List ℕ) (r : JournalRecord) (a : ClosingAnswer) → CloseCall sheet s r a
@@ -99,7 +103,23 @@ closing-kept sheet s r a d = go a.outcome d.decided d.result
   where
     go : (o : Outcome) → Decided (closing_checks sheet (length s) r) o → Closes sheet s r a o
         → when_accepted o ((r.closed ≡ false) × (a.record.closed ≡ true) × (a.record.counts ≡ r.counts) × (length a.shares ≡ 7))
-    go Accepted h w =
+    go (Ok _) h w =
         let y = closing_ready (outputs_of sheet) (length s) r (passed-both (sheet_checks sheet) (closing_rules (outputs_of sheet) (length s) r) h).1 in
         (y.shut, w.2.closed, w.2.counts, w.2.shares.size)
-    go (Refused e) h w = tt
+    go (Err e) h w = tt
+
+-- ---- and with a sheet that some bytes were accepted as
+
+when_prop : (o : Outcome) {X : Type 0} → IsProp X → IsProp (when_accepted o X)
+when_prop (Ok _) p = p
+when_prop (Err e) p = Unit-prop
+
+module _ (x : Sheet) (accepted : ∥ IsAccepted x ∥₁) (s : List ℕ) (r : JournalRecord) where
+  pub accepted-round : (t : List ℕ) (letters : ℕ) (a : RoundAnswer) → ((bs : List ℕ) → AcceptedSheet bs x → RoundCall bs s t r letters a)
+      → when_accepted a.outcome (a.record.closed ≡ r.closed)
+  accepted-round t letters a f =
+      ∥∥₁_elim accepted (when_prop a.outcome (hlevel props)) (λ y. round-kept y.0 s t r letters a (f y.0 y.1))
+
+  pub accepted-closing : (a : ClosingAnswer) → ((bs : List ℕ) → AcceptedSheet bs x → CloseCall bs s r a)
+      → when_accepted a.outcome ((r.closed ≡ false) × (a.record.closed ≡ true) × (a.record.counts ≡ r.counts) × (length a.shares ≡ 7))
+  accepted-closing a f = ∥∥₁_elim accepted (when_prop a.outcome (hlevel props)) (λ y. closing-kept y.0 s r a (f y.0 y.1))

@@ -1,10 +1,10 @@
 -- What the program writes, said by the book (01, "The journal program"; 02, W3).
 -- Manual: "The program".
-use Rattle.std.specs.Prelude.{◌≡◌, cond, List, [], ◌∷◌, ◌++◌, ℕ, ◌+◌, ltb}
+use Rattle.std.specs.Prelude.{◌≡◌, cond, List, [], ◌∷◌, ◌++◌, ℕ, ◌+◌, ltb, Err}
 use Rattle.outcomes.specs.Decided.{Decided}
 use Rattle.outcomes.specs.declared.Refusal.{Refusal}
 use Rattle.outcomes.specs.declared.Refusal.TheVariants.{Closed, Line}
-use Rattle.outcomes.specs.declared.Outcome.TheVariants.{Accepted, Refused}
+use Rattle.outcomes.specs.Outcome.{unbroken}
 use Rattle.outcomes.specs.declared.Verdict.{Verdict}
 use Rattle.sheet.specs.RuleSheet.{RuleSheet, outputs, accepted, read_sheet}
 use Rattle.circular.specs.SheetChecks.{sheet_checks}
@@ -35,6 +35,6 @@ pub data Written (x : RuleSheet) : Book → ℕ → List (List ℕ) → List ℕ
 
 -- What is written for the bytes of a sheet and all bytes of standard input.
 pub data Printed (sheet input : List ℕ) : List ℕ → Type 0 where
-  refused_sheet : (r : Refusal) → Decided (sheet_checks sheet) (Refused r) → Printed sheet input (sheet_refusal r)
-  journal : {x : RuleSheet} {t : List ℕ} → Decided (sheet_checks sheet) Accepted → read_sheet sheet ≡ accepted x
+  refused_sheet : (r : Refusal) → Decided (sheet_checks sheet) (Err r) → Printed sheet input (sheet_refusal r)
+  journal : {x : RuleSheet} {t : List ℕ} → Decided (sheet_checks sheet) unbroken → read_sheet sheet ≡ accepted x
       → Written x empty_book 1 (lines_of input) t → Printed sheet input t

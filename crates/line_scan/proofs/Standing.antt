@@ -13,8 +13,10 @@ use Rattle.letters.specs.Sets.{bad_set}
 use Rattle.letters.proofs.SetLaws.{bad_within}
 use Rattle.claims.specs.Book.{round, closing}
 use Rattle.line_scan.specs.Lines.{alternatives_from, alternatives, all_whole, fits_one, line_set, is_dot, blank, calls, malformed, read_line}
-use Rattle.line_scan.specs.Scan.{joined, Parted, Marked, Spoiled}
-use Rattle.line_scan.specs.declared.Alternatives.{Alternatives}
+use Rattle.line_scan.specs.Scan.{joined, Parted, Marked, Spoiled, Scanned}
+use Rattle.line_scan.specs.declared.Pending.{Pending}
+use Rattle.line_scan.specs.declared.Pending.TheVariants.{Blank, Marks, Dot, Malformed}
+use Rattle.line_scan.specs.declared.kept.Alternatives.{Alternatives}
 use Rattle.line_scan.proofs.Fitting.{some_alternative, some-letter}
 use Rattle.line_scan.proofs.Scanning.{read_bad, bad_behind, all_whole_lem, joined-set}
 
@@ -70,6 +72,13 @@ module _ (m : ℕ) (part : List ℕ) where
   pub spoiled-some : Spoiled m part → part ≡ [] → ⊥
   unfolding read_line
   spoiled-some h e = let z : blank ≡ malformed = rw e at (h []) in true≢false cc
+
+-- what is not blank has a byte
+pub some_byte : (m : ℕ) (part : List ℕ) (p : Pending) → (p ≡ Blank → ⊥) → Scanned m part p → part ≡ [] → ⊥
+some_byte m part Blank n h = absurd (n refl)
+some_byte m part (Marks q) n h = marked-some m part q h
+some_byte m part Dot n h = dot-some m part h
+some_byte m part Malformed n h = spoiled-some m part h
 
 -- ---- no line stands for a set that rule 21 refuses
 

@@ -2,21 +2,14 @@
 #![tactic(auto)]
 
 ghost use Rattle.std.specs.Prelude.{◌≡◌, true, false, List, [], ◌∷◌, ◌++◌, ℕ, ◌≤◌, ◌<◌, length};
-ghost use Rattle.letter_table.specs.Entry.{Sets};
 ghost use Rattle.line_scan.specs.Lines.{is_mark, read_line, all_letters, asked};
 ghost use Rattle.line_scan.specs.Index.{mark_digit};
-ghost use Rattle.line_scan.specs.Scan.{Indexed, InTable, no_marks, joined, Parted, Marked, Scanned};
+ghost use Rattle.line_scan.specs.Scan.{IsFresh, joined, Parted, Marked, Scanned};
 ghost use Rattle.line_scan.specs.Meaning.{line_of};
 
-// The letters that fit one of the alternatives that a bar ended. Of the one at hand: how many marks it has, their index in the table of letter
-// sets, and what a digit of the next mark counts there, 3 to the number of marks.
-#[derive(Clone, Copy)]
-pub struct Alternatives {
-    pub set: u64,
-    pub count: u8,
-    pub index: u16,
-    pub place: u16,
-}
+mod kept; // kept.rt: what is kept of a line's alternatives
+
+pub use kept::{Alternatives, Lookup};
 
 // What the bytes of a line are: none; marks and bars; a lone dot; or the beginning of no line that is well formed.
 #[derive(Clone, Copy)]
@@ -39,12 +32,7 @@ pub enum Meaning {
 fn is_mark(b: u8) -> bool
     ensures { result ≡ is_mark b }
 {
-    match b {
-        b'0' => true,
-        b'1' => true,
-        b'?' => true,
-        _ => false,
-    }
+    matches!(b, b'0' | b'1' | b'?')
 }
 
 // The digit of a mark. The compiler makes no branch of these cases; a processor couldn't foresee it.
@@ -61,8 +49,7 @@ fn mark_digit(b: u8) -> u16
 impl Alternatives {
     // No byte of an alternative has come; of the alternatives before it, this is the set.
     fn after(set: u64) -> Alternatives
-        ensures fields { result ≡ no_marks set }
-        ensures indexed { Indexed result }
+        ensures { IsFresh set result }
     {
         Alternatives {
             set,
@@ -74,9 +61,8 @@ impl Alternatives {
 
     // One mark more.
     fn mark(self, b: u8) -> Pending
-        requires { Indexed self × (self.count < 6) }
-        ensures scanned { (m : ℕ) (part : List ℕ) → self.count < m → (b ≡ 124 → ⊥) → (length part ≡ 0 → b ≡ 46 → ⊥) → Parted m part self → Scanned m (part ++ b ∷ []) result }
-        ensures in_table { InTable result }
+        requires { self.count < 6 }
+        ensures { (m : ℕ) (part : List ℕ) → self.count < m → (b ≡ 124 → ⊥) → (length part ≡ 0 → b ≡ 46 → ⊥) → Parted m part self → Scanned m (part ++ b ∷ []) result }
     {
         if !is_mark(b) {
             return Pending::Malformed;
@@ -90,41 +76,37 @@ impl Alternatives {
         })
     }
 
-    // One byte more, of a line of m inputs.
-    fn byte(self, table: &[u64], m: u8, b: u8) -> Pending
-        requires { Sets table.now × Indexed self × (m ≤ 6) }
-        ensures scanned { (part : List ℕ) → (length part ≡ 0 → b ≡ 46 → ⊥) → Parted m part self → Scanned m (part ++ b ∷ []) result }
-        ensures in_table { InTable result }
+    // One byte more.
+    fn byte(self, by: Lookup, b: u8) -> Pending
+        ensures { (part : List ℕ) → (length part ≡ 0 → b ≡ 46 → ⊥) → Parted by.entry.inputs part self → Scanned by.entry.inputs (part ++ b ∷ []) result }
     {
         if b == b'|' {
-            if self.count != m {
+            if self.count != by.inputs {
                 return Pending::Malformed;
             }
-            return Pending::Marks(Alternatives::after(self.line_set(table)));
+            return Pending::Marks(Alternatives::after(self.line_set(by)));
         }
-        if m <= self.count {
+        if by.inputs <= self.count {
             return Pending::Malformed;
         }
         self.mark(b)
     }
 
     // The set of all alternatives so far, that of the one at hand being looked up.
-    fn line_set(self, table: &[u64]) -> u64
-        requires { Sets table.now × Indexed self }
+    fn line_set(self, by: Lookup) -> u64
         ensures { result ≡ joined self }
     {
-        self.set | letter_table::entry(table, self.index as usize)
+        self.set | by.table.entry(usize::from(self.index))
     }
 
     // The line ends here: it stands for a round, or is too short for one behind its last bar.
-    fn ended(self, table: &[u64], m: u8) -> Meaning
-        requires { Sets table.now × Indexed self × (m ≤ 6) }
-        ensures { (part : List ℕ) → Marked m part self → read_line m part ≡ line_of result }
+    fn ended(self, by: Lookup) -> Meaning
+        ensures { (part : List ℕ) → Marked by.entry.inputs part self → read_line by.entry.inputs part ≡ line_of result }
     {
-        if self.count != m {
+        if self.count != by.inputs {
             return Meaning::Malformed;
         }
-        Meaning::Round(self.line_set(table))
+        Meaning::Round(self.line_set(by))
     }
 }
 
@@ -143,23 +125,15 @@ impl Meaning {
         ensures { asked m closed (line_of self) ≡ line_of result }
     {
         match self {
-            Meaning::Blank => {
-                if closed {
-                    return Meaning::Blank;
-                }
-                Meaning::Round(all_letters(m))
-            }
-            Meaning::Round(letters) => Meaning::Round(letters),
-            Meaning::Closing => Meaning::Closing,
-            Meaning::Malformed => Meaning::Malformed,
+            Meaning::Blank if !closed => Meaning::Round(all_letters(m)),
+            other => other,
         }
     }
 }
 
 impl Pending {
     pub fn empty() -> Pending
-        ensures scanned { (m : ℕ) → Scanned m [] result }
-        ensures in_table { InTable result }
+        ensures { (m : ℕ) → Scanned m [] result }
     {
         Pending::Blank
     }
@@ -169,51 +143,38 @@ impl Pending {
         ensures yes { result ≡ true → (m : ℕ) (part : List ℕ) → Scanned m part self → part ≡ [] }
         ensures no { result ≡ false → (m : ℕ) (part : List ℕ) → Scanned m part self → part ≡ [] → ⊥ }
     {
-        match self {
-            Pending::Blank => true,
-            Pending::Marks(_) => false,
-            Pending::Dot => false,
-            Pending::Malformed => false,
-        }
+        matches!(self, Pending::Blank)
     }
 
-    // One byte more, of a line of m inputs.
-    pub fn scan(self, table: &[u64], m: u8, b: u8) -> Pending
-        requires { Sets table.now × InTable self × (m ≤ 6) }
-        ensures scanned { (part : List ℕ) → Scanned m part self → Scanned m (part ++ b ∷ []) result }
-        ensures in_table { InTable result }
+    // One byte more.
+    pub fn scan(self, by: Lookup, b: u8) -> Pending
+        ensures { (part : List ℕ) → Scanned by.entry.inputs part self → Scanned by.entry.inputs (part ++ b ∷ []) result }
     {
         match self {
-            Pending::Blank => {
-                if b == b'.' {
-                    return Pending::Dot;
-                }
-                Alternatives::after(0).byte(table, m, b)
-            }
-            Pending::Marks(q) => q.byte(table, m, b),
+            Pending::Blank if b == b'.' => Pending::Dot,
+            Pending::Blank => Alternatives::after(0).byte(by, b),
+            Pending::Marks(q) => q.byte(by, b),
             Pending::Dot => Pending::Malformed,
             Pending::Malformed => Pending::Malformed,
         }
     }
 
-    // The line, of m inputs, ends here.
-    fn ended(self, table: &[u64], m: u8) -> Meaning
-        requires { Sets table.now × InTable self × (m ≤ 6) }
-        ensures { (part : List ℕ) → Scanned m part self → read_line m part ≡ line_of result }
+    // The line ends here.
+    fn ended(self, by: Lookup) -> Meaning
+        ensures { (part : List ℕ) → Scanned by.entry.inputs part self → read_line by.entry.inputs part ≡ line_of result }
     {
         match self {
             Pending::Blank => Meaning::Blank,
-            Pending::Marks(q) => q.ended(table, m),
+            Pending::Marks(q) => q.ended(by),
             Pending::Dot => Meaning::Closing,
             Pending::Malformed => Meaning::Malformed,
         }
     }
 
-    // What the line, of m inputs, asks of a journal that is closed or not if it ends here.
-    pub fn asked(self, table: &[u64], m: u8, closed: bool) -> Meaning
-        requires { Sets table.now × InTable self × (m ≤ 6) }
-        ensures { (part : List ℕ) → Scanned m part self → asked m closed (read_line m part) ≡ line_of result }
+    // What the line asks of a journal that is closed or not if it ends here.
+    pub fn asked(self, by: Lookup, closed: bool) -> Meaning
+        ensures { (part : List ℕ) → Scanned by.entry.inputs part self → asked by.entry.inputs closed (read_line by.entry.inputs part) ≡ line_of result }
     {
-        self.ended(table, m).asked(m, closed)
+        self.ended(by).asked(by.inputs, closed)
     }
 }

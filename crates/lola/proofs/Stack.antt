@@ -1,12 +1,11 @@
 -- The stack of bits in one word follows the stack of trees.
+use Rattle.std.specs.Prelude.{Ok, Err}
 use mathlib.Core.Path.{◌≡◌, refl, ap, ◌∙◌}
 use mathlib.Core.Bool.{Bool, true, false, cond, not, ◌&&◌, ◌||◌, beq}
 use mathlib.Core.List.{List, [], ◌∷◌}
 use Prim.Native.Nat.{ℕ, suc, ◌+◌, ◌-◌, ◌*◌, ◌/◌, ◌%◌, ◌^◌, ◌≤◌, ◌<◌}
 use native.Mathlib.Numerals.{add-one}
 use native.Mathlib.Omega.{arith}
-use native.Mathlib.Decide.{ℕ_discrete}
-use lib.Bits.{bit_xor, differ, xor_step, xor_zero_r}
 use lib.Dec.{ltb, eqb}
 use lib.ListN.{length, drop, get_or, drop_of_length-le}
 use lib.Seq.{drop-cons}
@@ -15,13 +14,12 @@ use Rattle.outcomes.specs.declared.Refusal.TheVariants.{Byte, Values}
 use Rattle.words.specs.Bits.{bit}
 use Rattle.words.specs.Below.{one}
 use Rattle.words.proofs.BitLaws.{digit-of}
-use Rattle.sheet.specs.Bytes.{op_of, read_of}
+use Rattle.sheet.specs.Bytes.{op_of, read_of, Decoded}
 use Rattle.sheet.specs.Expression.{Expr, constant, negation, conjunction, disjunction, equality, read, stack, breaks, tree, apply_op, final, go_on, parse}
 use Rattle.sheet.specs.declared.Grammar.{Grammar}
 use Rattle.sheet.specs.declared.Offset.{Offset}
 use Rattle.sheet.specs.declared.Offset.TheVariants.{Earlier, Now, Later}
-use Rattle.sheet.specs.declared.Op.{Op}
-use Rattle.sheet.specs.declared.Op.TheVariants.{Const, Not, And, Or, Equal, Read, Rejected}
+use Rattle.sheet.specs.declared.Op.TheVariants.{Const, Not, And, Or, Equal, Read}
 use Rattle.sheet.proofs.Ops.{op-cases}
 use Rattle.sheet.proofs.Sheets.{no_tree, at-equal}
 use Rattle.lola.specs.Value.{Look, value}
@@ -34,14 +32,14 @@ number look (x ∷ st) = one (value look x) + 2 * number look st
 
 -- ---- what a byte's operation says of the byte
 
-abbrev Means : ℕ → ℕ → Op → Type 0
-Means env b (Const v) = (b < 2) × (b ≡ one v)
-Means env b Not = b ≡ 2
-Means env b And = b ≡ 3
-Means env b Or = b ≡ 4
-Means env b Equal = b ≡ 5
-Means env b (Read q o d) = (0x40 ≤ b) × (b < 0x70) × (slots env q.0 o d ≡ bit (b - 0x40) env)
-Means env b (Rejected r) = Unit {0}
+abbrev Means : ℕ → ℕ → Decoded → Type 0
+Means env b (Ok (Const v)) = (b < 2) × (b ≡ one v)
+Means env b (Ok Not) = b ≡ 2
+Means env b (Ok And) = b ≡ 3
+Means env b (Ok Or) = b ≡ 4
+Means env b (Ok Equal) = b ≡ 5
+Means env b (Ok (Read q o d)) = (0x40 ≤ b) × (b < 0x70) × (slots env q.0 o d ≡ bit (b - 0x40) env)
+Means env b (Err r) = Unit {0}
 
 -- a read of one of the five families, whose byte is lo + q, is at the place k + q of the word, where k = lo - 0x40
 family : (env lo hi k b : ℕ) (o : Offset) (d : Bool) → ((q : ℕ) → slots env q o d ≡ bit (k + q) env) → lo ≡ 0x40 + k → hi ≤ 0x6F → lo ≤ b → b ≤ hi
@@ -60,14 +58,6 @@ op_means env b =
     tt
 
 -- ---- the operators on the lowest digits
-
--- the lowest digit turned over
-pub xor-one : (w : ℕ) → bit_xor w 1 ≡ w + 1 - 2 * (w % 2)
-xor-one w = xor_step w 1 ∙ ap (λ (n : ℕ). n * 2 + differ (w % 2) 1) (xor_zero_r (w / 2)) ∙ go (ℕ_discrete (w % 2) 0)
-  where
-    go : Dec (w % 2 ≡ 0) → w / 2 * 2 + differ (w % 2) 1 ≡ w + 1 - 2 * (w % 2)
-    go (yes e) = ap (λ (d : ℕ). w / 2 * 2 + differ d 1) e ∙ omega arith
-    go (no n) = let e : w % 2 ≡ 1 = omega arith in ap (λ (d : ℕ). w / 2 * 2 + differ d 1) e ∙ omega arith
 
 not_low : (x : Bool) (n w r : ℕ) → w ≡ one x + 2 * n → r ≡ w + 1 - 2 * (w % 2) → r ≡ one (not x) + 2 * n
 not_low true n w r h e = omega arith
@@ -105,31 +95,31 @@ pub record Stacked (look : Look) (s : Grammar) (t : Expr) (rest : List ℕ) (w :
   pub same : w ≡ number look trees
 
 module _ (env : ℕ) (s : Grammar) (t : Expr) (b : ℕ) (bs : List ℕ) (w r : ℕ) (does : Works env w b r) where
-  by-op : (op : Op) → Means env b op → (st : List Expr) → w ≡ number (slots env) st → go_on (apply_op s op st) (λ st'. parse s st' bs) ≡ tree t
+  by-op : (op : Decoded) → Means env b op → (st : List Expr) → w ≡ number (slots env) st → go_on (apply_op s op st) (λ st'. parse s st' bs) ≡ tree t
       → Stacked (slots env) s t bs r
   unfolding apply_op number value
-  by-op (Const v) m st e h =
+  by-op (Ok (Const v)) m st e h =
       record { trees = constant v ∷ st; left = h; same = omega (arith, does.const m.0, m.1) }
-  by-op Not m [] e h = absurd (no_tree Values t h)
-  by-op Not m (x ∷ st) e h =
+  by-op (Ok Not) m [] e h = absurd (no_tree Values t h)
+  by-op (Ok Not) m (x ∷ st) e h =
       record { trees = negation x ∷ st; left = h; same = not_low (value (slots env) x) (number (slots env) st) w r e (does.not m) }
-  by-op And m [] e h = absurd (no_tree Values t h)
-  by-op And m (y ∷ []) e h = absurd (no_tree Values t h)
-  by-op And m (y ∷ (x ∷ st)) e h =
+  by-op (Ok And) m [] e h = absurd (no_tree Values t h)
+  by-op (Ok And) m (y ∷ []) e h = absurd (no_tree Values t h)
+  by-op (Ok And) m (y ∷ (x ∷ st)) e h =
       record {
         trees = conjunction x y ∷ st;
         left = h;
         same = and_low (value (slots env) y) (value (slots env) x) (number (slots env) st) w r e (does.and m);
       }
-  by-op Or m [] e h = absurd (no_tree Values t h)
-  by-op Or m (y ∷ []) e h = absurd (no_tree Values t h)
-  by-op Or m (y ∷ (x ∷ st)) e h =
+  by-op (Ok Or) m [] e h = absurd (no_tree Values t h)
+  by-op (Ok Or) m (y ∷ []) e h = absurd (no_tree Values t h)
+  by-op (Ok Or) m (y ∷ (x ∷ st)) e h =
       record {
         trees = disjunction x y ∷ st;
         left = h;
         same = or-low (value (slots env) y) (value (slots env) x) (number (slots env) st) w r e (does.or m);
       }
-  by-op Equal m st e h =
+  by-op (Ok Equal) m st e h =
       at-equal s (λ st'. parse s st' bs) t (λ st'. w ≡ number (slots env) st' → Stacked (slots env) s t bs r)
       (λ v y x st' k e'. record {
         trees = equality x y ∷ st';
@@ -137,7 +127,7 @@ module _ (env : ℕ) (s : Grammar) (t : Expr) (b : ℕ) (bs : List ℕ) (w r : �
         same = equal-low (value (slots env) y) (value (slots env) x) (number (slots env) st') w r e' (does.equal m);
       })
       st h e
-  by-op (Read q o d) m st e h = go (ltb q.0 s.streams) h
+  by-op (Ok (Read q o d)) m st e h = go (ltb q.0 s.streams) h
     where
       go : (u : Bool) → go_on (cond u (stack (read q.0 o d ∷ st)) (breaks Byte)) (λ st'. parse s st' bs) ≡ tree t → Stacked (slots env) s t bs r
       go true k =
@@ -147,7 +137,7 @@ module _ (env : ℕ) (s : Grammar) (t : Expr) (b : ℕ) (bs : List ℕ) (w r : �
             same = omega (arith, does.read m.0 m.1, digit-of (b - 0x40) env, ap one m.2);
           }
       go false k = absurd (no_tree Byte t k)
-  by-op (Rejected f) m st e h = absurd (no_tree f t h)
+  by-op (Err f) m st e h = absurd (no_tree f t h)
 
   pub next : Stacked (slots env) s t (b ∷ bs) w → Stacked (slots env) s t bs r
   unfolding parse

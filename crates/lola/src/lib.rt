@@ -14,31 +14,30 @@ fn step_bit(env: u64, stack: u64, byte: u8) -> u64
     requires { stack < 2 ^ 63 }
     ensures { Works env stack byte result }
 {
+    // Most bytes are reads: they are asked for first, as a match asks for a range last.
     if 0x40 <= byte {
         return stack * 2 + (env >> (byte % 64)) % 2;
     }
-    if byte == 2 {
-        return stack ^ 1;
+    match byte {
+        2 => stack ^ 1,
+        3 => {
+            if stack % 2 == 1 {
+                stack / 2
+            } else {
+                stack / 4 * 2
+            }
+        }
+        4 => {
+            if stack % 2 == 0 {
+                stack / 2
+            } else {
+                stack / 4 * 2 + 1
+            }
+        }
+        // 05: of the bytes that an expression may have below 40, no other is above 4.
+        5.. => stack / 4 * 2 + (stack % 2 + stack / 2 % 2 + 1) % 2,
+        0 | 1 => stack * 2 + u64::from(byte),
     }
-    if byte == 3 {
-        return if stack % 2 == 1 {
-            stack / 2
-        } else {
-            stack / 4 * 2
-        };
-    }
-    if byte == 4 {
-        return if stack % 2 == 0 {
-            stack / 2
-        } else {
-            stack / 4 * 2 + 1
-        };
-    }
-    // 05: of the bytes that an expression may have below 40, no other is above 4.
-    if 4 < byte {
-        return stack / 4 * 2 + (stack % 2 + stack / 2 % 2 + 1) % 2;
-    }
-    stack * 2 + words::wide(byte % 2)
 }
 
 // The value of an expression whose reads are the bits of `env`.
@@ -46,11 +45,9 @@ pub fn value_bit(env: u64, e: &[u8]) -> bool
     requires { length e.now ≤ 64 }
     ensures { (s : Grammar) (t : Expr) → parse s [] e.now ≡ tree t → result ≡ value (slots env) t }
 {
-    let mut stack: u64 = 0;
-    let mut i: usize = 0;
-    while i < e.len() {
-        stack = step_bit(env, stack, e[i]);
-        i += 1;
+    let mut stack = 0;
+    for byte in e {
+        stack = step_bit(env, stack, *byte);
     }
     stack % 2 == 1
 }

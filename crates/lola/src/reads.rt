@@ -10,7 +10,7 @@ use sheet::Offset;
 fn byte_read(byte: u8) -> u64
     ensures { (k : ℕ) → bit k result ≡ (eqb (byte / 64 % 2) 1 && eqb k (byte % 64)) }
 {
-    let b = byte as u64;
+    let b = u64::from(byte);
     (b / 64 % 2) << (b % 64)
 }
 
@@ -18,11 +18,9 @@ fn byte_read(byte: u8) -> u64
 pub fn expression_reads(e: &[u8]) -> u64
     ensures { ReadsOf e.now result }
 {
-    let mut word: u64 = 0;
-    let mut i: usize = 0;
-    while i < e.len() {
-        word = word | byte_read(e[i]);
-        i += 1;
+    let mut word = 0;
+    for byte in e {
+        word |= byte_read(*byte);
     }
     word
 }

@@ -7,8 +7,8 @@ use Rattle.outcomes.specs.Numbers.{untold}
 use Rattle.outcomes.specs.Decided.{Decided}
 use Rattle.outcomes.specs.declared.Refusal.{Refusal}
 use Rattle.outcomes.specs.declared.Refusal.TheVariants.{Storage}
-use Rattle.outcomes.specs.declared.Outcome.{Outcome}
-use Rattle.outcomes.specs.declared.Outcome.TheVariants.{Accepted, Refused}
+use Rattle.outcomes.specs.Outcome.{Outcome, unbroken}
+use Rattle.std.specs.Prelude.{Err}
 use Rattle.outcomes.proofs.Decisions.{decided-refused}
 use Rattle.sheet.specs.ReadingChecks.{inputs_of, outputs_of}
 use Rattle.sheet.specs.Reading.{rule_sheet}
@@ -36,58 +36,58 @@ module _ (bs : List ℕ) (x : Sheet) (ok : AcceptedSheet bs x) where
 
 -- ---- calls that are refused, by any of their checks
 
-pub prepare_refused : (bs s : List ℕ) (a : PrepareAnswer) (e : Refusal) → (a.outcome ≡ Refused e) × Fresh a.record × (a.live ≡ 0) × (a.reach ≡ 0)
-    → Decided (prepare_checks bs (length s)) (Refused e) → PrepareCall bs s s a
+pub prepare_refused : (bs s : List ℕ) (a : PrepareAnswer) (e : Refusal) → (a.outcome ≡ Err e) × Fresh a.record × (a.live ≡ 0) × (a.reach ≡ 0)
+    → Decided (prepare_checks bs (length s)) (Err e) → PrepareCall bs s s a
 prepare_refused bs s a e p d = record { decided = rw p.0 d; result = subst (Prepares bs s s a) (sym p.0) (refl, p.1, p.2, p.3) }
 
-pub round_refused : (bs s : List ℕ) (r : JournalRecord) (letters : ℕ) (a : RoundAnswer) (e : Refusal) → (a.outcome ≡ Refused e) × (a.record ≡ r) × (a.verdicts ≡ replicate 7 untold)
-    → Decided (round_checks bs (length s) r letters) (Refused e) → RoundCall bs s s r letters a
+pub round_refused : (bs s : List ℕ) (r : JournalRecord) (letters : ℕ) (a : RoundAnswer) (e : Refusal) → (a.outcome ≡ Err e) × (a.record ≡ r) × (a.verdicts ≡ replicate 7 untold)
+    → Decided (round_checks bs (length s) r letters) (Err e) → RoundCall bs s s r letters a
 round_refused bs s r letters a e p d = record { decided = rw p.0 d; result = subst (Rounds bs s s r letters a) (sym p.0) (refl, p.1, p.2) }
 
-pub closing_refused : (bs s : List ℕ) (r : JournalRecord) (a : ClosingAnswer) (e : Refusal) → (a.outcome ≡ Refused e) × (a.record ≡ r) × (a.verdicts ≡ replicate 7 untold) × (a.shares ≡ replicate 7 0)
-    → Decided (closing_checks bs (length s) r) (Refused e) → CloseCall bs s r a
+pub closing_refused : (bs s : List ℕ) (r : JournalRecord) (a : ClosingAnswer) (e : Refusal) → (a.outcome ≡ Err e) × (a.record ≡ r) × (a.verdicts ≡ replicate 7 untold) × (a.shares ≡ replicate 7 0)
+    → Decided (closing_checks bs (length s) r) (Err e) → CloseCall bs s r a
 closing_refused bs s r a e p d = record { decided = rw p.0 d; result = subst (Closes bs s r a) (sym p.0) (p.1, p.2, p.3) }
 
 -- by one of the sheet's own
-pub prepare_unread : (bs : List ℕ) (lent : ℕ) (e : Refusal) → Decided (sheet_checks bs) (Refused e) → Decided (prepare_checks bs lent) (Refused e)
+pub prepare_unread : (bs : List ℕ) (lent : ℕ) (e : Refusal) → Decided (sheet_checks bs) (Err e) → Decided (prepare_checks bs lent) (Err e)
 prepare_unread bs lent e d = decided-refused (sheet_checks bs) (too_short lent ∷ []) e d
 
-pub round-unread : (bs : List ℕ) (lent : ℕ) (r : JournalRecord) (letters : ℕ) (e : Refusal) → Decided (sheet_checks bs) (Refused e) → Decided (round_checks bs lent r letters) (Refused e)
+pub round-unread : (bs : List ℕ) (lent : ℕ) (r : JournalRecord) (letters : ℕ) (e : Refusal) → Decided (sheet_checks bs) (Err e) → Decided (round_checks bs lent r letters) (Err e)
 round-unread bs lent r letters e d = decided-refused (sheet_checks bs) (round_rules (inputs_of bs) (outputs_of bs) lent r letters) e d
 
-pub closing-unread : (bs : List ℕ) (lent : ℕ) (r : JournalRecord) (e : Refusal) → Decided (sheet_checks bs) (Refused e) → Decided (closing_checks bs lent r) (Refused e)
+pub closing-unread : (bs : List ℕ) (lent : ℕ) (r : JournalRecord) (e : Refusal) → Decided (sheet_checks bs) (Err e) → Decided (closing_checks bs lent r) (Err e)
 closing-unread bs lent r e d = decided-refused (sheet_checks bs) (closing_rules (outputs_of bs) lent r) e d
 
 -- ---- calls with a sheet that is accepted
 
 module _ (bs : List ℕ) (x : Sheet) (ok : AcceptedSheet bs x) where
-  pub too_short_lem : (s : List ℕ) (a : PrepareAnswer) → (a.outcome ≡ Refused Storage) × Fresh a.record × (a.live ≡ 0) × (a.reach ≡ 0) → Decided (too_short (length s) ∷ []) (Refused Storage) → PrepareCall bs s s a
-  too_short_lem s a p d = prepare_refused bs s a Storage p (behind-sheet bs x ok (too_short (length s) ∷ []) (Refused Storage) d)
+  pub too_short_lem : (s : List ℕ) (a : PrepareAnswer) → (a.outcome ≡ Err Storage) × Fresh a.record × (a.live ≡ 0) × (a.reach ≡ 0) → Decided (too_short (length s) ∷ []) (Err Storage) → PrepareCall bs s s a
+  too_short_lem s a p d = prepare_refused bs s a Storage p (behind-sheet bs x ok (too_short (length s) ∷ []) (Err Storage) d)
 
-  pub prepare-done : (s t : List ℕ) (a : PrepareAnswer) → a.outcome ≡ Accepted → Decided (too_short (length s) ∷ []) Accepted → Prepared (rule_sheet x) s t a → PrepareCall bs s t a
+  pub prepare-done : (s t : List ℕ) (a : PrepareAnswer) → a.outcome ≡ unbroken → Decided (too_short (length s) ∷ []) unbroken → Prepared (rule_sheet x) s t a → PrepareCall bs s t a
   prepare-done s t a e d p = record {
-    decided = rw e (behind-sheet bs x ok (too_short (length s) ∷ []) Accepted d);
+    decided = rw e (behind-sheet bs x ok (too_short (length s) ∷ []) unbroken d);
     result = subst (Prepares bs s t a) (sym e) (rule_sheet x, ok.reads, p);
   }
 
   module _ (r : JournalRecord) (letters : ℕ) where
-    pub round-turned-down : (s : List ℕ) (a : RoundAnswer) (e : Refusal) → (a.outcome ≡ Refused e) × (a.record ≡ r) × (a.verdicts ≡ replicate 7 untold)
-        → Decided (round_rules x.inputs x.outputs (length s) r letters) (Refused e) → RoundCall bs s s r letters a
-    round-turned-down s a e p d = round_refused bs s r letters a e p (round-checks bs x ok (length s) r letters (Refused e) d)
+    pub round-turned-down : (s : List ℕ) (a : RoundAnswer) (e : Refusal) → (a.outcome ≡ Err e) × (a.record ≡ r) × (a.verdicts ≡ replicate 7 untold)
+        → Decided (round_rules x.inputs x.outputs (length s) r letters) (Err e) → RoundCall bs s s r letters a
+    round-turned-down s a e p d = round_refused bs s r letters a e p (round-checks bs x ok (length s) r letters (Err e) d)
 
-    pub round-done : (s t : List ℕ) (a : RoundAnswer) → a.outcome ≡ Accepted
-        → Decided (round_rules x.inputs x.outputs (length s) r letters) Accepted → RoundDone (rule_sheet x) s t r (members letters) a → RoundCall bs s t r letters a
+    pub round-done : (s t : List ℕ) (a : RoundAnswer) → a.outcome ≡ unbroken
+        → Decided (round_rules x.inputs x.outputs (length s) r letters) unbroken → RoundDone (rule_sheet x) s t r (members letters) a → RoundCall bs s t r letters a
     round-done s t a e d p = record {
-      decided = rw e (round-checks bs x ok (length s) r letters Accepted d);
+      decided = rw e (round-checks bs x ok (length s) r letters unbroken d);
       result = subst (Rounds bs s t r letters a) (sym e) (rule_sheet x, ok.reads, p);
     }
 
-  pub closing-turned-down : (r : JournalRecord) (s : List ℕ) (a : ClosingAnswer) (e : Refusal) → (a.outcome ≡ Refused e) × (a.record ≡ r) × (a.verdicts ≡ replicate 7 untold) × (a.shares ≡ replicate 7 0)
-      → Decided (closing_rules x.outputs (length s) r) (Refused e) → CloseCall bs s r a
-  closing-turned-down r s a e p d = closing_refused bs s r a e p (closing-checks bs x ok (length s) r (Refused e) d)
+  pub closing-turned-down : (r : JournalRecord) (s : List ℕ) (a : ClosingAnswer) (e : Refusal) → (a.outcome ≡ Err e) × (a.record ≡ r) × (a.verdicts ≡ replicate 7 untold) × (a.shares ≡ replicate 7 0)
+      → Decided (closing_rules x.outputs (length s) r) (Err e) → CloseCall bs s r a
+  closing-turned-down r s a e p d = closing_refused bs s r a e p (closing-checks bs x ok (length s) r (Err e) d)
 
-  pub closing-done : (r : JournalRecord) (s : List ℕ) (a : ClosingAnswer) → a.outcome ≡ Accepted → Decided (closing_rules x.outputs (length s) r) Accepted → ClosingDone (rule_sheet x) s r a → CloseCall bs s r a
+  pub closing-done : (r : JournalRecord) (s : List ℕ) (a : ClosingAnswer) → a.outcome ≡ unbroken → Decided (closing_rules x.outputs (length s) r) unbroken → ClosingDone (rule_sheet x) s r a → CloseCall bs s r a
   closing-done r s a e d p = record {
-    decided = rw e (closing-checks bs x ok (length s) r Accepted d);
+    decided = rw e (closing-checks bs x ok (length s) r unbroken d);
     result = subst (Closes bs s r a) (sym e) (rule_sheet x, ok.reads, p);
   }

@@ -5,41 +5,40 @@
 ghost use Rattle.std.specs.Prelude.{◌≡◌, List, ℕ, replicate};
 ghost use Rattle.outcomes.specs.Numbers.{untold};
 ghost use Rattle.circular.specs.SheetChecks.{AcceptedSheet};
-ghost use Rattle.circular.specs.Accepted.{IsAccepted};
 ghost use Rattle.record.specs.Record.{Fresh};
 ghost use Rattle.monitor.specs.Entries.{PrepareCall, RoundCall, CloseCall};
 
 use effects::{ClosingAnswer, PrepareAnswer, RoundAnswer};
-use outcomes::{Outcome, Refusal};
+use outcomes::{Refusal, Verdict};
 use record::JournalRecord;
 use sheet::Sheet;
 
 fn refused_round(e: Refusal, r: JournalRecord) -> RoundAnswer
-    ensures { (result.outcome ≡ Outcome.Refused e) × (result.record ≡ r) × (result.verdicts ≡ replicate 7 untold) }
+    ensures { (result.outcome ≡ Err e) × (result.record ≡ r) × (result.verdicts ≡ replicate 7 untold) }
 {
     RoundAnswer {
-        outcome: Outcome::Refused(e),
+        outcome: Err(e),
         record: r,
-        verdicts: outcomes::untold(),
+        verdicts: [Verdict::False; 7],
     }
 }
 
 fn refused_closing(e: Refusal, r: JournalRecord) -> ClosingAnswer
-    ensures { (result.outcome ≡ Outcome.Refused e) × (result.record ≡ r) × (result.verdicts ≡ replicate 7 untold) × (result.shares ≡ replicate 7 0) }
+    ensures { (result.outcome ≡ Err e) × (result.record ≡ r) × (result.verdicts ≡ replicate 7 untold) × (result.shares ≡ replicate 7 0) }
 {
     ClosingAnswer {
-        outcome: Outcome::Refused(e),
+        outcome: Err(e),
         record: r,
-        verdicts: outcomes::untold(),
+        verdicts: [Verdict::False; 7],
         shares: [0; 7],
     }
 }
 
 fn refused_preparation(e: Refusal) -> PrepareAnswer
-    ensures { (result.outcome ≡ Outcome.Refused e) × Fresh result.record × (result.live ≡ 0) × (result.reach ≡ 0) }
+    ensures { (result.outcome ≡ Err e) × Fresh result.record × (result.live ≡ 0) × (result.reach ≡ 0) }
 {
     PrepareAnswer {
-        outcome: Outcome::Refused(e),
+        outcome: Err(e),
         record: JournalRecord::fresh(),
         live: 0,
         reach: 0,
@@ -48,9 +47,8 @@ fn refused_preparation(e: Refusal) -> PrepareAnswer
 
 // ---- Preparation
 
-pub fn prepare_on(x: Sheet, storage: &mut [u64]) -> PrepareAnswer
-    requires { IsAccepted x }
-    ensures { (bs : List ℕ) → AcceptedSheet bs x → PrepareCall bs storage.old storage.new result }
+pub fn prepare_on(x: &Sheet, storage: &mut [u64]) -> PrepareAnswer
+    ensures { (bs : List ℕ) → AcceptedSheet bs x.now → PrepareCall bs storage.old storage.new result }
 {
     let needed = JournalRecord::STORAGE_WORDS;
     if storage.len() < needed {
@@ -63,24 +61,21 @@ pub fn prepare_on(x: Sheet, storage: &mut [u64]) -> PrepareAnswer
 pub fn prepare(sheet: &[u8], storage: &mut [u64]) -> PrepareAnswer
     ensures { PrepareCall sheet.now storage.old storage.new result }
 {
-    let got = circular::accept_sheet(sheet);
-    let outcome = got.outcome;
-    match outcome {
-        Outcome::Refused(e) => refused_preparation(e),
-        Outcome::Accepted => prepare_on(got.sheet, storage),
+    match circular::accept_sheet(sheet) {
+        Ok(x) => prepare_on(&x, storage),
+        Err(e) => refused_preparation(e),
     }
 }
 
 // ---- Rounds
 
-pub fn round_on(x: Sheet, storage: &mut [u64], r: JournalRecord, letters: u64) -> RoundAnswer
-    requires { IsAccepted x }
-    ensures { (bs : List ℕ) → AcceptedSheet bs x → RoundCall bs storage.old storage.new r letters result }
+pub fn round_on(x: &Sheet, storage: &mut [u64], r: JournalRecord, letters: u64) -> RoundAnswer
+    ensures { (bs : List ℕ) → AcceptedSheet bs x.now → RoundCall bs storage.old storage.new r letters result }
 {
     let outcome = checks::check_round(x.inputs, x.outputs, storage.len(), r, letters);
     match outcome {
-        Outcome::Refused(e) => refused_round(e, r),
-        Outcome::Accepted => effects::round(x, storage, r, letters),
+        Ok(()) => effects::round(x, storage, r, letters),
+        Err(e) => refused_round(e, r),
     }
 }
 
@@ -88,24 +83,21 @@ pub fn round_on(x: Sheet, storage: &mut [u64], r: JournalRecord, letters: u64) -
 pub fn round(sheet: &[u8], storage: &mut [u64], before: JournalRecord, letters: u64) -> RoundAnswer
     ensures { RoundCall sheet.now storage.old storage.new before letters result }
 {
-    let got = circular::accept_sheet(sheet);
-    let outcome = got.outcome;
-    match outcome {
-        Outcome::Refused(e) => refused_round(e, before),
-        Outcome::Accepted => round_on(got.sheet, storage, before, letters),
+    match circular::accept_sheet(sheet) {
+        Ok(x) => round_on(&x, storage, before, letters),
+        Err(e) => refused_round(e, before),
     }
 }
 
 // ---- Closing
 
-pub fn close_on(x: Sheet, storage: &[u64], r: JournalRecord) -> ClosingAnswer
-    requires { IsAccepted x }
-    ensures { (bs : List ℕ) → AcceptedSheet bs x → CloseCall bs storage.now r result }
+pub fn close_on(x: &Sheet, storage: &[u64], r: JournalRecord) -> ClosingAnswer
+    ensures { (bs : List ℕ) → AcceptedSheet bs x.now → CloseCall bs storage.now r result }
 {
     let outcome = checks::check_closing(x.outputs, storage.len(), r);
     match outcome {
-        Outcome::Refused(e) => refused_closing(e, r),
-        Outcome::Accepted => effects::closing(x, storage, r),
+        Ok(()) => effects::closing(x, storage, r),
+        Err(e) => refused_closing(e, r),
     }
 }
 
@@ -113,10 +105,8 @@ pub fn close_on(x: Sheet, storage: &[u64], r: JournalRecord) -> ClosingAnswer
 pub fn close(sheet: &[u8], storage: &[u64], before: JournalRecord) -> ClosingAnswer
     ensures { CloseCall sheet.now storage.now before result }
 {
-    let got = circular::accept_sheet(sheet);
-    let outcome = got.outcome;
-    match outcome {
-        Outcome::Refused(e) => refused_closing(e, before),
-        Outcome::Accepted => close_on(got.sheet, storage, before),
+    match circular::accept_sheet(sheet) {
+        Ok(x) => close_on(&x, storage, before),
+        Err(e) => refused_closing(e, before),
     }
 }

@@ -5,25 +5,25 @@ use mathlib.Core.Bool.{Bool, true, false, cond, false≢true}
 use mathlib.Core.List.{List, [], ◌∷◌, ◌++◌}
 use Rattle.outcomes.specs.Decided.{Check, test, Decided}
 use Rattle.outcomes.specs.declared.Refusal.{Refusal}
-use Rattle.outcomes.specs.declared.Outcome.{Outcome}
-use Rattle.outcomes.specs.declared.Outcome.TheVariants.{Accepted, Refused}
+use Rattle.outcomes.specs.Outcome.{Outcome, unbroken}
+use Rattle.std.specs.Prelude.{Err}
 use Rattle.outcomes.proofs.NumberLaws.{not-both}
 
 -- ---- one check in front
 
-pub breaks : (c : Check) (cs : List Check) → c.Broken → Decided (c ∷ cs) (Refused c.rule)
+pub breaks : (c : Check) (cs : List Check) → c.Broken → Decided (c ∷ cs) (Err c.rule)
 breaks c cs b = inl (b, refl)
 
 pub passes : (c : Check) (cs : List Check) (o : Outcome) → (c.Broken → ⊥) → Decided cs o → Decided (c ∷ cs) o
 passes c cs o n d = inr (n, d)
 
 -- a check by a test
-pub test_decides : (r : Refusal) (t : Bool) (cs : List Check) (o : Outcome) → Decided cs o → Decided (test r t ∷ cs) (cond t (Refused r) o)
+pub test_decides : (r : Refusal) (t : Bool) (cs : List Check) (o : Outcome) → Decided cs o → Decided (test r t ∷ cs) (cond t (Err r) o)
 test_decides r true cs o d = inl (refl, refl)
 test_decides r false cs o d = inr ((λ e. false≢true e), d)
 
 -- an accepted outcome passed the check in front
-pub passed : (c : Check) (cs : List Check) → Decided (c ∷ cs) Accepted → (c.Broken → ⊥) × Decided cs Accepted
+pub passed : (c : Check) (cs : List Check) → Decided (c ∷ cs) unbroken → (c.Broken → ⊥) × Decided cs unbroken
 passed c cs (inl h) = absurd (not-both (sym h.1))
 passed c cs (inr h) = h
 
@@ -32,7 +32,7 @@ abbrev pub Passed : List Check → Type 0
 Passed [] = Unit {0}
 Passed (c ∷ cs) = (c.Broken → ⊥) × Passed cs
 
-pub all-passed : (cs : List Check) → Decided cs Accepted → Passed cs
+pub all-passed : (cs : List Check) → Decided cs unbroken → Passed cs
 all-passed [] h = tt
 all-passed (c ∷ cs) h =
     let p = passed c cs h in
@@ -47,20 +47,20 @@ passed-append (c ∷ cs) ds h =
 -- ---- lists one behind the other
 
 -- what stands behind a broken check doesn't matter
-pub decided-refused : (cs ds : List Check) (r : Refusal) → Decided cs (Refused r) → Decided (cs ++ ds) (Refused r)
+pub decided-refused : (cs ds : List Check) (r : Refusal) → Decided cs (Err r) → Decided (cs ++ ds) (Err r)
 decided-refused [] ds r h = absurd (not-both h)
 decided-refused (c ∷ cs) ds r (inl h) = inl h
 decided-refused (c ∷ cs) ds r (inr h) = inr (h.0, decided-refused cs ds r h.1)
 
 -- where no check is broken, the checks behind decide
-pub decided-accepted : (cs ds : List Check) (o : Outcome) → Decided cs Accepted → Decided ds o → Decided (cs ++ ds) o
+pub decided-accepted : (cs ds : List Check) (o : Outcome) → Decided cs unbroken → Decided ds o → Decided (cs ++ ds) o
 decided-accepted [] ds o h g = g
 decided-accepted (c ∷ cs) ds o h g =
     let p = passed c cs h in
     inr (p.0, decided-accepted cs ds o p.1 g)
 
 -- and decide alone
-pub decided_past : (cs ds : List Check) (o : Outcome) → Decided cs Accepted → Decided (cs ++ ds) o → Decided ds o
+pub decided_past : (cs ds : List Check) (o : Outcome) → Decided cs unbroken → Decided (cs ++ ds) o → Decided ds o
 decided_past [] ds o h g = g
 decided_past (c ∷ cs) ds o h (inl g) = absurd ((passed c cs h).0 g.0)
 decided_past (c ∷ cs) ds o h (inr g) = decided_past cs ds o (passed c cs h).1 g.1
@@ -72,7 +72,7 @@ decided_behind (c ∷ cs) ds es o f (inl h) = inl h
 decided_behind (c ∷ cs) ds es o f (inr h) = inr (h.0, decided_behind cs ds es o f h.1)
 
 -- an accepted outcome passed both lists
-pub passed-both : (cs ds : List Check) → Decided (cs ++ ds) Accepted → Decided cs Accepted × Decided ds Accepted
+pub passed-both : (cs ds : List Check) → Decided (cs ++ ds) unbroken → Decided cs unbroken × Decided ds unbroken
 passed-both [] ds h = (refl, h)
 passed-both (c ∷ cs) ds h =
     let p = passed c (cs ++ ds) h in
@@ -100,9 +100,9 @@ decidable_both (c ∷ cs) ds h g = (h.0, decidable_both cs ds h.1 g)
 
 -- then one fits
 pub decided-some : (cs : List Check) → Decidable cs → (o : Outcome) × Decided cs o
-decided-some [] h = (Accepted, refl)
+decided-some [] h = (unbroken, refl)
 decided-some (c ∷ cs) h = go h.0 (decided-some cs h.1)
   where
     go : Dec c.Broken → (o : Outcome) × Decided cs o → (o : Outcome) × Decided (c ∷ cs) o
-    go (yes b) z = (Refused c.rule, inl (b, refl))
+    go (yes b) z = (Err c.rule, inl (b, refl))
     go (no n) z = (z.0, inr (n, z.1))

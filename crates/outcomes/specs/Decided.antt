@@ -1,10 +1,9 @@
 -- What an entry's refusal means: its checks stand in a fixed order, and it is refused by the first one that is broken
 -- (01, "What is turned down").
 -- Manual: "Refusals".
-use Rattle.std.specs.Prelude.{◌≡◌, Bool, true, ◌⊎◌, List, [], ◌∷◌}
+use Rattle.std.specs.Prelude.{◌≡◌, Bool, true, ◌⊎◌, List, [], ◌∷◌, Err}
 use Rattle.outcomes.specs.declared.Refusal.{Refusal}
-use Rattle.outcomes.specs.declared.Outcome.{Outcome}
-use Rattle.outcomes.specs.declared.Outcome.TheVariants.{Accepted, Refused}
+use Rattle.outcomes.specs.Outcome.{Outcome, unbroken}
 
 -- a rule, and what breaks it
 pub record Check : Type 1 where
@@ -20,5 +19,5 @@ test r t = check r (t ≡ true)
 
 -- The first check that is broken refuses with its rule; where none is broken, the outcome is accepted.
 abbrev pub Decided : List Check → Outcome → Type 0
-Decided [] o = o ≡ Accepted
-Decided (c ∷ cs) o = (c.Broken × (o ≡ Refused c.rule)) ⊎ ((c.Broken → ⊥) × Decided cs o)
+Decided [] o = o ≡ unbroken
+Decided (c ∷ cs) o = (c.Broken × (o ≡ Err c.rule)) ⊎ ((c.Broken → ⊥) × Decided cs o)

@@ -1,13 +1,11 @@
 -- The numbers of the refusals and the verdicts (01, "What is turned down", the table; "Completions and verdicts"; 02, W4 and W8).
 -- Manual: "Refusals".
-use Rattle.std.specs.Prelude.{◌≡◌, List, map, ℕ, ◌<◌, ◌≤◌, length, get_or, take}
+use Rattle.std.specs.Prelude.{◌≡◌, List, ℕ, ◌<◌, ◌≤◌, length, get_or, take, Ok, Err}
 use Rattle.outcomes.specs.declared.Refusal.{Refusal}
 use Rattle.outcomes.specs.declared.Refusal.TheVariants.{Short, Mark, Version, Counts, Assumption, Length, Byte, Values, Leftover, Circular, Letter, Closed, Full, NoRound, Storage, Extent, Line, Record, RoundSet, OutputSet}
-use Rattle.outcomes.specs.declared.Outcome.{Outcome}
-use Rattle.outcomes.specs.declared.Outcome.TheVariants.{Accepted, Refused}
+use Rattle.outcomes.specs.Outcome.{Outcome}
 use Rattle.outcomes.specs.declared.Verdict.{Verdict}
 use Rattle.outcomes.specs.declared.Verdict.TheVariants.{False, True, Open, Broken}
-use Rattle.outcomes.specs.declared.Told.{Told}
 
 -- The number of each rule, with what breaks it.
 abbrev pub refusal_no : Refusal → ℕ
@@ -54,8 +52,8 @@ refusal_no OutputSet = 24
 
 -- An outcome as one number: 0 for accepted.
 abbrev pub outcome_no : Outcome → ℕ
-outcome_no Accepted = 0
-outcome_no (Refused r) = refusal_no r
+outcome_no (Ok _) = 0
+outcome_no (Err r) = refusal_no r
 
 -- The number of each verdict.
 abbrev pub verdict_no : Verdict → ℕ
@@ -65,18 +63,18 @@ verdict_no Open = 2
 verdict_no Broken = 3
 
 -- what an answer holds for an output that the sheet doesn't have, and for every output where the call is refused
-abbrev pub untold : Told
-untold = record { verdict = False }
+abbrev pub untold : Verdict
+untold = False
 
 -- the verdict that an answer holds for output k, and those for the first n outputs
-abbrev pub told_at : List Told → ℕ → Verdict
-told_at vs k = (get_or vs k untold).verdict
+abbrev pub told_at : List Verdict → ℕ → Verdict
+told_at vs k = get_or vs k untold
 
-abbrev pub verdict_list : List Told → ℕ → List Verdict
-verdict_list vs n = map (λ t. t.verdict) (take n vs)
+abbrev pub verdict_list : List Verdict → ℕ → List Verdict
+verdict_list vs n = take n vs
 
 -- the verdicts on n outputs in an answer of seven
-pub record Verdicts (n : ℕ) (f : ℕ → Verdict) (vs : List Told) : Type 0 where
+pub record Verdicts (n : ℕ) (f : ℕ → Verdict) (vs : List Verdict) : Type 0 where
   pub size : length vs ≡ 7
   pub each : (k : ℕ) → k < n → told_at vs k ≡ f k
   pub beyond : (k : ℕ) → n ≤ k → told_at vs k ≡ False

@@ -4,8 +4,8 @@ use mathlib.Core.Bool.{Bool, false, ◌||◌}
 use mathlib.Core.List.{List}
 use Prim.Native.Nat.{ℕ, ◌+◌, ◌-◌, ◌*◌, ◌/◌, ◌%◌, ◌^◌, ◌≤◌, ◌<◌}
 use native.Mathlib.Omega.{arith}
-use native.Mathlib.Decide.{ℕ_discrete, dec_lt}
-use lib.ListN.{get_or}
+use native.Mathlib.Decide.{dec_lt}
+use lib.ListN.{get_or, length}
 use lib.Count.{count_trailing_zeros}
 use lib.Pow.{shr_le}
 use Rattle.words.specs.Bits.{bit}
@@ -13,101 +13,104 @@ use Rattle.words.specs.Below.{any_below}
 use Rattle.words.proofs.AnyLaws.{any_add, none_any}
 use Rattle.words.proofs.BitLaws.{bit-shr, bit_high, bit-none, Lowest, lowest}
 use Rattle.words.proofs.Bools.{contrary}
-use Rattle.pairs.specs.Changes.{row_bit, NextWord, NextBit}
+use Rattle.std.specs.Prelude.{Option as Maybe, Some, None}
+use Rattle.pairs.specs.Changes.{row_bit, FirstFrom, NextBit, NextMember}
+use Rattle.pairs.specs.Storage.{stored, word_of, slot}
+use Rattle.std.proofs.Math.Option.{some}
 
-module _ (s : List ℕ) (at n : ℕ) where
+-- no bit from `from` on is set below b
+abbrev pub NoneBelow : List ℕ → ℕ → ℕ → Type 0
+NoneBelow s from b = (x : ℕ) → from ≤ x → x < b → row_bit s 0 x ≡ false
+
+-- bits of words, each below 2 ^ 64
+module _ (s : List ℕ) (n from : ℕ) where
   -- bit b + i of the row is bit i of the word shifted
-  shifted : (b i : ℕ) → b % 64 + i < 64 → row_bit s at (b + i) ≡ bit i (get_or s (at + b / 64) 0 / 2 ^ (b % 64))
+  shifted : (b i : ℕ) → b % 64 + i < 64 → row_bit s 0 (b + i) ≡ bit i (get_or s (b / 64) 0 / 2 ^ (b % 64))
   unfolding row_bit
   shifted b i h =
       let p : (b + i) % 64 ≡ b % 64 + i = omega arith in
-      let q : at + (b + i) / 64 ≡ at + b / 64 = omega arith in
-      ap₂ (λ (x y : ℕ). bit x (get_or s y 0)) p q ∙ sym (bit-shr i (b % 64) (get_or s (at + b / 64) 0))
+      let q : 0 + (b + i) / 64 ≡ b / 64 = omega arith in
+      ap₂ (λ (x y : ℕ). bit x (get_or s y 0)) p q ∙ sym (bit-shr i (b % 64) (get_or s (b / 64) 0))
 
-  module _ (from b : ℕ) (l : from ≤ b) (h : b < 64 * n) (none_yet : (x : ℕ) → from ≤ x → x < b → row_bit s at x ≡ false) (fit : get_or s (at + b / 64) 0 < 2 ^ 64) where
+  module _ (b : ℕ) (none_yet : NoneBelow s from b) where
     abbrev w : ℕ
-    w = get_or s (at + b / 64) 0 / 2 ^ (b % 64)
+    w = get_or s (b / 64) 0 / 2 ^ (b % 64)
 
-    low : (w ≡ 0 → ⊥) → Lowest 64 w (count_trailing_zeros 64 w)
-    low n = lowest 64 w (let g : w ≤ get_or s (at + b / 64) 0 = shr_le (get_or s (at + b / 64) 0) (b % 64) in omega arith) n
-
-    -- the lowest bit set lies in the word
-    in-word : (t : ℕ) → Lowest 64 w t → b % 64 + t < 64
-    in-word t r = go (dec_lt (b % 64 + t) 64)
+    -- the lowest bit of the word's rest
+    pub found_at : from ≤ b → b < 64 * n → get_or s (b / 64) 0 < 2 ^ 64 → (w ≡ 0 → ⊥) → FirstFrom (row_bit s 0) (64 * n) from (Some (b + count_trailing_zeros 64 w))
+    found_at l h fit ne =
+        let g : b % 64 + t < 64 = inside in
+        (omega arith, omega arith, λ x d e. skip x d e (dec_lt x b), shifted b t g ∙ low.is_set)
       where
-        go : Dec (b % 64 + t < 64) → b % 64 + t < 64
-        go (yes d) = d
-        go (no d) =
-            contrary (sym (bit-shr t (b % 64) (get_or s (at + b / 64) 0)) ∙ r.is_set)
-            (bit_high 64 (b % 64 + t) (get_or s (at + b / 64) 0) fit (omega arith))
+        t : ℕ
+        t = count_trailing_zeros 64 w
 
-    found_at : (w ≡ 0 → ⊥) → NextBit s at n from (b + count_trailing_zeros 64 w)
-    found_at n =
-        let r : Lowest 64 w (count_trailing_zeros 64 w) = low n in
-        let g : b % 64 + count_trailing_zeros 64 w < 64 = in-word (count_trailing_zeros 64 w) r in
-        record {
-          onward = omega arith;
-          inside = omega arith;
-          skipped = λ x d e. skip (count_trailing_zeros 64 w) r g x d e (dec_lt x b);
-          found = λ e. shifted b (count_trailing_zeros 64 w) g ∙ r.is_set;
-        }
-      where
-        skip : (t : ℕ) → Lowest 64 w t → b % 64 + t < 64 → (x : ℕ) → from ≤ x → x < b + t → Dec (x < b) → row_bit s at x ≡ false
-        skip t r g x d e (yes k) = none_yet x d k
-        skip t r g x d e (no k) =
+        low : Lowest 64 w t
+        low = lowest 64 w (let g : w ≤ get_or s (b / 64) 0 = shr_le (get_or s (b / 64) 0) (b % 64) in omega arith) ne
+
+        inside : b % 64 + t < 64
+        inside = go (dec_lt (b % 64 + t) 64)
+          where
+            go : Dec (b % 64 + t < 64) → b % 64 + t < 64
+            go (yes d) = d
+            go (no d) =
+                contrary (sym (bit-shr t (b % 64) (get_or s (b / 64) 0)) ∙ low.is_set)
+                (bit_high 64 (b % 64 + t) (get_or s (b / 64) 0) fit (omega arith))
+
+        skip : (x : ℕ) → from ≤ x → x < b + t → Dec (x < b) → row_bit s 0 x ≡ false
+        skip x d e (yes k) = none_yet x d k
+        skip x d e (no k) =
+            let g : b % 64 + t < 64 = inside in
             let q : x ≡ b + (x - b) = omega arith in
-            ap (row_bit s at) q ∙ shifted b (x - b) (omega arith) ∙ r.clear (x - b) (omega arith)
+            ap (row_bit s 0) q ∙ shifted b (x - b) (omega arith) ∙ low.clear (x - b) (omega arith)
 
-    nothing-at : w ≡ 0 → (x : ℕ) → from ≤ x → x < (b / 64 + 1) * 64 → row_bit s at x ≡ false
-    nothing-at z x d e = go (dec_lt x b)
+    -- a word whose rest is 0
+    pub none-more : w ≡ 0 → NoneBelow s from (64 * (b / 64 + 1))
+    none-more z x d e = go (dec_lt x b)
       where
-        go : Dec (x < b) → row_bit s at x ≡ false
+        go : Dec (x < b) → row_bit s 0 x ≡ false
         go (yes k) = none_yet x d k
         go (no k) =
             let q : x ≡ b + (x - b) = omega arith in
-            ap (row_bit s at) q ∙ shifted b (x - b) (omega arith) ∙ ap (bit (x - b)) z ∙ bit-none (x - b)
+            ap (row_bit s 0) q ∙ shifted b (x - b) (omega arith) ∙ ap (bit (x - b)) z ∙ bit-none (x - b)
 
--- ---- whole words
+  -- whole words: the rest of word j from bit 64 j on is the word
+  whole : (j : ℕ) → get_or s (64 * j / 64) 0 / 2 ^ (64 * j % 64) ≡ get_or s j 0
+  whole j =
+      let p : 64 * j / 64 ≡ j = omega arith in
+      let o : 64 * j % 64 ≡ 0 = omega arith in
+      let one : get_or s j 0 / 2 ^ 0 ≡ get_or s j 0 = omega arith in
+      ap₂ (λ (x y : ℕ). get_or s x 0 / 2 ^ y) p o ∙ one
 
-pub words_more : (s : List ℕ) (at j r : ℕ) → ((i : ℕ) → j ≤ i → i < r → get_or s (at + i) 0 ≡ 0) → get_or s (at + r) 0 ≡ 0 → (i : ℕ) → j ≤ i → i < r + 1 → get_or s (at + i) 0 ≡ 0
-words_more s at j r f e i l h = go (ℕ_discrete i r)
-  where
-    go : Dec (i ≡ r) → get_or s (at + i) 0 ≡ 0
-    go (yes d) = ap (λ (k : ℕ). get_or s (at + k) 0) d ∙ e
-    go (no d) = f i l (omega arith)
+  pub found_word : (j : ℕ) → NoneBelow s from (64 * j) → from ≤ 64 * j → j < n → get_or s j 0 < 2 ^ 64 → (get_or s j 0 ≡ 0 → ⊥)
+      → FirstFrom (row_bit s 0) (64 * n) from (Some (64 * j + count_trailing_zeros 64 (get_or s j 0)))
+  found_word j none_yet l h fit ne =
+      let p : 64 * j / 64 ≡ j = omega arith in
+      subst (λ (x : ℕ). FirstFrom (row_bit s 0) (64 * n) from (Some (64 * j + count_trailing_zeros 64 x))) (whole j)
+      (found_at (64 * j) none_yet l (omega arith) (subst (λ (k : ℕ). get_or s k 0 < 2 ^ 64) (sym p) fit) (λ e. ne (sym (whole j) ∙ e)))
 
--- no bit is left
-pub row_over : (s : List ℕ) (at n from : ℕ) → from ≡ 64 * n → NextBit s at n from from
-row_over s at n from e = record { onward = omega arith; inside = omega arith; skipped = λ x d g. absurd (omega arith); found = λ g. absurd (omega arith) }
+  pub none_word : (j : ℕ) → NoneBelow s from (64 * j) → get_or s j 0 ≡ 0 → NoneBelow s from (64 * (j + 1))
+  none_word j none_yet z =
+      let p : 64 * (64 * j / 64 + 1) ≡ 64 * (j + 1) = omega arith in
+      subst (NoneBelow s from) p (none-more (64 * j) none_yet (whole j ∙ z))
 
--- a bit in the rest of a word
-pub found_here : (s : List ℕ) (at n from : ℕ) → from < 64 * n → get_or s (at + from / 64) 0 < 2 ^ 64 → (get_or s (at + from / 64) 0 / 2 ^ (from % 64) ≡ 0 → ⊥)
-    → NextBit s at n from (from + count_trailing_zeros 64 (get_or s (at + from / 64) 0 / 2 ^ (from % 64)))
-found_here s at n from h fit ne = found_at s at n from from (omega arith) h (λ x l g. absurd (omega arith)) fit ne
+-- a test that is another as far as the search goes
+pub first_same : (p q : ℕ → Bool) (n from : ℕ) (o : Maybe ℕ) → ((x : ℕ) → x < n → p x ≡ q x) → FirstFrom p n from o → FirstFrom q n from o
+first_same p q n from None same h = λ x l g. sym (same x g) ∙ h x l g
+first_same p q n from (Some r) same h = (h.0, h.1, λ x l g. sym (same x (omega (arith, h.1))) ∙ h.2 x l g, sym (same r h.1) ∙ h.3)
 
--- nothing in the rest of a word, and then the words that are 0
-module _ (s : List ℕ) (at n from r : ℕ) (h : from < 64 * n) (fit : get_or s (at + from / 64) 0 < 2 ^ 64) (z : get_or s (at + from / 64) 0 / 2 ^ (from % 64) ≡ 0)
-    (q : NextWord s at n (from / 64 + 1) r) where
-  none_below : (x : ℕ) → from ≤ x → x < 64 * r → row_bit s at x ≡ false
-  unfolding row_bit
-  none_below x d e = go (dec_lt x ((from / 64 + 1) * 64))
-    where
-      go : Dec (x < (from / 64 + 1) * 64) → row_bit s at x ≡ false
-      go (yes k) = nothing-at s at n from from (omega arith) h (λ y l g. absurd (omega arith)) fit z x d k
-      go (no k) = ap (bit (x % 64)) (q.skipped (x / 64) (omega arith) (omega arith)) ∙ bit-none (x % 64)
+-- words that are equal as far as the search goes
+pub next-same : (s t : List ℕ) (w from : ℕ) (o : Maybe ℕ) → length t ≡ w → ((k : ℕ) → k < w → get_or t k 0 ≡ get_or s k 0) → NextBit t (length t) from o → NextBit s w from o
+unfolding row_bit
+next-same s t w from o l same h = first_same (row_bit t 0) (row_bit s 0) (64 * w) from o (λ x g. let e : 0 + x / 64 ≡ x / 64 = omega arith in ap (λ (k : ℕ). bit (x % 64) (get_or t k 0)) e ∙ ap (bit (x % 64)) (same (x / 64) (omega arith)) ∙ ap (λ (k : ℕ). bit (x % 64) (get_or s k 0)) (sym e)) (subst (λ (n : ℕ). NextBit t n from o) l h)
 
-  pub row-spent : r ≡ n → NextBit s at n from (64 * n)
-  row-spent e = record { onward = omega arith; inside = omega arith; skipped = λ x d g. none_below x d (omega arith); found = λ g. absurd (omega arith) }
-
-  pub row-found : (r ≡ n → ⊥) → get_or s (at + r) 0 < 2 ^ 64 → NextBit s at n from (64 * r + count_trailing_zeros 64 (get_or s (at + r) 0))
-  row-found ne small =
-      let p : 64 * r / 64 ≡ r = omega arith in
-      let l : r < n = omega (arith, q.inside) in
-      let one : get_or s (at + r) 0 / 2 ^ 0 ≡ get_or s (at + r) 0 = omega arith in
-      let o : 64 * r % 64 ≡ 0 = omega arith in
-      let same : get_or s (at + 64 * r / 64) 0 / 2 ^ (64 * r % 64) ≡ get_or s (at + r) 0 = ap₂ (λ (x y : ℕ). get_or s (at + x) 0 / 2 ^ y) p o ∙ one in
-      subst (λ (x : ℕ). NextBit s at n from (64 * r + count_trailing_zeros 64 x)) same
-      (found_at s at n from (64 * r) (omega (arith, q.onward)) (omega arith) none_below (subst (λ (k : ℕ). get_or s (at + k) 0 < 2 ^ 64) (sym p) small) (λ e. q.found l (sym same ∙ e)))
+-- the words of a row of a set
+pub next_in_row : (s t : List ℕ) (base a w from : ℕ) (o : Maybe ℕ) → length t ≡ w → ((k : ℕ) → k < w → get_or t k 0 ≡ get_or s (base + (4 * a + k)) 0) → NextBit t (length t) from o
+    → NextMember (stored s base) a w from o
+unfolding row_bit stored word_of slot
+next_in_row s t base a w from o l same h =
+    first_same (row_bit t 0) (λ b. stored s base a (some b)) (64 * w) from o (λ x g. ap (bit (x % 64)) (let e : 0 + x / 64 ≡ x / 64 = omega arith in ap (λ (k : ℕ). get_or t k 0) e ∙ same (x / 64) (omega arith)))
+    (subst (λ (n : ℕ). NextBit t n from o) l h)
 
 -- numbers that are passed over
 pub any_skip : (c c' : ℕ) (p : ℕ → Bool) → c ≤ c' → ((x : ℕ) → c ≤ x → x < c' → p x ≡ false) → any_below c p ≡ any_below c' p

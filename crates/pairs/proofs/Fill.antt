@@ -1,4 +1,4 @@
--- Words written one by one.
+-- The words of some rows, and of the ends, written.
 use mathlib.Core.Path.{◌≡◌, sym, ap, ◌∙◌}
 use mathlib.Core.Bool.{Bool, false, cond}
 use mathlib.Core.List.{List}
@@ -7,35 +7,14 @@ use Prim.Native.Nat.{ℕ, ◌+◌, ◌*◌, ◌/◌, ◌%◌, ◌≤◌, ◌<◌
 use native.Mathlib.Omega.{arith}
 use native.Mathlib.Decide.{dec_lt}
 use lib.Dec.{ltb}
-use lib.ListN.{length, get_or, set}
+use lib.ListN.{get_or}
 use borrow.Author.Tests.{lt-ltb, le-ltb}
 use Rattle.words.specs.Bits.{bit}
 use Rattle.words.proofs.BitLaws.{bit-none}
-use Rattle.words.proofs.ListLaws.{set-more-from}
 use Rattle.completions.specs.Steps.{Within}
 use Rattle.pairs.specs.Storage.{word_of, slot, stored, used}
-use Rattle.pairs.specs.Changes.{Framed, Zeroed, RowsCleared}
-use Rattle.pairs.proofs.Frames.{framed_none, framed_then, framed_wider, framed_set}
-
--- of `size` words from `base` on, the first n are written with f
-pub record Filling (base size : ℕ) (f : ℕ → ℕ) (s t : List ℕ) (n : ℕ) : Type 0 where
-  pub within : n ≤ size
-  pub frame : Framed base size s t
-  pub done : (k : ℕ) → k < n → get_or t (base + k) 0 ≡ f k
-
-module _ (base size : ℕ) (f : ℕ → ℕ) (s : List ℕ) where
-  pub filling_none : Filling base size f s s 0
-  filling_none = record { within = omega arith; frame = framed_none base size s; done = λ k h. absurd (omega arith) }
-
-  pub filling_more : (t : List ℕ) (n x : ℕ) → n < size → base + size ≤ length s → Filling base size f s t n → x ≡ f n → Filling base size f s (set t (base + n) x) (n + 1)
-  filling_more t n x h l p e = record {
-    within = omega arith;
-    frame = framed_then p.frame (framed_set t (base + n) x (omega arith) (omega arith));
-    done = set-more-from (λ k v. v ≡ f k) base t n x (omega (arith, p.frame.same_length)) e p.done;
-  }
-
-pub zeroed : (at n : ℕ) (s t : List ℕ) (k : ℕ) → n ≤ k → Filling at n (λ k. 0) s t k → Zeroed at n s t
-zeroed at n s t k h p = record { frame = p.frame; zero_now = λ i g. p.done i (omega arith) }
+use Rattle.pairs.specs.Changes.{Zeroed, RowsCleared}
+use Rattle.pairs.proofs.Frames.{framed_then, framed_wider}
 
 -- the rows below v, then the ends
 pub rows-cleared : (base v : ℕ) (s t u : List ℕ) → v ≤ 256 → Zeroed base (4 * v) s t → Zeroed (base + 1024) 4 t u → RowsCleared base v s u

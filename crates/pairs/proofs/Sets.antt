@@ -15,8 +15,10 @@ use Rattle.words.specs.Bits.{bit, digit}
 use Rattle.words.proofs.BitLaws.{bit-and, bit-or, bit_not, bit-shl, bit-none, bits_ext}
 use Rattle.completions.specs.Live.{Pairs}
 use Rattle.completions.specs.Steps.{Within}
-use Rattle.pairs.specs.Storage.{stored, used, word_of, slot, set_words}
-use Rattle.pairs.specs.Changes.{eq_next, in_word, Framed, Adds, row_bit, NextBit, NextMember, Zeroed, RowTaken, Noted}
+use Rattle.pairs.specs.Storage.{stored, used, word_of, slot, set_words, scratch_at}
+use Rattle.pairs.specs.declared.PairSet.{PairSet}
+use Rattle.pairs.specs.declared.PairSet.TheVariants.{Live, Reached, Scratch}
+use Rattle.pairs.specs.Changes.{base_of, eq_next, in_word, Framed, Adds, row_bit, Zeroed, RowTaken, Noted}
 use Rattle.pairs.proofs.Frames.{framed_none, framed_then, framed_wider, framed_set}
 
 pub word_lt : (x : ℕ) (y : Option ℕ) → x < 256 → Within 256 y → word_of x y < set_words
@@ -108,18 +110,6 @@ adds_then base s t u P Q R p q f = record {
       ∙ ap (λ (w : Bool). stored s base x y || w) (f x y hx hy);
 }
 
-pub row_bit_lem : (s : List ℕ) (base a x : ℕ) → row_bit s (base + 4 * a) x ≡ stored s base a (some x)
-unfolding row_bit stored word_of slot
-row_bit_lem s base a x = let e : base + 4 * a + x / 64 ≡ base + (4 * a + x / 64) = omega arith in ap (λ (k : ℕ). bit (x % 64) (get_or s k 0)) e
-
-pub row_member : (s : List ℕ) (base a w from r : ℕ) → NextBit s (base + 4 * a) w from r → NextMember (stored s base) a w from r
-row_member s base a w from r n = record {
-  onward = n.onward;
-  inside = n.inside;
-  skipped = λ x h l. sym (row_bit_lem s base a x) ∙ n.skipped x h l;
-  found = λ h. sym (row_bit_lem s base a r) ∙ n.found h;
-}
-
 -- ---- sets beside the one that is changed
 
 -- words that are equal hold equal sets
@@ -136,9 +126,18 @@ module _ {at n : ℕ} {s t : List ℕ} (p : Framed at n s t) where
   framed-beyond b x y hx hy h = stored_eq s t b b x y hx hy (λ k g. p.beyond (b + k) (omega arith))
 
 -- a set whose words are 0 has no pair
-pub zeroed_none : (base : ℕ) (s t : List ℕ) → Zeroed base set_words s t → (x : ℕ) (y : Option ℕ) → x < 256 → Within 256 y → stored t base x y ≡ false
+pub zeroed_none : (at n base : ℕ) (s t : List ℕ) → Zeroed at n s t → at ≤ base → base + set_words ≤ at + n → (x : ℕ) (y : Option ℕ) → x < 256 → Within 256 y → stored t base x y ≡ false
 unfolding stored
-zeroed_none base s t p x y hx hy = ap (bit (slot x y)) (p.zero_now (word_of x y) (word_lt x y hx hy)) ∙ bit-none (slot x y)
+zeroed_none at n base s t p l h x y hx hy =
+    let k : word_of x y < set_words = word_lt x y hx hy in
+    let e : base + word_of x y ≡ at + ((base - at) + word_of x y) = omega arith in
+    ap (λ (i : ℕ). bit (slot x y) (get_or t i 0)) e ∙ ap (bit (slot x y)) (p.zero_now ((base - at) + word_of x y) (omega arith)) ∙ bit-none (slot x y)
+
+-- every set lies in the storage
+pub base_most : (p : PairSet) → base_of p ≤ scratch_at
+base_most Live = omega arith
+base_most Reached = omega arith
+base_most Scratch = omega arith
 
 -- the words in use hold every pair of valuations below v
 pub used-below : (v x : ℕ) (y : Option ℕ) → x < v → used v x y ≡ true
@@ -153,12 +152,12 @@ unused v x (some c) e = e
 
 -- ---- the code's tests of one bit
 
-pub has_bit : (s : List ℕ) (base a b : ℕ) → eqb (get_or s (base + (4 * a + b / 64)) 0 / 2 ^ (b % 64) % 2) 1 ≡ stored s base a (some b)
-unfolding stored word_of slot bit digit
+pub has_bit : (s : List ℕ) (base a b : ℕ) → bit (b % 64) (get_or s (base + (4 * a + b / 64)) 0) ≡ stored s base a (some b)
+unfolding stored word_of slot
 has_bit s base a b = refl
 
-pub has_end_bit : (s : List ℕ) (base a : ℕ) → eqb (get_or s (base + (1024 + a / 64)) 0 / 2 ^ (a % 64) % 2) 1 ≡ stored s base a none
-unfolding stored word_of slot bit digit
+pub has_end_bit : (s : List ℕ) (base a : ℕ) → bit (a % 64) (get_or s (base + (1024 + a / 64)) 0) ≡ stored s base a none
+unfolding stored word_of slot
 has_end_bit s base a = refl
 
 -- ---- a word of a row

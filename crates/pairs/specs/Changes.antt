@@ -1,10 +1,18 @@
 -- For the contracts of inner functions: what the functions on stored sets do.
-use Rattle.std.specs.Prelude.{◌≡◌, Bool, true, false, cond, not, ◌&&◌, ◌||◌, List, ℕ, ◌+◌, ◌*◌, ◌/◌, ◌%◌, ◌<◌, ◌≤◌, eqb, length, get_or}
+use Rattle.std.specs.Prelude.{◌≡◌, Bool, true, false, cond, not, ◌&&◌, ◌||◌, List, ℕ, ◌+◌, ◌*◌, ◌/◌, ◌%◌, ◌<◌, ◌≤◌, eqb, length, get_or, Option as Maybe, MatchOption}
 use Rattle.std.proofs.Math.Option.{Option, none, some}
 use Rattle.words.specs.Bits.{bit}
 use Rattle.completions.specs.Live.{Pairs}
 use Rattle.completions.specs.Steps.{Within}
-use Rattle.pairs.specs.Storage.{stored, used, set_words}
+use Rattle.pairs.specs.Storage.{stored, used, set_words, live_at, reached_at, scratch_at}
+use Rattle.pairs.specs.declared.PairSet.{PairSet}
+use Rattle.pairs.specs.declared.PairSet.TheVariants.{Live, Reached, Scratch}
+
+-- the word that the set begins with
+abbrev pub base_of : PairSet → ℕ
+base_of Live = live_at
+base_of Reached = reached_at
+base_of Scratch = scratch_at
 
 -- the same second part
 unfoldable pub eq_next : Option ℕ → Option ℕ → Bool
@@ -41,31 +49,32 @@ pub record Adds (base : ℕ) (s t : List ℕ) (P : Pairs) : Type 0 where
 unfoldable pub row_bit : List ℕ → ℕ → ℕ → Bool
 row_bit s at x = bit (x % 64) (get_or s (at + x / 64) 0)
 
+-- the first w words of the row have the valuations that pass the test
+abbrev pub RowOf : ℕ → List ℕ → (ℕ → Bool) → Type 0
+RowOf w row g = (b : ℕ) → b < 64 * w → row_bit row 0 b ≡ g b
+
+-- each of w words, as it is given, has the valuations that pass the test
+abbrev pub GivesRow : ℕ → (ℕ → ℕ → Type 0) → (ℕ → Bool) → Type 0
+GivesRow w word g = (j : ℕ) → j < w → (x : ℕ) → word j x → (i : ℕ) → i < 64 → bit i x ≡ g (64 * j + i)
+
 -- a row of words has gained a
 pub record Noted (a : ℕ) (s t : List ℕ) : Type 0 where
   pub same_length : length t ≡ length s
   pub gains : (x : ℕ) → x < 256 → row_bit t 0 x ≡ (row_bit s 0 x || eqb x a)
 
--- r is the first word from j on that is not 0 among n words from `at` on, or n if there is none
-pub record NextWord (s : List ℕ) (at n j r : ℕ) : Type 0 where
-  pub onward : j ≤ r
-  pub inside : r ≤ n
-  pub skipped : (i : ℕ) → j ≤ i → i < r → get_or s (at + i) 0 ≡ 0
-  pub found : r < n → get_or s (at + r) 0 ≡ 0 → ⊥
+-- r is the first number from `from` on below n that passes the test, or there is none
+abbrev pub FirstFrom : (ℕ → Bool) → ℕ → ℕ → Maybe ℕ → Type 0
+FirstFrom p n from o =
+    MatchOption o ((x : ℕ) → from ≤ x → x < n → p x ≡ false)
+    (λ r. (from ≤ r) × (r < n) × ((x : ℕ) → from ≤ x → x < r → p x ≡ false) × (p r ≡ true))
 
--- r is the first bit from `from` on that is set among w words, or 64 w if there is none
-pub record NextBit (s : List ℕ) (at w from r : ℕ) : Type 0 where
-  pub onward : from ≤ r
-  pub inside : r ≤ 64 * w
-  pub skipped : (x : ℕ) → from ≤ x → x < r → row_bit s at x ≡ false
-  pub found : r < 64 * w → row_bit s at r ≡ true
+-- the first bit from `from` on that is set among w words
+abbrev pub NextBit : List ℕ → ℕ → ℕ → Maybe ℕ → Type 0
+NextBit s w from o = FirstFrom (row_bit s 0) (64 * w) from o
 
--- r is the first valuation from `from` on in the first w words of row a of the set, or 64 w if there is none
-pub record NextMember (S : Pairs) (a w from r : ℕ) : Type 0 where
-  pub onward : from ≤ r
-  pub inside : r ≤ 64 * w
-  pub skipped : (x : ℕ) → from ≤ x → x < r → S a (some x) ≡ false
-  pub found : r < 64 * w → S a (some r) ≡ true
+-- the first valuation from `from` on in the first w words of row a of the set
+abbrev pub NextMember : Pairs → ℕ → ℕ → ℕ → Maybe ℕ → Type 0
+NextMember S a w from o = FirstFrom (λ b. S a (some b)) (64 * w) from o
 
 -- n words from `at` on are 0, and no others are changed
 pub record Zeroed (at n : ℕ) (s t : List ℕ) : Type 0 where

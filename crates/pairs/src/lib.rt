@@ -1,192 +1,239 @@
 // Sets of pairs in the storage's words: the live set, the reached set and the scratch set.
 #![tactic(auto)]
 
-ghost use Rattle.std.specs.Prelude.{◌≡◌, ◌&&◌, eqb, length, ◌+◌, ◌*◌, ◌<◌, ◌≤◌};
+ghost use Rattle.std.specs.Prelude.{◌≡◌, ◌&&◌, eqb, length, ℕ, ◌+◌, ◌*◌, ◌<◌, ◌≤◌, Bool, slice_index, take, ◌^◌};
 ghost use Rattle.std.proofs.Math.Option.{none, some};
+ghost use Rattle.words.specs.Below.{count_below};
 ghost use Rattle.completions.specs.Live.{count_pairs};
-ghost use Rattle.pairs.specs.Storage.{stored, live, set_words, scratch_at, storage_words, max_pairs};
-ghost use Rattle.pairs.specs.Changes.{eq_next, in_word, RowWord, EndsWord, Adds, NextWord, NextBit, NextMember, Zeroed, RowsCleared, RowTaken, Noted};
+ghost use Rattle.pairs.specs.Storage.{stored, live, live_at, set_words, scratch_at, storage_words, max_pairs};
+ghost use Rattle.pairs.specs.Changes.{base_of, eq_next, in_word, row_bit, RowOf, GivesRow, RowWord, EndsWord, Adds, NextBit, NextMember, Zeroed, RowsCleared, RowTaken, Noted};
 
 // The words of one set.
 pub const SET_WORDS: usize = 1028;
 
-// The word that the live set begins with.
-pub const LIVE: usize = 0;
+// The words of the three sets.
+pub const STORAGE_WORDS: usize = 3 * SET_WORDS;
 
-// The word that the reached set begins with.
-pub const REACHED: usize = LIVE + SET_WORDS;
+// The words that the sets lie in.
+pub type Storage = [u64; STORAGE_WORDS];
 
-// The word that the scratch set begins with.
-pub const SCRATCH: usize = REACHED + SET_WORDS;
+// A set of valuations, a bit for each: the valuations that follow one in a set of pairs are such a row.
+pub type Row = [u64; 4];
 
-// Whether (a, b) is in the set at base.
-pub fn has(s: &[u64], base: usize, a: usize, b: usize) -> bool
-    requires { (a < 256) × (b < 256) × (base ≤ scratch_at) × (storage_words ≤ length s.now) }
-    ensures { result ≡ stored s.now base a (some b) }
-{
-    (s[base + (4 * a + b / 64)] >> (b % 64)) % 2 == 1
+// The sets, in the order in which they lie in the storage.
+#[derive(Clone, Copy, Debug, PartialEq, Eq)]
+pub enum PairSet {
+    Live,
+    Reached,
+    Scratch,
 }
 
-// Whether (a, end) is in the set at base.
-pub fn has_end(s: &[u64], base: usize, a: usize) -> bool
-    requires { (a < 256) × (base ≤ scratch_at) × (storage_words ≤ length s.now) }
-    ensures { result ≡ stored s.now base a none }
-{
-    (s[base + (1024 + a / 64)] >> (a % 64)) % 2 == 1
+impl PairSet {
+    // The word that the set begins with.
+    fn base(self) -> usize
+        ensures is { result ≡ base_of self }
+        ensures fits { result ≤ scratch_at }
+    {
+        match self {
+            PairSet::Live => 0,
+            PairSet::Reached => SET_WORDS,
+            PairSet::Scratch => 2 * SET_WORDS,
+        }
+    }
 }
 
-// Word j of row a of the set at base: its lane i is the pair (a, 64 j + i).
-pub fn row_word(s: &[u64], base: usize, a: usize, j: usize) -> u64
-    requires { (a < 256) × (j < 4) × (base ≤ scratch_at) × (storage_words ≤ length s.now) }
-    ensures { RowWord (stored s.now base) a j result }
+// A pair has a valuation or the end mark behind it, and these lie apart. Functions come twice for that: a caller knows which it has, and a test of
+// an Option would stand in the innermost loops.
+
+// Whether (a, b) is in the set.
+pub fn has(s: &Storage, set: PairSet, a: usize, b: usize) -> bool
+    requires { (a < 256) × (b < 256) }
+    ensures { result ≡ stored s.now (base_of set) a (some b) }
 {
-    s[base + (4 * a + j)]
+    words::has_bit(s[set.base() + (4 * a + b / 64)], b % 64)
 }
 
-// Word j of the ends of the set at base: its lane i is the pair (64 j + i, end).
-pub fn ends_word(s: &[u64], base: usize, j: usize) -> u64
-    requires { (j < 4) × (base ≤ scratch_at) × (storage_words ≤ length s.now) }
-    ensures { EndsWord (stored s.now base) j result }
+// Whether (a, end) is in the set.
+pub fn has_end(s: &Storage, set: PairSet, a: usize) -> bool
+    requires { a < 256 }
+    ensures { result ≡ stored s.now (base_of set) a none }
 {
-    s[base + (1024 + j)]
+    words::has_bit(s[set.base() + (1024 + a / 64)], a % 64)
 }
 
-// Puts (a, b) into the set at base.
-pub fn insert(s: &mut [u64], base: usize, a: usize, b: usize)
-    requires { (a < 256) × (b < 256) × (base ≤ scratch_at) × (storage_words ≤ length s.old) }
-    ensures { Adds base s.old s.new (λ x y. eqb x a && eq_next y (some b)) }
+// Word j of row a of the set: its lane i is the pair (a, 64 j + i).
+pub fn row_word(s: &Storage, set: PairSet, a: usize, j: usize) -> u64
+    requires { (a < 256) × (j < 4) }
+    ensures { RowWord (stored s.now (base_of set)) a j result }
 {
-    let k = base + (4 * a + b / 64);
-    s[k] = s[k] | 1 << (b % 64);
+    s[set.base() + (4 * a + j)]
 }
 
-// Puts (a, end) into the set at base.
-pub fn insert_end(s: &mut [u64], base: usize, a: usize)
-    requires { (a < 256) × (base ≤ scratch_at) × (storage_words ≤ length s.old) }
-    ensures { Adds base s.old s.new (λ x y. eqb x a && eq_next y none) }
+// Word j of the ends of the set: its lane i is the pair (64 j + i, end).
+pub fn ends_word(s: &Storage, set: PairSet, j: usize) -> u64
+    requires { j < 4 }
+    ensures { EndsWord (stored s.now (base_of set)) j result }
 {
-    let k = base + (1024 + a / 64);
-    s[k] = s[k] | 1 << (a % 64);
+    s[set.base() + (1024 + j)]
 }
 
-// Puts (a, 64 j + i) into the set at base, for each lane i of x that is set.
-pub fn insert_word(s: &mut [u64], base: usize, a: usize, j: usize, x: u64)
-    requires { (a < 256) × (j < 4) × (base ≤ scratch_at) × (storage_words ≤ length s.old) }
-    ensures { Adds base s.old s.new (λ p y. eqb p a && in_word j x y) }
+// The words of n rows of the set, from row a on.
+pub fn rows(s: &Storage, set: PairSet, a: usize, n: usize) -> &[u64]
+    requires { a + n ≤ 256 }
+    ensures { (length result.now ≡ 4 * n) × ((k : ℕ) → k < 4 * n → slice_index result.now k ≡ slice_index s.now (base_of set + (4 * a + k))) }
 {
-    let k = base + (4 * a + j);
-    s[k] = s[k] | x;
+    let at = set.base() + 4 * a;
+    &s[at..at + 4 * n]
 }
 
-// Puts (64 j + i, end) into the set at base, for each lane i of x that is set.
-pub fn insert_ends(s: &mut [u64], base: usize, j: usize, x: u64)
-    requires { (j < 4) × (base ≤ scratch_at) × (storage_words ≤ length s.old) }
-    ensures { Adds base s.old s.new (λ a y. in_word j x (some a) && eq_next y none) }
+// Puts (a, b) into the set.
+pub fn insert(s: &mut Storage, set: PairSet, a: usize, b: usize)
+    requires { (a < 256) × (b < 256) }
+    ensures { Adds (base_of set) s.old s.new (λ x y. eqb x a && eq_next y (some b)) }
 {
-    let k = base + (1024 + j);
-    s[k] = s[k] | x;
+    let k = set.base() + (4 * a + b / 64);
+    s[k] |= 1 << (b % 64);
+}
+
+// Puts (a, end) into the set.
+pub fn insert_end(s: &mut Storage, set: PairSet, a: usize)
+    requires { a < 256 }
+    ensures { Adds (base_of set) s.old s.new (λ x y. eqb x a && eq_next y none) }
+{
+    s[set.base() + (1024 + a / 64)] |= 1 << (a % 64);
+}
+
+// Puts (a, 64 j + i) into the set, for each lane i of x that is set.
+pub fn insert_word(s: &mut Storage, set: PairSet, a: usize, j: usize, x: u64)
+    requires { (a < 256) × (j < 4) }
+    ensures { Adds (base_of set) s.old s.new (λ p y. eqb p a && in_word j x y) }
+{
+    s[set.base() + (4 * a + j)] |= x;
+}
+
+// Puts (64 j + i, end) into the set, for each lane i of x that is set.
+pub fn insert_ends(s: &mut Storage, set: PairSet, j: usize, x: u64)
+    requires { j < 4 }
+    ensures { Adds (base_of set) s.old s.new (λ a y. in_word j x (some a) && eq_next y none) }
+{
+    s[set.base() + (1024 + j)] |= x;
+}
+
+// The row whose first w words are given by their numbers; the others are 0.
+pub fn row_by<F: Fn(usize) -> u64>(w: usize, word: F) -> Row
+    requires { (w ≤ 4) × ((j : ℕ) → j < w → F.pre word j) }
+    ensures { (g : ℕ → Bool) → GivesRow w (F.post word) g → RowOf w result g }
+{
+    let mut row = [0; 4];
+    for j in 0..w {
+        row[j] = word(j);
+    }
+    row
 }
 
 // Puts a into the row.
-pub fn note(row: &mut [u64], a: usize)
-    requires { (a < 256) × (length row.old ≡ 4) }
+pub fn note(row: &mut Row, a: usize)
+    requires { a < 256 }
     ensures { Noted a row.old row.new }
 {
-    let j = a / 64;
-    row[j] = row[j] | 1 << (a % 64);
+    row[a / 64] |= 1 << (a % 64);
 }
 
-// The first of the w words from `at` on, from number j on, that is not 0, or w if there is none.
-fn next_word(s: &[u64], at: usize, w: usize, j: usize) -> usize
-    requires { (j ≤ w) × (w ≤ 4) × (at ≤ storage_words) × (at + w ≤ length s.now) }
-    ensures { NextWord s.now at w j result }
+// The first bit from `from` on that is set in the words, if there is one.
+fn next_in(words: &[u64], from: usize) -> Option<usize>
+    requires { length words.now ≤ 4 }
+    ensures { NextBit words.now (length words.now) from result }
 {
-    let mut i = j;
-    while i < w {
-        if s[at + i] != 0 {
-            return i;
-        }
-        i += 1;
-    }
-    w
-}
-
-// The first bit from `from` on that is set in the w words from `at` on, or 64 w if there is none.
-pub fn next_bit(s: &[u64], at: usize, w: usize, from: usize) -> usize
-    requires { (from ≤ 64 * w) × (w ≤ 4) × (at ≤ storage_words) × (at + w ≤ length s.now) }
-    ensures { NextBit s.now at w from result }
-{
-    if from == 64 * w {
-        return from;
-    }
-    let x = s[at + from / 64] >> (from % 64);
+    let x = *words.get(from / 64)? >> (from % 64);
     if x != 0 {
-        return from + u64::trailing_zeros(x) as usize;
+        return Some(from + x.trailing_zeros() as usize);
     }
-    let j = next_word(s, at, w, from / 64 + 1);
-    if j == w {
-        return 64 * w;
+    for j in from / 64 + 1..words.len() {
+        if words[j] != 0 {
+            return Some(64 * j + words[j].trailing_zeros() as usize);
+        }
     }
-    64 * j + u64::trailing_zeros(s[at + j]) as usize
+    None
 }
 
-// The first valuation from `from` on in the first w words of row a of the set at base, or 64 w if there is none.
-pub fn next_member(s: &[u64], base: usize, a: usize, w: usize, from: usize) -> usize
-    requires { (a < 256) × (from ≤ 64 * w) × (w ≤ 4) × (base ≤ scratch_at) × (storage_words ≤ length s.now) }
-    ensures { NextMember (stored s.now base) a w from result }
+// The first valuation from `from` on in the first w words of the row, if there is one.
+pub fn next_bit(row: &Row, w: usize, from: usize) -> Option<usize>
+    requires { w ≤ 4 }
+    ensures { NextBit row.now w from result }
 {
-    next_bit(s, base + 4 * a, w, from)
+    next_in(&row[..w], from)
+}
+
+// The first valuation from `from` on in the first w words of row a of the set, if there is one.
+pub fn next_member(s: &Storage, set: PairSet, a: usize, w: usize, from: usize) -> Option<usize>
+    requires { (a < 256) × (w ≤ 4) }
+    ensures { NextMember (stored s.now (base_of set)) a w from result }
+{
+    next_in(&rows(s, set, a, 1)[..w], from)
 }
 
 // Writes 0 into n words from `at` on.
-fn clear_words(s: &mut [u64], at: usize, n: usize)
-    requires { (at + n ≤ storage_words) × (storage_words ≤ length s.old) }
+fn clear_words(s: &mut Storage, at: usize, n: usize)
+    requires { at + n ≤ storage_words }
     ensures { Zeroed at n s.old s.new }
 {
-    let mut k: usize = 0;
-    while k < n {
-        s[at + k] = 0;
-        k += 1;
-    }
+    s[at..at + n].fill(0);
 }
 
-// Empties the set at base.
-pub fn clear(s: &mut [u64], base: usize)
-    requires { (base ≤ scratch_at) × (storage_words ≤ length s.old) }
-    ensures { Zeroed base set_words s.old s.new }
+// Empties the three sets.
+pub fn clear(s: &mut Storage)
+    ensures { Zeroed live_at storage_words s.old s.new }
 {
-    clear_words(s, base, SET_WORDS);
+    s.fill(0);
 }
 
-// Empties the rows below v and the ends of the set at base.
-pub fn clear_rows(s: &mut [u64], base: usize, v: usize)
-    requires { (v ≤ 256) × (base ≤ scratch_at) × (storage_words ≤ length s.old) }
-    ensures { RowsCleared base v s.old s.new }
+// Empties the rows below v and the ends of the set.
+pub fn clear_rows(s: &mut Storage, set: PairSet, v: usize)
+    requires { v ≤ 256 }
+    ensures { RowsCleared (base_of set) v s.old s.new }
 {
-    clear_words(s, base, 4 * v);
-    clear_words(s, base + 1024, 4);
+    let at = set.base();
+    clear_words(s, at, 4 * v);
+    clear_words(s, at + 1024, 4);
 }
 
-// Takes the pairs of row a out of the set at base.
-pub fn take_row(s: &mut [u64], base: usize, a: usize)
-    requires { (a < 256) × (base ≤ scratch_at) × (storage_words ≤ length s.old) }
-    ensures { RowTaken base a s.old s.new }
+// Takes the pairs of row a out of the set.
+pub fn take_row(s: &mut Storage, set: PairSet, a: usize)
+    requires { a < 256 }
+    ensures { RowTaken (base_of set) a s.old s.new }
 {
-    clear_words(s, base + 4 * a, 4);
-    let k = base + (1024 + a / 64);
-    s[k] = s[k] & !(1 << (a % 64));
+    let at = set.base();
+    clear_words(s, at + 4 * a, 4);
+    s[at + (1024 + a / 64)] &= !(1 << (a % 64));
 }
 
-// The number of pairs in the live set: the counts of ones of its words, summed.
-pub fn count(s: &[u64]) -> usize
-    requires { storage_words ≤ length s.now }
-    ensures { (result ≡ count_pairs 256 (live s.now)) × (result ≤ max_pairs) }
+// The number of bits that are 1 in the words.
+fn ones(words: &[u64]) -> usize
+    requires { length words.now ≤ set_words }
+    ensures sum { result ≡ count_below (64 * length words.now) (row_bit words.now 0) }
+    ensures most { result ≤ 64 * length words.now }
 {
-    let mut n: usize = 0;
-    let mut i: usize = 0;
-    while i < SET_WORDS {
-        n += u64::count_ones(s[i]) as usize;
-        i += 1;
+    let mut n = 0;
+    for word in words {
+        n += word.count_ones() as usize;
     }
     n
+}
+
+// The number of pairs in the live set: the counts of ones of its words, summed. What the type says of the words is told too.
+pub fn count(s: &[u64]) -> usize
+    requires { storage_words ≤ length s.now }
+    ensures counted { result ≡ count_pairs 256 (live s.now) }
+    ensures most { result ≤ max_pairs }
+    ensures words { (k : ℕ) → slice_index s.now k < 2 ^ 64 }
+{
+    ones(&s[..SET_WORDS])
+}
+
+// The words of the sets, in front of what is lent.
+pub fn in_front(storage: &[u64]) -> &Storage
+    requires { storage_words ≤ length storage.now }
+    ensures { result.now ≡ take storage_words storage.now }
+{
+    storage.first_chunk::<STORAGE_WORDS>().unwrap()
 }

@@ -2,7 +2,7 @@
 use mathlib.Core.Path.{◌≡◌, refl, sym, ap, ap₂, ◌∙◌}
 use mathlib.Core.Bool.{Bool, true, false, not, ◌&&◌, ◌||◌, and-true}
 use mathlib.Core.List.{List, []}
-use Prim.Native.Nat.{ℕ, ◌+◌, ◌-◌, ◌*◌, ◌/◌, ◌%◌, ◌^◌, ◌≤◌, ◌<◌}
+use Prim.Native.Nat.{ℕ, ◌+◌, ◌*◌, ◌/◌, ◌%◌, ◌^◌, ◌≤◌, ◌<◌}
 use native.Mathlib.Omega.{arith}
 use native.Mathlib.Decide.{ℕ_discrete}
 use lib.Bits.{bit_and}
@@ -10,18 +10,18 @@ use lib.Dec.{ltb}
 use lib.ListN.{length, get_or, set, length-set}
 use lib.Seq.{get_or-set_other}
 use Rattle.words.specs.Bits.{bit}
-use Rattle.words.proofs.BitLaws.{bit-and, bit_not, bit-none}
+use Rattle.words.proofs.BitLaws.{bit-and}
 use Rattle.words.proofs.ListLaws.{set_more}
 use Rattle.sheet.specs.RuleSheet.{required_of}
-use Rattle.sheet.specs.Reading.{Below}
 use Rattle.sheet.specs.declared.OutputNo.{OutputNo}
-use Rattle.sheet.specs.declared.Assumed.{Assumed}
-use Rattle.sheet.specs.declared.Assumed.TheVariants.{Nothing, Output}
+use Rattle.sheet.specs.Parts.{Assumed}
+use Rattle.std.specs.Prelude.{None, Some}
 use Rattle.sheet.proofs.Sheets.{length-trees}
 use Rattle.completions.specs.Live.{allowed, all_true}
 use Rattle.pairs.specs.Changes.{row_bit}
+use Rattle.pairs.proofs.RowWords.{row_lane}
 use Rattle.lanes.specs.Coded.{sheet_of}
-use Rattle.predecessors.specs.Rows.{Row, United}
+use Rattle.predecessors.specs.Rows.{United}
 
 -- ---- allowed valuations, by the bits that the code looks at
 
@@ -32,26 +32,22 @@ module _ (m n : ℕ) (code len : List ℕ) where
   pub streams-low : (ks : List ℕ) (k : ℕ) → 2 ^ (m + n) ≤ k → 2 ^ (m + length (sheet_of m n code len ks).expressions) ≤ k
   streams-low ks k h = rw (streams-are ks) h
 
-  allowed-free : (a : ℕ) → ltb a (2 ^ (m + n)) ≡ allowed (sheet_of m n code len (required_of Nothing)) a
+  allowed-free : (a : ℕ) → ltb a (2 ^ (m + n)) ≡ allowed (sheet_of m n code len (required_of None)) a
   unfolding allowed all_true
   allowed-free a = sym (and-true (ltb a (2 ^ (m + length (sheet_of m n code len []).expressions))) ∙ ap (λ (k : ℕ). ltb a (2 ^ k)) (streams-are []))
 
-  allowed-output : (k : OutputNo) (a : ℕ) → (ltb a (2 ^ (m + n)) && bit (m + k.0) a) ≡ allowed (sheet_of m n code len (required_of (Output k))) a
+  allowed-output : (k : OutputNo) (a : ℕ) → (ltb a (2 ^ (m + n)) && bit (m + k.0) a) ≡ allowed (sheet_of m n code len (required_of (Some k))) a
   unfolding allowed all_true
   allowed-output k a =
-      sym (ap₂ (λ (i : ℕ) (u : Bool). ltb a (2 ^ i) && u) (streams-are (required_of (Output k))) (and-true (bit (m + k.0) a)))
+      sym (ap₂ (λ (i : ℕ) (u : Bool). ltb a (2 ^ i) && u) (streams-are (required_of (Some k))) (and-true (bit (m + k.0) a)))
 
   -- by the assumption that the code has, the number of valuations v and the stream q
-  pub allowed-nothing : (x : Assumed) (v a : ℕ) → x ≡ Nothing → v ≡ 2 ^ (m + n) → ltb a v ≡ allowed (sheet_of m n code len (required_of x)) a
+  pub allowed-nothing : (x : Assumed) (v a : ℕ) → x ≡ None → v ≡ 2 ^ (m + n) → ltb a v ≡ allowed (sheet_of m n code len (required_of x)) a
   allowed-nothing x v a e f = ap (ltb a) f ∙ allowed-free a ∙ ap (λ (y : Assumed). allowed (sheet_of m n code len (required_of y)) a) (sym e)
 
-  pub allowed-by : (x : Assumed) (k : OutputNo) (v q a : ℕ) → x ≡ Output k → v ≡ 2 ^ (m + n) → q ≡ m + k.0 → (ltb a v && bit q a) ≡ allowed (sheet_of m n code len (required_of x)) a
+  pub allowed-by : (x : Assumed) (k : OutputNo) (v q a : ℕ) → x ≡ Some k → v ≡ 2 ^ (m + n) → q ≡ m + k.0 → (ltb a v && bit q a) ≡ allowed (sheet_of m n code len (required_of x)) a
   allowed-by x k v q a e f g =
       ap₂ (λ (i j : ℕ). ltb a i && bit j a) f g ∙ allowed-output k a ∙ ap (λ (y : Assumed). allowed (sheet_of m n code len (required_of y)) a) (sym e)
-
--- an assumption is an output of the sheet
-pub below-output : (x : Assumed) (k : OutputNo) (n : ℕ) → x ≡ Output k → Below x n → k.0 < n
-below-output x k n e h = rw e at h
 
 -- ---- a row written one word after the other: f takes the number of a lane and what was there
 
@@ -81,27 +77,24 @@ module _ (old : List ℕ) (f : ℕ → Bool → Bool) where
       ap (λ (k : ℕ). bit (a % 64) (get_or new k 0)) e ∙ p.done (a / 64) (a % 64) (omega arith) (omega arith)
       ∙ ap₂ (λ (i k : ℕ). f i (bit (a % 64) (get_or old k 0))) q (sym e)
 
--- lane i of word j of a row
-pub row_lane : (row : List ℕ) (j i : ℕ) → i < 64 → bit i (get_or row j 0) ≡ row_bit row 0 (64 * j + i)
-unfolding row_bit
-row_lane row j i h =
-    let p : i ≡ (64 * j + i) % 64 = omega arith in
-    let q : j ≡ 0 + (64 * j + i) / 64 = omega arith in
-    ap₂ (λ (u v : ℕ). bit u (get_or row v 0)) p q
-
 -- ---- a row that covers another
 
-covered_word : (x y i : ℕ) → i < 64 → y < 2 ^ 64 → bit_and x ((2 ^ 64 - 1) - y) ≡ 0 → (bit i x && not (bit i y)) ≡ false
-covered_word x y i h fit e = ap (λ (u : Bool). bit i x && u) (sym (bit_not 64 i y h fit)) ∙ sym (bit-and i x ((2 ^ 64 - 1) - y)) ∙ ap (bit i) e ∙ bit-none i
+covered_word : (x y i : ℕ) → bit_and x y ≡ x → (bit i x && not (bit i y)) ≡ false
+covered_word x y i e = go (bit i x) (bit i y) (sym (bit-and i x y) ∙ ap (bit i) e)
+  where
+    go : (u v : Bool) → (u && v) ≡ u → (u && not v) ≡ false
+    go false v f = refl
+    go true true f = refl
+    go true false f = sym f
 
 abbrev pub Covering : List ℕ → List ℕ → ℕ → Type 0
 Covering row ok j = (k i : ℕ) → k < j → i < 64 → (bit i (get_or ok k 0) && not (bit i (get_or row k 0))) ≡ false
 
-pub covering_more : (row ok : List ℕ) (j : ℕ) → get_or row j 0 < 2 ^ 64 → Covering row ok j → bit_and (get_or ok j 0) ((2 ^ 64 - 1) - get_or row j 0) ≡ 0 → Covering row ok (j + 1)
-covering_more row ok j fit p e k i h l = go (ℕ_discrete k j)
+pub covering_more : (row ok : List ℕ) (j : ℕ) → Covering row ok j → bit_and (get_or ok j 0) (get_or row j 0) ≡ get_or ok j 0 → Covering row ok (j + 1)
+covering_more row ok j p e k i h l = go (ℕ_discrete k j)
   where
     go : Dec (k ≡ j) → (bit i (get_or ok k 0) && not (bit i (get_or row k 0))) ≡ false
-    go (yes d) = ap (λ (u : ℕ). bit i (get_or ok u 0) && not (bit i (get_or row u 0))) d ∙ covered_word (get_or ok j 0) (get_or row j 0) i l fit e
+    go (yes d) = ap (λ (u : ℕ). bit i (get_or ok u 0) && not (bit i (get_or row u 0))) d ∙ covered_word (get_or ok j 0) (get_or row j 0) i e
     go (no d) = p k i (omega arith) l
 
 pub covered : (row ok : List ℕ) (j w a : ℕ) → w ≤ j → Covering row ok j → a < 64 * w → row_bit ok 0 a ≡ true → row_bit row 0 a ≡ true
@@ -125,15 +118,7 @@ module _ (old ok : List ℕ) (h : ℕ → Bool) where
       → ((i : ℕ) → i < 64 → bit i x ≡ (bit i (get_or new j 0) || (bit i (get_or ok j 0) && h (64 * j + i)))) → LanesTo old (set new j x) (λ a u. u || (row_bit ok 0 a && h a)) (j + 1)
   gains-more new j x l p e =
       lanes-more old (λ a u. u || (row_bit ok 0 a && h a)) new j x l p
-      (λ i g. e i g ∙ ap (λ (u : Bool). bit i (get_or new j 0) || (u && h (64 * j + i))) (row_lane ok j i g))
+      (λ i g. e i g ∙ ap (λ (u : Bool). bit i (get_or new j 0) || (u && h (64 * j + i))) (sym (row_lane ok j i g)))
 
   pub gains-all : (new : List ℕ) (j w : ℕ) → w ≤ j → LanesTo old new (λ a u. u || (row_bit ok 0 a && h a)) j → United w old new (λ a. row_bit ok 0 a && h a)
-  gains-all new j w l p = record { same_length = p.same_length; gains = λ a g. lanes_all old (λ a u. u || (row_bit ok 0 a && h a)) new j w a l p g }
-
--- a row lane by lane
-pub lanes_row : (row : List ℕ) (w : ℕ) (f : ℕ → Bool) → ((j i : ℕ) → j < w → i < 64 → bit i (get_or row j 0) ≡ f (64 * j + i)) → Row w row f
-unfolding row_bit
-lanes_row row w f h a g =
-    let d : 0 + a / 64 ≡ a / 64 = omega arith in
-    let r : 64 * (a / 64) + a % 64 ≡ a = omega arith in
-    ap (λ (k : ℕ). bit (a % 64) (get_or row k 0)) d ∙ h (a / 64) (a % 64) (omega arith) (omega arith) ∙ ap f r
+  gains-all new j w l p a g = lanes_all old (λ a u. u || (row_bit ok 0 a && h a)) new j w a l p g

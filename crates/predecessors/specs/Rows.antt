@@ -1,5 +1,5 @@
 -- For the contracts of inner functions: rows of valuations, as the bits of words.
-use Rattle.std.specs.Prelude.{◌≡◌, Bool, ◌&&◌, ◌||◌, List, ℕ, ◌*◌, ◌<◌, length}
+use Rattle.std.specs.Prelude.{◌≡◌, Bool, ◌&&◌, ◌||◌, List, ℕ, ◌*◌, ◌<◌}
 use Rattle.std.proofs.Math.Option.{some}
 use Rattle.sheet.specs.RuleSheet.{RuleSheet}
 use Rattle.lola.specs.Equations.{holds}
@@ -11,11 +11,6 @@ use Rattle.pairs.specs.Changes.{row_bit}
 unfoldable pub meets : RuleSheet → ℕ → Pairs → ℕ → ℕ → Bool
 meets x n F a b = any_next n (λ c. F b c && holds x (some a) b c)
 
--- w words hold f
-abbrev pub Row : ℕ → List ℕ → (ℕ → Bool) → Type 0
-Row w row f = (a : ℕ) → a < 64 * w → row_bit row 0 a ≡ f a
-
 -- w words have gained f
-pub record United (w : ℕ) (s t : List ℕ) (f : ℕ → Bool) : Type 0 where
-  pub same_length : length t ≡ length s
-  pub gains : (a : ℕ) → a < 64 * w → row_bit t 0 a ≡ (row_bit s 0 a || f a)
+abbrev pub United : ℕ → List ℕ → List ℕ → (ℕ → Bool) → Type 0
+United w s t f = (a : ℕ) → a < 64 * w → row_bit t 0 a ≡ (row_bit s 0 a || f a)

@@ -1,6 +1,6 @@
 -- What the live set and the next layer gain together.
 use mathlib.Core.Path.{◌≡◌, refl, sym, ap, ap₂, ◌∙◌}
-use mathlib.Core.Logic.{inl, inr}
+use mathlib.Core.Logic.{◌⊎◌, inl, inr}
 use mathlib.Core.Bool.{Bool, true, false, not, ◌&&◌, ◌||◌, and-true, and-false, or-false, or_assoc, or-true, and_comm, true≢false}
 use mathlib.Core.List.{List}
 use mathlib.Core.Option.{Option, none, some}
@@ -21,11 +21,13 @@ use Rattle.completions.specs.Live.{Pairs, allowed, assumed}
 use Rattle.completions.specs.Steps.{Within, any_next}
 use Rattle.completions.proofs.Range.{wider}
 use Rattle.pairs.specs.Storage.{stored, live, set_words, live_at, reached_at, scratch_at, storage_words}
-use Rattle.pairs.specs.Changes.{eq_next, Framed, Adds, row_bit, NextBit, RowTaken, Noted}
+use Rattle.pairs.specs.declared.PairSet.{PairSet}
+use Rattle.pairs.specs.declared.PairSet.TheVariants.{Live, Reached, Scratch}
+use Rattle.pairs.specs.Changes.{base_of, eq_next, Framed, Adds, row_bit, RowOf, RowTaken, Noted}
 use Rattle.pairs.proofs.Frames.{framed_none, framed_then, framed_wider}
 use Rattle.pairs.proofs.Sets.{stored_eq, framed-before, framed-beyond}
-use Rattle.predecessors.specs.Rows.{meets, Row}
-use Rattle.preparation.specs.Search.{joining, joiners_at, joiners, newcomers, newcomers_in, enders, Joins, Occupied, Apart, Swept}
+use Rattle.predecessors.specs.Rows.{meets}
+use Rattle.preparation.specs.Search.{joining, joiners_at, joiners, newcomers, newcomers_in, enders, Joins, Occupied, Swept}
 use Rattle.preparation.proofs.Layers.{joining-same}
 
 -- ---- joining nothing, one after the other, the same
@@ -116,6 +118,27 @@ occupied_more w base rows rows' s t u a b ha hw hb l p q n o = record {
     present x h e (no d) =
         let y = o.some_there x h (sym (other x (omega arith) d) ∙ e) in
         (y.0, y.1, kept x y.0 (omega arith) y.1 d ∙ y.2)
+
+-- ---- the places of the layer that is taken up and of the next: behind the live set, with no word in common
+
+abbrev pub Apart : ℕ → ℕ → Type 0
+Apart base base' = (base + set_words ≤ base') ⊎ (base' + set_words ≤ base)
+
+pub record Layers (layer next : ℕ) : Type 0 where
+  pub low : reached_at ≤ layer
+  pub high : layer ≤ scratch_at
+  pub next_low : reached_at ≤ next
+  pub next_high : next ≤ scratch_at
+  pub apart : Apart layer next
+
+pub layers-of : (a b : PairSet) → (reached_at ≤ base_of a) × (reached_at ≤ base_of b) × (base_of a ≡ base_of b → ⊥) → Layers (base_of a) (base_of b)
+layers-of Live b h = absurd (omega (arith, h.0))
+layers-of Reached Live h = absurd (omega (arith, h.1))
+layers-of Reached Reached h = absurd (h.2 refl)
+layers-of Reached Scratch h = record { low = omega arith; high = omega arith; next_low = omega arith; next_high = omega arith; apart = inl (omega arith) }
+layers-of Scratch Live h = absurd (omega (arith, h.1))
+layers-of Scratch Reached h = record { low = omega arith; high = omega arith; next_low = omega arith; next_high = omega arith; apart = inr (omega arith) }
+layers-of Scratch Scratch h = absurd (h.2 refl)
 
 -- what is done to one set leaves another as it was
 framed_beside : {layer next : ℕ} {s t : List ℕ} → Apart layer next → Framed layer set_words s t → (x : ℕ) (y : Option ℕ) → x < 256 → Within 256 y → stored t next x y ≡ stored s next x y
@@ -241,38 +264,33 @@ module _ (base : ℕ) (s : List ℕ) (row : List ℕ) (b : ℕ) where
   pub words-all : (t : List ℕ) (j w : ℕ) → j ≡ w → Joins base s t (newcomers (64 * j) row b (live s)) → Joins base s t (newcomers (64 * w) row b (live s))
   words-all t j w e p = rw e at p
 
--- ---- the ends, one after the other; a is the next, or the bound n
+-- ---- the ends, one after the other
 
-pub record Ends (base : ℕ) (s t : List ℕ) (w : ℕ) (row : List ℕ) (a : ℕ) : Type 0 where
-  pub inside : a ≤ 64 * w
-  pub sofar : Joins base s t (enders a row)
-  pub next : a < 64 * w → row_bit row 0 a ≡ true
-
-module _ (base : ℕ) (s : List ℕ) (w : ℕ) (row : List ℕ) where
-  pub ends-first : (a : ℕ) → NextBit row 0 w 0 a → Ends base s s w row a
+module _ (base : ℕ) (s : List ℕ) (row : List ℕ) where
+  pub ends-none : Joins base s s (enders 0 row)
   unfolding enders
-  ends-first a n = record { inside = n.inside; sofar = joins_none base s (enders a row) at; next = n.found }
+  ends-none = joins_none base s (enders 0 row) at
     where
-      at : (x : ℕ) (y : Option ℕ) → x < 256 → Within 256 y → enders a row x y ≡ false
-      at x none hx hy = sym (below_wider x 0 a (row_bit row 0 x) (omega arith) (λ g k. n.skipped x g k)) ∙ below_none x (row_bit row 0 x)
+      at : (x : ℕ) (y : Option ℕ) → x < 256 → Within 256 y → enders 0 row x y ≡ false
+      at x none hx hy = below_none x (row_bit row 0 x)
       at x (some y) hx hy = refl
 
-  pub ends_more : (t u : List ℕ) (a a' : ℕ) → a < 64 * w → Ends base s t w row a → Joins base t u (λ x y. eqb x a && eq_next y none) → NextBit row 0 w (a + 1) a' → Ends base s u w row a'
-  unfolding enders eq_next
-  ends_more t u a a' ha c j n = record {
-    inside = n.inside;
-    sofar = joins_then base s t u (enders a row) (λ x y. eqb x a && eq_next y none) (enders a' row) c.sofar j at;
-    next = n.found;
-  }
+  -- what is passed over is not in the row
+  pub ends_skip : (t : List ℕ) (from a : ℕ) → from ≤ a → ((x : ℕ) → from ≤ x → x < a → row_bit row 0 x ≡ false) → Joins base s t (enders from row) → Joins base s t (enders a row)
+  unfolding enders
+  ends_skip t from a l f j = joins_as base s t (enders from row) (enders a row) j at
     where
-      at : (x : ℕ) (y : Option ℕ) → x < 256 → Within 256 y → (enders a row x y || (eqb x a && eq_next y none)) ≡ enders a' row x y
-      at x none hx hy =
-          below_more x a (row_bit row 0 x) true (λ q. sym (ap (row_bit row 0) q ∙ c.next ha))
-          ∙ below_wider x (a + 1) a' (row_bit row 0 x) n.onward (λ g k. n.skipped x g k)
-      at x (some y) hx hy = and-false (eqb x a)
+      at : (x : ℕ) (y : Option ℕ) → x < 256 → Within 256 y → enders from row x y ≡ enders a row x y
+      at x none hx hy = below_wider x from a (row_bit row 0 x) l (λ g k. f x g k)
+      at x (some y) hx hy = refl
 
-  pub ends-all : (t : List ℕ) (a : ℕ) → 64 * w ≤ a → Ends base s t w row a → Joins base s t (enders (64 * w) row)
-  ends-all t a h c = let e : a ≡ 64 * w = omega (arith, c.inside) in rw e at c.sofar
+  pub ends_more : (t u : List ℕ) (a : ℕ) → row_bit row 0 a ≡ true → Joins base s t (enders a row) → Joins base t u (λ x y. eqb x a && eq_next y none) → Joins base s u (enders (a + 1) row)
+  unfolding enders eq_next
+  ends_more t u a e p j = joins_then base s t u (enders a row) (λ x y. eqb x a && eq_next y none) (enders (a + 1) row) p j at
+    where
+      at : (x : ℕ) (y : Option ℕ) → x < 256 → Within 256 y → (enders a row x y || (eqb x a && eq_next y none)) ≡ enders (a + 1) row x y
+      at x none hx hy = below_more x a (row_bit row 0 x) true (λ q. sym (ap (row_bit row 0) q ∙ e))
+      at x (some y) hx hy = and-false (eqb x a)
 
 -- ---- the pairs before one b, and before each b below a bound
 
@@ -285,7 +303,7 @@ module _ (x : RuleSheet) (w : ℕ) (low : 2 ^ streams x ≤ 64 * w) where
   turned true r n m e = ap (λ (u : Bool). u && n) e ∙ and_comm m n
   turned false r n m e = ap (λ (u : Bool). u && n) e
 
-  pub column-joins : (base layer : ℕ) (s t row : List ℕ) (b : ℕ) → Row w row (λ a. allowed x a && meets x (64 * w) (stored s layer) a b)
+  pub column-joins : (base layer : ℕ) (s t row : List ℕ) (b : ℕ) → RowOf w row (λ a. allowed x a && meets x (64 * w) (stored s layer) a b)
       → Joins base s t (newcomers (64 * w) row b (live s)) → Joins base s t (joiners_at x (64 * w) b (live s) (stored s layer))
   unfolding newcomers joiners_at joining
   column-joins base layer s t row b h j = joins_as base s t (newcomers (64 * w) row b (live s)) (joiners_at x (64 * w) b (live s) (stored s layer)) j at
@@ -309,7 +327,7 @@ module _ (x : RuleSheet) (w : ℕ) (low : 2 ^ streams x ≤ 64 * w) where
               (ap (λ (u : Bool). u && (row_bit row 0 a && not (live s a (some c)))) (le-ltb a (64 * w) (omega arith))
               ∙ sym (ap (λ (u : Bool). u && (not (live s a (some c)) && meets x (64 * w) (stored s layer) a c)) (beyond-none a (omega arith))))
 
--- ---- the rows of a layer, one after the other; b is the next, or the bound
+-- ---- the rows of a layer, one after the other
 
 -- a row with no pair lets nothing join
 idle : (x : RuleSheet) (n : ℕ) (L F : Pairs) (a b : ℕ) → ((c : Option ℕ) → Within n c → F b c ≡ false) → joining x n L F a b ≡ false
@@ -333,41 +351,59 @@ module _ (x : RuleSheet) (w layer next : ℕ) (hw : w ≤ 4) (occ s : List ℕ) 
   J b = joiners x (64 * w) b (live s) (stored s layer)
 
   -- the rows that are passed over have no pair
-  passed : (from b : ℕ) → NextBit occ 0 w from b → (c : ℕ) (y : Option ℕ) → from ≤ c → c < b → Within 256 y → stored s layer c y ≡ false
-  passed from b n c y l h hy = o.none_there c y (omega (arith, n.inside)) hy (λ g. n.skipped c l h)
+  module _ (from b : ℕ) (l : from ≤ b) (h : b ≤ 64 * w) (n : (c : ℕ) → from ≤ c → c < b → row_bit occ 0 c ≡ false) where
+    passed : (c : ℕ) (y : Option ℕ) → from ≤ c → c < b → Within 256 y → stored s layer c y ≡ false
+    passed c y l k hy = o.none_there c y (omega arith) hy (λ g. n c l k)
 
-  joiners-skip : (from b : ℕ) → NextBit occ 0 w from b → (a : ℕ) (y : Option ℕ) → J from a y ≡ J b a y
+    joiners-skip : (a : ℕ) (y : Option ℕ) → J from a y ≡ J b a y
+    unfolding joiners
+    joiners-skip a none = refl
+    joiners-skip a (some c) =
+        below_wider c from b (K a c) l
+        (λ k g. idle x (64 * w) (live s) (stored s layer) a c (λ y f. passed c y k g (wider (64 * w) 256 (omega arith) y f)))
+
+    left-skip : (a : ℕ) (y : Option ℕ) → Within 256 y → (stored s layer a y && not (ltb a from)) ≡ (stored s layer a y && not (ltb a b))
+    left-skip a y hy = go (dec_lt a from) (dec_lt a b)
+      where
+        go : Dec (a < from) → Dec (a < b) → (stored s layer a y && not (ltb a from)) ≡ (stored s layer a y && not (ltb a b))
+        go (yes d) e = ap (λ (u : Bool). stored s layer a y && not u) (lt-ltb a from d ∙ sym (lt-ltb a b (omega arith)))
+        go (no d) (yes e) = ap (λ (u : Bool). u && not (ltb a from)) (passed a y (omega arith) e hy) ∙ sym (ap (λ (u : Bool). u && not (ltb a b)) (passed a y (omega arith) e hy))
+        go (no d) (no e) = ap (λ (u : Bool). stored s layer a y && not u) (le-ltb a from (omega arith) ∙ sym (le-ltb a b (omega arith)))
+
+    pub swept-skip : (t : List ℕ) → Swept x (64 * w) from layer next s t → Swept x (64 * w) b layer next s t
+    swept-skip t p = record {
+      frame = p.frame;
+      live = λ a y ha hy. p.live a y ha hy ∙ ap (λ (u : Bool). live s a y || u) (joiners-skip a y);
+      gained = λ a y ha hy. p.gained a y ha hy ∙ ap (λ (u : Bool). stored s next a y || u) (joiners-skip a y);
+      left = λ a y ha hy. p.left a y ha hy ∙ left-skip a y hy;
+    }
+
+  pub swept-none : Swept x (64 * w) 0 layer next s s
   unfolding joiners
-  joiners-skip from b n a none = refl
-  joiners-skip from b n a (some c) =
-      below_wider c from b (K a c) n.onward
-      (λ l h. idle x (64 * w) (live s) (stored s layer) a c (λ y g. passed from b n c y l h (wider (64 * w) 256 (omega arith) y g)))
-
-  left-skip : (from b : ℕ) → NextBit occ 0 w from b → (a : ℕ) (y : Option ℕ) → Within 256 y → (stored s layer a y && not (ltb a from)) ≡ (stored s layer a y && not (ltb a b))
-  left-skip from b n a y hy = go (dec_lt a from) (dec_lt a b)
-    where
-      go : Dec (a < from) → Dec (a < b) → (stored s layer a y && not (ltb a from)) ≡ (stored s layer a y && not (ltb a b))
-      go (yes d) e = ap (λ (u : Bool). stored s layer a y && not u) (lt-ltb a from d ∙ sym (lt-ltb a b (omega (arith, n.onward))))
-      go (no d) (yes e) = ap (λ (u : Bool). u && not (ltb a from)) (passed from b n a y (omega arith) e hy) ∙ sym (ap (λ (u : Bool). u && not (ltb a b)) (passed from b n a y (omega arith) e hy))
-      go (no d) (no e) = ap (λ (u : Bool). stored s layer a y && not u) (le-ltb a from (omega arith) ∙ sym (le-ltb a b (omega arith)))
-
-  pub swept-first : (b : ℕ) → NextBit occ 0 w 0 b → Swept x (64 * w) b layer next s s
-  unfolding joiners
-  swept-first b n = record {
+  swept-none = record {
     frame = framed_none live_at storage_words s;
-    live = λ a y ha hy. sym (ap (λ (u : Bool). live s a y || u) (sym (joiners-skip 0 b n a y) ∙ none_yet a y) ∙ or-false (live s a y));
-    gained = λ a y ha hy. sym (ap (λ (u : Bool). stored s next a y || u) (sym (joiners-skip 0 b n a y) ∙ none_yet a y) ∙ or-false (stored s next a y));
-    left = λ a y ha hy. sym (sym (left-skip 0 b n a y hy) ∙ ap (λ (u : Bool). stored s layer a y && not u) (le-ltb a 0 (omega arith)) ∙ and-true (stored s layer a y));
+    live = λ a y ha hy. sym (ap (λ (u : Bool). live s a y || u) (none_yet a y) ∙ or-false (live s a y));
+    gained = λ a y ha hy. sym (ap (λ (u : Bool). stored s next a y || u) (none_yet a y) ∙ or-false (stored s next a y));
+    left = λ a y ha hy. sym (ap (λ (u : Bool). stored s layer a y && not u) (le-ltb a 0 (omega arith)) ∙ and-true (stored s layer a y));
   }
     where
       none_yet : (a : ℕ) (y : Option ℕ) → J 0 a y ≡ false
       none_yet a none = refl
       none_yet a (some c) = below_none c (K a c)
 
-  module _ (low : reached_at ≤ layer) (high : layer ≤ scratch_at) (next-high : next ≤ scratch_at) (apart : Apart layer next) (t u z : List ℕ) (b b' : ℕ) (hb : b < 64 * w)
-      (p : Swept x (64 * w) b layer next s t) (q : Joins next t u (joiners_at x (64 * w) b (live t) (stored t layer))) (r : RowTaken layer b u z) (n : NextBit occ 0 w (b + 1) b') where
+  module _ (places : Layers layer next) (t u z : List ℕ) (b : ℕ) (hb : b < 64 * w)
+      (p : Swept x (64 * w) b layer next s t) (q : Joins next t u (joiners_at x (64 * w) b (live t) (stored t layer))) (r : RowTaken layer b u z) where
+    low : reached_at ≤ layer
+    low = places.low
+
+    high : layer ≤ scratch_at
+    high = places.high
+
+    next-high : next ≤ scratch_at
+    next-high = places.next_high
+
     layer-kept : (a : ℕ) (y : Option ℕ) → a < 256 → Within 256 y → stored u layer a y ≡ stored t layer a y
-    layer-kept a y ha hy = stored_eq t u layer layer a y ha hy (λ k h. go k h apart)
+    layer-kept a y ha hy = stored_eq t u layer layer a y ha hy (λ k h. go k h places.apart)
       where
         go : (k : ℕ) → k < set_words → Apart layer next → get_or u (layer + k) 0 ≡ get_or t (layer + k) 0
         go k h (inl d) = q.between (layer + k) (omega arith) (omega arith)
@@ -381,18 +417,17 @@ module _ (x : RuleSheet) (w layer next : ℕ) (hw : w ≤ 4) (occ s : List ℕ) 
         (p.live a (some b) ha (omega arith) ∙ ap (λ (u : Bool). live s a (some b) || u) (ap (λ (u : Bool). u && K a b) (le-ltb b b (omega arith))) ∙ or-false (live s a (some b)))
         (λ c h. p.left b c (omega arith) (wider (64 * w) 256 (omega arith) c h) ∙ ap (λ (u : Bool). stored s layer b c && not u) (le-ltb b b (omega arith)) ∙ and-true (stored s layer b c))
 
-    more : (a : ℕ) (y : Option ℕ) → a < 256 → (J b a y || joiners_at x (64 * w) b (live t) (stored t layer) a y) ≡ J b' a y
+    more : (a : ℕ) (y : Option ℕ) → a < 256 → (J b a y || joiners_at x (64 * w) b (live t) (stored t layer) a y) ≡ J (b + 1) a y
     unfolding joiners joiners_at
     more a none ha = refl
     more a (some c) ha =
         below_more c b (K a c) (joining x (64 * w) (live t) (stored t layer) a c)
         (λ d. ap (joining x (64 * w) (live t) (stored t layer) a) d ∙ same a ha ∙ ap (K a) (sym d))
-        ∙ joiners-skip (b + 1) b' n a (some c)
 
     below_next : (a : ℕ) → (ltb a b || eqb a b) ≡ ltb a (b + 1)
     below_next a = ap₂ ◌||◌ (sym (and-true (ltb a b))) (sym (and-true (eqb a b))) ∙ below_more a b true true (λ d. refl) ∙ and-true (ltb a (b + 1))
 
-    pub swept-more : Swept x (64 * w) b' layer next s z
+    pub swept-more : Swept x (64 * w) (b + 1) layer next s z
     swept-more = record {
       frame = framed_then p.frame (framed_then (framed_wider (omega arith) (omega arith) q.frame) (framed_wider (omega arith) (omega arith) r.frame));
       live = λ a y ha hy.
@@ -400,9 +435,9 @@ module _ (x : RuleSheet) (w layer next : ℕ) (hw : w ≤ 4) (occ s : List ℕ) 
           ∙ ap (λ (v : Bool). v || joiners_at x (64 * w) b (live t) (stored t layer) a y) (p.live a y ha hy)
           ∙ or_assoc (live s a y) (J b a y) (joiners_at x (64 * w) b (live t) (stored t layer) a y) ∙ ap (λ (v : Bool). live s a y || v) (more a y ha);
       gained = λ a y ha hy.
-          framed_beside apart r.frame a y ha hy ∙ q.next a y ha hy ∙ ap (λ (v : Bool). v || joiners_at x (64 * w) b (live t) (stored t layer) a y) (p.gained a y ha hy)
+          framed_beside places.apart r.frame a y ha hy ∙ q.next a y ha hy ∙ ap (λ (v : Bool). v || joiners_at x (64 * w) b (live t) (stored t layer) a y) (p.gained a y ha hy)
           ∙ or_assoc (stored s next a y) (J b a y) (joiners_at x (64 * w) b (live t) (stored t layer) a y) ∙ ap (λ (v : Bool). stored s next a y || v) (more a y ha);
       left = λ a y ha hy.
           r.taken a y ha hy ∙ ap (λ (v : Bool). v && not (eqb a b)) (layer-kept a y ha hy ∙ p.left a y ha hy) ∙ lost (stored s layer a y) (ltb a b) (eqb a b)
-          ∙ ap (λ (v : Bool). stored s layer a y && not v) (below_next a) ∙ left-skip (b + 1) b' n a y hy;
+          ∙ ap (λ (v : Bool). stored s layer a y && not v) (below_next a);
     }

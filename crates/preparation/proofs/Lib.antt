@@ -2,3 +2,4 @@ pub mod Layers
 pub mod Joining
 pub mod Searching
 pub mod Preparing
+pub mod Front

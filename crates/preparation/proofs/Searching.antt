@@ -1,9 +1,11 @@
 -- The search for live pairs, layer by layer, on the storage.
 use mathlib.Core.Path.{◌≡◌, refl, sym, ap, ap₂, ◌∙◌}
 use mathlib.Core.Logic.{inl, inr}
-use mathlib.Core.Bool.{Bool, true, false, not, ◌&&◌, ◌||◌, and-false}
+use mathlib.Core.Bool.{Bool, true, false, not, ◌&&◌, ◌||◌, and-false, true≢false}
 use mathlib.Core.List.{List, []}
 use mathlib.Core.Option.{Option, none, some}
+use Rattle.std.specs.Prelude.{Option as Perhaps, Some, None}
+use Rattle.std.specs.Option.{is_some}
 use Prim.Native.Nat.{ℕ, zero, suc, ◌+◌, ◌-◌, ◌*◌, ◌^◌, ◌≤◌, ◌<◌}
 use native.Mathlib.Omega.{arith}
 use native.Mathlib.Decide.{dec_lt}
@@ -21,29 +23,23 @@ use Rattle.completions.proofs.ExactReach.{fresh}
 use Rattle.completions.proofs.Backward.{end_set, live_within, layer}
 use Rattle.completions.proofs.Range.{wider}
 use Rattle.pairs.specs.Storage.{stored, slot, live, set_words, live_at, reached_at, scratch_at, storage_words, max_pairs}
-use Rattle.pairs.specs.Changes.{row_bit, Framed, NextBit, Zeroed}
+use Rattle.pairs.specs.Changes.{row_bit, RowOf, FirstFrom, Framed, Zeroed}
 use Rattle.pairs.proofs.Frames.{framed_none, framed_then, framed_wider}
-use Rattle.pairs.proofs.Sets.{framed-before, framed-beyond, zeroed_none, set_ext}
-use Rattle.predecessors.specs.Rows.{Row}
+use Rattle.pairs.proofs.Sets.{framed-beyond, zeroed_none, set_ext}
 use Rattle.predecessors.proofs.Uniting.{empty_row}
 use Rattle.preparation.specs.Searched.{Searched}
-use Rattle.preparation.specs.Search.{joiners, enders, Joins, Empty, Occupied, Apart, Started, Swept}
+use Rattle.preparation.specs.Search.{joiners, enders, Joins, Empty, Occupied, Started, Swept}
 use Rattle.preparation.proofs.Layers.{joining-same, within-next, fresh-next, all_found, found-reach}
-use Rattle.preparation.proofs.Joining.{beyond-none}
+use Rattle.preparation.proofs.Joining.{Apart, Layers, beyond-none}
 
 -- ---- the parts of the code
 
-pub started : (w : ℕ) (row s t u v z : List ℕ) → Zeroed live_at set_words s t → Zeroed reached_at set_words t u → Zeroed scratch_at set_words u v → Joins reached_at v z (enders (64 * w) row) → Started w row s z
-started w row s t u v z c d e j = record {
-  frame = framed_then (framed_then (framed_wider (omega arith) (omega arith) c.frame) (framed_wider (omega arith) (omega arith) d.frame))
-      (framed_then (framed_wider (omega arith) (omega arith) e.frame) (framed_wider (omega arith) (omega arith) j.frame));
-  live = λ x y hx hy.
-      j.live x y hx hy
-      ∙ ap (λ (b : Bool). b || enders (64 * w) row x y)
-      (framed-before e.frame live_at x y hx hy (omega arith) ∙ framed-before d.frame live_at x y hx hy (omega arith) ∙ zeroed_none live_at s t c x y hx hy);
-  layer = λ x y hx hy.
-      j.next x y hx hy ∙ ap (λ (b : Bool). b || enders (64 * w) row x y) (framed-before e.frame reached_at x y hx hy (omega arith) ∙ zeroed_none reached_at t u d x y hx hy);
-  next = λ x y hx hy. framed-beyond j.frame scratch_at x y hx hy (omega arith) ∙ zeroed_none scratch_at u v e x y hx hy;
+pub started : (w : ℕ) (row s t z : List ℕ) → Zeroed live_at storage_words s t → Joins reached_at t z (enders (64 * w) row) → Started w row s z
+started w row s t z c j = record {
+  frame = framed_then c.frame (framed_wider (omega arith) (omega arith) j.frame);
+  live = λ x y hx hy. j.live x y hx hy ∙ ap (λ (b : Bool). b || enders (64 * w) row x y) (zeroed_none live_at storage_words live_at s t c (omega arith) (omega arith) x y hx hy);
+  layer = λ x y hx hy. j.next x y hx hy ∙ ap (λ (b : Bool). b || enders (64 * w) row x y) (zeroed_none live_at storage_words reached_at s t c (omega arith) (omega arith) x y hx hy);
+  next = λ x y hx hy. framed-beyond j.frame scratch_at x y hx hy (omega arith) ∙ zeroed_none live_at storage_words scratch_at s t c (omega arith) (omega arith) x y hx hy;
 }
 
 -- the rows of the first layer are those of its ends
@@ -88,7 +84,7 @@ pub record Searching (x : RuleSheet) (layer next : ℕ) (s₀ s : List ℕ) (d :
   pub live : (a : ℕ) (y : Option ℕ) → a < 256 → Within 256 y → live s a y ≡ live_within x 256 d a y
 
 module _ (x : RuleSheet) (w : ℕ) (low : 2 ^ streams x ≤ 64 * w) where
-  ends_set : (row : List ℕ) → Row w row (allowed x) → (a : ℕ) (y : Option ℕ) → enders (64 * w) row a y ≡ live_within x 256 0 a y
+  ends_set : (row : List ℕ) → RowOf w row (allowed x) → (a : ℕ) (y : Option ℕ) → enders (64 * w) row a y ≡ live_within x 256 0 a y
   unfolding enders live_within end_set
   ends_set row r a (some c) = refl
   ends_set row r a none = go (dec_lt a (64 * w))
@@ -97,7 +93,7 @@ module _ (x : RuleSheet) (w : ℕ) (low : 2 ^ streams x ≤ 64 * w) where
       go (yes l) = ap₂ ◌&&◌ (lt-ltb a (64 * w) l) (r a l)
       go (no l) = ap (λ (u : Bool). u && row_bit row 0 a) (le-ltb a (64 * w) (omega arith)) ∙ sym (beyond-none x w low a (omega arith))
 
-  pub search-start : (row s t : List ℕ) → Row w row (allowed x) → Started w row s t → Searching x reached_at scratch_at t t 0
+  pub search-start : (row s t : List ℕ) → RowOf w row (allowed x) → Started w row s t → Searching x reached_at scratch_at t t 0
   unfolding fresh live_within
   search-start row s t r p = record {
     frame = framed_none live_at storage_words t;
@@ -116,10 +112,10 @@ module _ (x : RuleSheet) (w : ℕ) (low : 2 ^ streams x ≤ 64 * w) where
   }
 
   module _ (small : 2 ^ streams x ≤ 256) (high : 64 * w ≤ 256) (layer next : ℕ) (s₀ s t rows : List ℕ) (d r : ℕ) (p : Searching x layer next s₀ s d)
-      (o : Occupied w rows s layer) (n : NextBit rows 0 w 0 r) (go_on : r < 64 * w) (q : Swept x (64 * w) (64 * w) layer next s t) where
+      (o : Occupied w rows s layer) (go_on : r < 64 * w) (found : row_bit rows 0 r ≡ true) (q : Swept x (64 * w) (64 * w) layer next s t) where
     -- a pair of the layer
     pair : (y : Option ℕ) × Within 256 y × (stored s layer r y ≡ true)
-    pair = o.some_there r go_on (n.found go_on)
+    pair = o.some_there r go_on found
 
     same : (a : ℕ) (y : Option ℕ) → a < 256 → Within 256 y
         → joiners x (64 * w) (64 * w) (live s) (stored s layer) a y ≡ joiners x (64 * w) (64 * w) (live_within x 256 d) (fresh x 256 d) a y
@@ -166,9 +162,21 @@ module _ (x : RuleSheet) (w : ℕ) (low : 2 ^ streams x ≤ 64 * w) where
         }
 
 -- the layer and the next layer change places
-pub apart_turned : (a b : ℕ) → Apart a b → Apart b a
-apart_turned a b (inl h) = inr h
-apart_turned a b (inr h) = inl h
+pub turned : {layer next : ℕ} → Layers layer next → Layers next layer
+turned p = record { low = p.next_low; high = p.next_high; next_low = p.low; next_high = p.high; apart = apart_turned p.apart }
+  where
+    apart_turned : {a b : ℕ} → Apart a b → Apart b a
+    apart_turned (inl h) = inr h
+    apart_turned (inr h) = inl h
+
+-- whether a row has a valuation
+pub some-bit : (p : ℕ → Bool) (n : ℕ) (o : Perhaps ℕ) → FirstFrom p n 0 o → is_some o ≡ true → (r : ℕ) × (r < n) × (p r ≡ true)
+some-bit p n None h e = absurd (true≢false (sym e))
+some-bit p n (Some r) h e = (r, h.1, h.3)
+
+pub no-bit : (p : ℕ → Bool) (n : ℕ) (o : Perhaps ℕ) → FirstFrom p n 0 o → is_some o ≡ false → (a : ℕ) → a < n → p a ≡ false
+no-bit p n None h e a l = h a (omega arith) l
+no-bit p n (Some r) h e a l = absurd (true≢false e)
 
 -- ---- the end of the search
 
@@ -177,10 +185,10 @@ words-none : (s : List ℕ) (base : ℕ) → ((k : ℕ) → get_or s k 0 < 2 ^ 6
 unfolding stored
 words-none s base fit f k h = set_ext s [] base 0 (λ k h. fit (base + k)) (λ k h. omega arith) (λ a y ha hy. f a y ha hy ∙ sym (bit-none (slot a y))) k h
 
-module _ (x : RuleSheet) (small : 2 ^ streams x ≤ 256) (w layer next : ℕ) (s₀ s rows : List ℕ) (d k : ℕ) (p : Searching x layer next s₀ s d)
-    (o : Occupied w rows s layer) (n : NextBit rows 0 w 0 k) (done : 64 * w ≤ k) (a₀ : ℕ) (ha₀ : a₀ < 256) (ok : allowed x a₀ ≡ true) where
+module _ (x : RuleSheet) (small : 2 ^ streams x ≤ 256) (w layer next : ℕ) (s₀ s rows : List ℕ) (d : ℕ) (p : Searching x layer next s₀ s d)
+    (o : Occupied w rows s layer) (n : (a : ℕ) → a < 64 * w → row_bit rows 0 a ≡ false) (a₀ : ℕ) (ha₀ : a₀ < 256) (ok : allowed x a₀ ≡ true) where
   gone : Empty s layer
-  gone a b ha hb = o.none_there a b ha hb (λ h. n.skipped a (omega arith) (omega arith))
+  gone a b ha hb = o.none_there a b ha hb (n a)
 
   empty : (a : ℕ) (b : Option ℕ) → a < 256 → Within 256 b → fresh x 256 d a b ≡ false
   empty a b ha hb = sym (p.newest a b ha hb) ∙ gone a b ha hb
@@ -209,17 +217,17 @@ module _ (x : RuleSheet) (small : 2 ^ streams x ≤ 256) (w layer next : ℕ) (s
       represents : Represents 256 (live s) (Live x)
       represents a b ha hb = rw (is a b ha hb) (all_found x small e none_left a b ha hb)
 
-  module _ (s₁ row : List ℕ) (r : ℕ) (places : Apart layer next) (low : (reached_at ≤ layer) × (layer ≤ scratch_at) × (reached_at ≤ next) × (next ≤ scratch_at)) (fit : (k : ℕ) → get_or s k 0 < 2 ^ 64)
+  module _ (s₁ row : List ℕ) (r : ℕ) (places : Layers layer next) (fit : (k : ℕ) → get_or s k 0 < 2 ^ 64)
       (st : Started w row s₁ s₀) (c : r ≡ count_pairs 256 (live s)) (bd : r ≤ max_pairs) where
     -- the two sets fill the words behind the live set
     zero_now : (i base : ℕ) → base ≤ i → i < base + set_words → Empty s base → get_or s i 0 ≡ 0
     zero_now i base h l f = let e : i ≡ base + (i - base) = omega arith in ap (λ (j : ℕ). get_or s j 0) e ∙ words-none s base fit f (i - base) (omega arith)
 
     wiped : (i : ℕ) → reached_at ≤ i → i < storage_words → Apart layer next → Dec (i < scratch_at) → get_or s i 0 ≡ 0
-    wiped i h l (inl g) (yes b) = zero_now i layer (omega arith) (omega arith) gone
-    wiped i h l (inl g) (no b) = zero_now i next (omega arith) (omega arith) p.free
-    wiped i h l (inr g) (yes b) = zero_now i next (omega arith) (omega arith) p.free
-    wiped i h l (inr g) (no b) = zero_now i layer (omega arith) (omega arith) gone
+    wiped i h l (inl g) (yes b) = zero_now i layer (omega (arith, places.low, places.next_high)) (omega (arith, places.low, places.next_high)) gone
+    wiped i h l (inl g) (no b) = zero_now i next (omega (arith, places.low, places.next_high)) (omega (arith, places.low, places.next_high)) p.free
+    wiped i h l (inr g) (yes b) = zero_now i next (omega (arith, places.next_low, places.high)) (omega (arith, places.next_low, places.high)) p.free
+    wiped i h l (inr g) (no b) = zero_now i layer (omega (arith, places.next_low, places.high)) (omega (arith, places.next_low, places.high)) gone
 
     pub search-end : Searched x s₁ s r × ExactReach x (d - 1) × (d - 1 < r)
     search-end =
@@ -228,7 +236,7 @@ module _ (x : RuleSheet) (small : 2 ^ streams x ≤ 256) (w layer next : ℕ) (s
           record {
             frame = framed_then st.frame p.frame;
             live = f.0;
-            cleared = λ i h l. wiped i h l places (dec_lt i scratch_at);
+            cleared = λ i h l. wiped i h l places.apart (dec_lt i scratch_at);
             counted = c;
             bound = bd;
           },

@@ -1,5 +1,5 @@
 -- For the contracts of inner functions: one layer of the search for live pairs.
-use Rattle.std.specs.Prelude.{◌≡◌, ◌⊎◌, Bool, true, false, not, ◌&&◌, ◌||◌, List, ℕ, ◌+◌, ◌*◌, ◌/◌, ◌%◌, ◌≤◌, ◌<◌, eqb, ltb, get_or}
+use Rattle.std.specs.Prelude.{◌≡◌, Bool, true, false, not, ◌&&◌, ◌||◌, List, ℕ, ◌+◌, ◌*◌, ◌/◌, ◌%◌, ◌≤◌, ◌<◌, eqb, ltb, get_or}
 use Rattle.std.proofs.Math.Option.{Option, none, some}
 use Rattle.words.specs.Bits.{bit}
 use Rattle.sheet.specs.RuleSheet.{RuleSheet}
@@ -53,10 +53,6 @@ Empty s base = (x : ℕ) (y : Option ℕ) → x < 256 → Within 256 y → store
 pub record Occupied (w : ℕ) (rows s : List ℕ) (base : ℕ) : Type 0 where
   pub none_there : (x : ℕ) (y : Option ℕ) → x < 256 → Within 256 y → (x < 64 * w → row_bit rows 0 x ≡ false) → stored s base x y ≡ false
   pub some_there : (x : ℕ) → x < 64 * w → row_bit rows 0 x ≡ true → (y : Option ℕ) × Within 256 y × (stored s base x y ≡ true)
-
--- two sets have no word in common
-abbrev pub Apart : ℕ → ℕ → Type 0
-Apart base base' = (base + set_words ≤ base') ⊎ (base' + set_words ≤ base)
 
 -- the storage where the search begins: the ends of the row's valuations are live, and they are the layer in the place of the reached set
 pub record Started (w : ℕ) (row s t : List ℕ) : Type 0 where

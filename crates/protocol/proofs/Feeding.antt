@@ -10,7 +10,7 @@ use lib.Seq.{append_snoc, take-suc}
 use borrow.Author.Tests.{eq-eqb, ne_eqb}
 use Rattle.outcomes.specs.Decided.{Decided}
 use Rattle.outcomes.specs.declared.Refusal.{Refusal}
-use Rattle.outcomes.specs.declared.Outcome.TheVariants.{Refused}
+use Rattle.std.specs.Prelude.{Option, None, Some, Err}
 use Rattle.buffer.specs.Wrote.{Wrote, Placed}
 use Rattle.buffer.proofs.PlacedLaws.{take-placed}
 use Rattle.sheet.specs.Reading.{rule_sheet}
@@ -24,8 +24,9 @@ use Rattle.line_scan.specs.Scan.{Scanned}
 use Rattle.line_scan.specs.declared.Pending.{Pending}
 use Rattle.line_end.specs.Printed.{Written, ended, Printed, refused_sheet, journal}
 use Rattle.line_end.specs.LineEnd.{Serves, Onward, Ends, LineEnded, most_bytes}
+use Rattle.line_end.specs.declared.Place.{Place}
 use Rattle.line_end.specs.declared.Ended.{Ended}
-use Rattle.protocol.specs.Machine.{Midway, Over, Stands}
+use Rattle.protocol.specs.Machine.{Midway, Over, Stands, Goes, Finishes}
 use Rattle.protocol.specs.declared.Progress.{Progress}
 use Rattle.protocol.proofs.WholeLines.{whole-more, whole_same, whole_byte, whole_feed}
 
@@ -73,11 +74,11 @@ module _ (sheet : List ℕ) (x : Sheet) (line : ℕ) (q : Pending) (h : Held) (s
 
   module _ (d : List ℕ) (at : ℕ) (e t : List ℕ) (r : Ended) (le : LineEnded sheet (rule_sheet x) m.book line m.part d at e t r) where
     -- a line feed, and the next line
-    pub line-more : (b : ℕ) (q₁ : Pending) → b ≡ 10 → r.over ≡ false → Scanned x.inputs [] q₁
-        → Midway sheet x r.line q₁ (held t r.record) (seen ++ b ∷ []) (wrote ++ le.text)
-    line-more b q₁ f o s =
-        let on : Onward sheet (rule_sheet x) m.book line m.part le.text r.line (held t r.record) = rw o at le.ends in
-        let more : (rest u : List ℕ) → Written (rule_sheet x) on.book r.line (lines_from [] rest) u → Printed sheet (seen ++ b ∷ [] ++ rest) (wrote ++ le.text ++ u) =
+    pub line-more : (b : ℕ) (q₁ : Pending) (p : Place) → b ≡ 10 → r.next ≡ Some p → Scanned x.inputs [] q₁
+        → Midway sheet x p.line q₁ (held t p.record) (seen ++ b ∷ []) (wrote ++ le.text)
+    line-more b q₁ p f o s =
+        let on : Onward sheet (rule_sheet x) m.book line m.part le.text p.line (held t p.record) = rw o at le.ends in
+        let more : (rest u : List ℕ) → Written (rule_sheet x) on.book p.line (lines_from [] rest) u → Printed sheet (seen ++ b ∷ [] ++ rest) (wrote ++ le.text ++ u) =
         λ rest u w.
         rw (append_snoc seen b rest, append_assoc wrote le.text u)
         (m.more (b ∷ rest) (le.text ++ u) (rw (lines_feed m.part b rest f) (on.onward (lines_from [] rest) u w))) in
@@ -91,7 +92,7 @@ module _ (sheet : List ℕ) (x : Sheet) (line : ℕ) (q : Pending) (h : Held) (s
         }
 
     -- a line feed, and the run is over
-    pub line-over : (b : ℕ) → b ≡ 10 → r.over ≡ true → Over sheet (seen ++ b ∷ []) (wrote ++ le.text)
+    pub line-over : (b : ℕ) → b ≡ 10 → r.next ≡ None → Over sheet (seen ++ b ∷ []) (wrote ++ le.text)
     line-over b f o =
         let last : (ls : List (List ℕ)) → Written (rule_sheet x) m.book line (m.part ∷ ls) le.text = rw o at le.ends in
         let whatever : (rest : List ℕ) → Printed sheet (seen ++ b ∷ [] ++ rest) (wrote ++ le.text) =
@@ -100,11 +101,11 @@ module _ (sheet : List ℕ) (x : Sheet) (line : ℕ) (q : Pending) (h : Held) (s
 
     -- the end of the input, with no line feed
     pub line-last : (m.part ≡ [] → ⊥) → Printed sheet seen (wrote ++ le.text)
-    line-last n = rw (append-nil seen) at (m.more [] le.text (rw (lines_last m.part n) (go r.over le.ends)))
+    line-last n = rw (append-nil seen) at (m.more [] le.text (rw (lines_last m.part n) (go r.next le.ends)))
       where
-        go : (o : Bool) → Ends sheet (rule_sheet x) m.book line m.part le.text r.line (held t r.record) o → Written (rule_sheet x) m.book line (m.part ∷ []) le.text
-        go true f = f []
-        go false f = rw (append-nil le.text) at (f.onward [] [] ended)
+        go : (o : Option Place) → Ends sheet (rule_sheet x) m.book line m.part le.text t o → Written (rule_sheet x) m.book line (m.part ∷ []) le.text
+        go None f = f []
+        go (Some p) f = rw (append-nil le.text) at (f.onward [] [] ended)
 
   -- the end of the input, right after a line feed
   pub none_last : m.part ≡ [] → Printed sheet seen (wrote ++ [])
@@ -129,19 +130,16 @@ over_all sheet seen chunk wrote i o =
     (append_assoc seen (take i chunk) (drop i chunk) ∙ ap (λ (z : List ℕ). seen ++ z) (take-append-drop i chunk))
     (over_more sheet (seen ++ take i chunk) wrote o (drop i chunk))
 
-module _ (sheet : List ℕ) (x : Sheet) (s : Progress) (t seen wrote : List ℕ) (st : Stands sheet x s t seen wrote) where
-  pub stands-over : (chunk : List ℕ) → s.over ≡ true → Stands sheet x s t (seen ++ chunk) (wrote ++ [])
-  stands-over chunk o =
-      let f : Over sheet seen wrote = rw o at st.stage in
-      record { accepts = st.accepts; stage = rw (o, append-nil wrote) (over_more sheet seen wrote f chunk) }
+over-then : (sheet : List ℕ) (x : Sheet) (t seen wrote chunk : List ℕ) → Stands sheet x None t seen wrote → Stands sheet x None t (seen ++ chunk) (wrote ++ [])
+over-then sheet x t seen wrote chunk st = record { accepts = st.accepts; stage = rw (append-nil wrote) (over_more sheet seen wrote st.stage chunk) }
 
-  pub over_last : s.over ≡ true → Printed sheet seen (wrote ++ [])
-  over_last o =
-      let f : Over sheet seen wrote = rw o at st.stage in
-      rw (append-nil wrote) (rw (append-nil seen) at (f.whatever []))
+pub goes-none : (x : Sheet) (s : Option Progress) (t chunk : List ℕ) → s ≡ None → Goes x s t chunk None t []
+goes-none x s t chunk n sheet seen wrote st = over-then sheet x t seen wrote chunk (rw n at st)
 
-  pub stands-midway : s.over ≡ false → Midway sheet x s.line s.pending (held t s.record) seen wrote
-  stands-midway o = rw o at st.stage
+pub finishes-none : (x : Sheet) (s : Option Progress) (t : List ℕ) → s ≡ None → Finishes x s t []
+finishes-none x s t n sheet seen wrote st =
+    let f : Stands sheet x None t seen wrote = rw n at st in
+    rw (append-nil wrote) (rw (append-nil seen) at (f.stage.whatever []))
 
 -- ---- the beginning
 
@@ -149,7 +147,7 @@ pub midway_start : (sheet : List ℕ) (x : Sheet) (q : Pending) (h : Held) → A
 unfolding lines_from whole_lines
 midway_start sheet x q h o sv s = record { book = empty_book; part = []; serves = sv; scanned = s; whole = journal {t = []} o.decided o.reads ended; more = λ rest t w. journal o.decided o.reads w }
 
-pub refused_start : (sheet input d e : List ℕ) (q : Refusal) (r : ℕ) → Decided (sheet_checks sheet) (Refused q) → Placed d 0 (sheet_refusal q) e r → Printed sheet input (take r e)
+pub refused_start : (sheet input d e : List ℕ) (q : Refusal) (r : ℕ) → Decided (sheet_checks sheet) (Err q) → Placed d 0 (sheet_refusal q) e r → Printed sheet input (take r e)
 refused_start sheet input d e q r h w = subst (λ (z : List ℕ). Printed sheet input z) (sym (take-placed w)) (refused_sheet q h)
 
 -- ---- room

@@ -11,9 +11,10 @@ use lib.ListN.{length, get_or, drop, length-append}
 use borrow.Author.Tests.{ltb-true, ltb-false, eq-eqb, ne_eqb}
 use Rattle.outcomes.specs.Numbers.{refusal_no}
 use Rattle.outcomes.specs.Decided.{Check, Decided}
+use Rattle.outcomes.specs.Outcome.{Outcome}
 use Rattle.outcomes.specs.declared.Refusal.{Refusal}
 use Rattle.outcomes.specs.declared.Refusal.TheVariants.{Closed, Full, NoRound, Line}
-use Rattle.outcomes.specs.declared.Outcome.TheVariants.{Refused}
+use Rattle.std.specs.Prelude.{Err}
 use Rattle.outcomes.specs.declared.Verdict.{Verdict}
 use Rattle.outcomes.specs.declared.Verdict.TheVariants.{False, True, Open, Broken}
 use Rattle.outcomes.proofs.NumberLaws.{refusal_range}
@@ -50,11 +51,11 @@ unfolding others
 others-both [] ds p q = q
 others-both (c ∷ cs) ds p q = let z = and_split (other c.rule) (others cs) p in ap₂ ◌&&◌ z.0 (others-both cs ds z.1 q)
 
-same-refusal : {a b : Refusal} → Refused a ≡ Refused b → a ≡ b
+same-refusal : {a b : Refusal} → ◌≡◌ {A = Outcome} (Err a) (Err b) → a ≡ b
 same-refusal e = cc
 
 -- the rule of a refusal is one of the list's
-by_others : (cs : List Check) (r : Refusal) → others cs ≡ true → Decided cs (Refused r) → other r ≡ true
+by_others : (cs : List Check) (r : Refusal) → others cs ≡ true → Decided cs (Err r) → other r ≡ true
 unfolding others
 by_others [] r p d = absurd (true≢false cc)
 by_others (c ∷ cs) r p (inl d) = ap other (same-refusal d.1) ∙ (and_split (other c.rule) (others cs) p).0
@@ -70,7 +71,7 @@ unfolding output_checks others
 outputs_other bs k zero = refl
 outputs_other bs k (suc r) = others-both (byte_checks bs k 0 (length_at bs k)) _ (bytes_other bs k 0 (length_at bs k)) (outputs_other bs (suc k) r)
 
-sheet_other : (bs : List ℕ) (r : Refusal) → Decided (sheet_checks bs) (Refused r) → other r ≡ true
+sheet_other : (bs : List ℕ) (r : Refusal) → Decided (sheet_checks bs) (Err r) → other r ≡ true
 unfolding reading_checks others
 sheet_other bs r d = by_others (sheet_checks bs) r (others-both (reading_checks bs) _ (others-both (output_checks bs 0 (outputs_of bs)) _ (outputs_other bs 0 (outputs_of bs)) refl) refl) d
 

@@ -6,7 +6,8 @@ use Prim.Native.Nat.{ℕ}
 use native.Mathlib.Omega.{arith}
 use lib.ListN.{length, length-append}
 use Rattle.outcomes.specs.declared.Refusal.{Refusal}
-use Rattle.outcomes.specs.declared.Outcome.TheVariants.{Accepted, Refused}
+use Rattle.std.specs.Prelude.{Err}
+use Rattle.outcomes.specs.Outcome.{unbroken}
 use Rattle.outcomes.specs.declared.Verdict.{Verdict}
 use Rattle.outcomes.proofs.Decisions.{decided_once}
 use Rattle.outcomes.proofs.NumberLaws.{not-both}
@@ -123,11 +124,11 @@ written_once x {b} {l} {ls} {t} {u} p q =
 
 pub one-text : OneText
 one-text sheet input t u (refused_sheet r d) (refused_sheet q e) =
-    let z : Refused r ≡ Refused q = decided_once (sheet_checks sheet) (Refused r) (Refused q) d e in
+    let z : Err r ≡ Err q = decided_once (sheet_checks sheet) (Err r) (Err q) d e in
     let g : r ≡ q = cc in
     ap sheet_refusal g
-one-text sheet input t u (refused_sheet r d) (journal e f w) = absurd (not-both (decided_once (sheet_checks sheet) (Refused r) Accepted d e))
-one-text sheet input t u (journal e f w) (refused_sheet r d) = absurd (not-both (decided_once (sheet_checks sheet) (Refused r) Accepted d e))
+one-text sheet input t u (refused_sheet r d) (journal e f w) = absurd (not-both (decided_once (sheet_checks sheet) (Err r) unbroken d e))
+one-text sheet input t u (journal e f w) (refused_sheet r d) = absurd (not-both (decided_once (sheet_checks sheet) (Err r) unbroken d e))
 one-text sheet input t u (journal {x = x} d e v) (journal {x = y} f g w) =
     written_once x v (subst (λ (k : RuleSheet). Written k empty_book 1 (lines_of input) u) (one-sheet sheet y x g e) w)
 
@@ -147,6 +148,6 @@ whole-begins x input rest {t} {u} p q = go (has_feed input) refl
 
 pub beginning : Beginning
 beginning sheet input rest t u (refused_sheet r d) q = begins-same (one-text sheet (input ++ rest) u (sheet_refusal r) q (refused_sheet r d))
-beginning sheet input rest t u (journal e f w) (refused_sheet r d) = absurd (not-both (decided_once (sheet_checks sheet) (Refused r) Accepted d e))
+beginning sheet input rest t u (journal e f w) (refused_sheet r d) = absurd (not-both (decided_once (sheet_checks sheet) (Err r) unbroken d e))
 beginning sheet input rest t u (journal {x = x} d e v) (journal {x = y} f g w) =
     whole-begins x input rest v (subst (λ (k : RuleSheet). Written k empty_book 1 (lines_of (input ++ rest)) u) (one-sheet sheet y x g e) w)

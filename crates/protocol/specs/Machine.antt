@@ -1,11 +1,8 @@
 -- For the contracts of inner functions: where a run of the program stands.
-use Rattle.std.specs.Prelude.{◌≡◌, Bool, true, false, List, [], ◌++◌, ℕ}
-use Rattle.outcomes.specs.declared.Outcome.{Outcome}
-use Rattle.outcomes.specs.declared.Outcome.TheVariants.{Accepted, Refused}
+use Rattle.std.specs.Prelude.{Option, None, Some, Result, Ok, Err, List, [], ◌++◌, ℕ, take}
 use Rattle.sheet.specs.Reading.{rule_sheet}
 use Rattle.sheet.specs.declared.Sheet.{Sheet}
 use Rattle.circular.specs.SheetChecks.{AcceptedSheet}
-use Rattle.circular.specs.Accepted.{IsAccepted}
 use Rattle.claims.specs.Book.{Book}
 use Rattle.claims.specs.Session.{Held, held}
 use Rattle.line_scan.specs.Lines.{lines_from, whole_lines}
@@ -33,26 +30,26 @@ pub record Over (sheet seen wrote : List ℕ) : Type 0 where
   pub whole : Printed sheet (whole_lines seen) wrote
   pub whatever : (rest : List ℕ) → Printed sheet (seen ++ rest) wrote
 
-abbrev pub Stage : List ℕ → Sheet → Progress → Held → List ℕ → List ℕ → Bool → Type 0
-Stage sheet x s h seen wrote true = Over sheet seen wrote
-Stage sheet x s h seen wrote false = Midway sheet x s.line s.pending h seen wrote
+abbrev pub Stage : List ℕ → Sheet → Option Progress → List ℕ → List ℕ → List ℕ → Type 0
+Stage sheet x None t seen wrote = Over sheet seen wrote
+Stage sheet x (Some s) t seen wrote = Midway sheet x s.place.line s.pending (held t s.place.record) seen wrote
 
 -- where a run with the storage t stands
-pub record Stands (sheet : List ℕ) (x : Sheet) (s : Progress) (t seen wrote : List ℕ) : Type 0 where
+pub record Stands (sheet : List ℕ) (x : Sheet) (s : Option Progress) (t seen wrote : List ℕ) : Type 0 where
   pub accepts : AcceptedSheet sheet x
-  pub stage : Stage sheet x s (held t s.record) seen wrote s.over
+  pub stage : Stage sheet x s t seen wrote
 
 -- ---- What the functions give
 
 -- the beginning: a run of a sheet that is accepted, or all that is written for one that is refused, whatever the input
-abbrev pub Begun : List ℕ → Started → List ℕ → List ℕ → Outcome → Type 0
-Begun sheet r t wrote Accepted = IsAccepted r.sheet × (r.at ≡ 0) × Stands sheet r.sheet r.state t [] []
-Begun sheet r t wrote (Refused e) = (input : List ℕ) → Printed sheet input wrote
+abbrev pub Begun : List ℕ → Result Started ℕ → List ℕ → List ℕ → Type 0
+Begun sheet (Ok r) t out = Stands sheet r.sheet.sheet (Some r.state) t [] []
+Begun sheet (Err at) t out = (input : List ℕ) → Printed sheet input (take at out)
 
 -- a chunk: from wherever the run stood it goes on by the chunk and by what was written
-abbrev pub Goes : Sheet → Progress → List ℕ → List ℕ → Progress → List ℕ → List ℕ → Type 0
+abbrev pub Goes : Sheet → Option Progress → List ℕ → List ℕ → Option Progress → List ℕ → List ℕ → Type 0
 Goes x s t chunk s₁ t₁ text = (sheet seen wrote : List ℕ) → Stands sheet x s t seen wrote → Stands sheet x s₁ t₁ (seen ++ chunk) (wrote ++ text)
 
 -- the end of the input
-abbrev pub Finishes : Sheet → Progress → List ℕ → List ℕ → Type 0
+abbrev pub Finishes : Sheet → Option Progress → List ℕ → List ℕ → Type 0
 Finishes x s t text = (sheet seen wrote : List ℕ) → Stands sheet x s t seen wrote → Printed sheet seen (wrote ++ text)

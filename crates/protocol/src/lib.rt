@@ -1,162 +1,158 @@
 // The line protocol of the journal program.
 #![tactic(auto)]
 
-ghost use Rattle.std.specs.Prelude.{◌+◌, ◌*◌, ◌≤◌, length, take};
-ghost use Rattle.circular.specs.Accepted.{IsAccepted};
+ghost use Rattle.std.specs.Prelude.{◌+◌, ◌*◌, ◌≤◌, IfErr, Some, length, take};
 ghost use Rattle.pairs.specs.Storage.{storage_words};
-ghost use Rattle.letter_table.specs.Entry.{Sets};
-ghost use Rattle.line_scan.specs.Scan.{InTable};
 ghost use Rattle.protocol.specs.Machine.{Begun, Goes, Finishes};
 
-use line_scan::Pending;
-use outcomes::Outcome;
-use record::JournalRecord;
-use sheet::Sheet;
+use letter_table::LetterTable;
+use line_end::{Accepted, Place};
+use line_scan::{Lookup, Pending};
 
-// Where a run stands: whether it is over, the number of the line that is being read, the journal's record, and what has come of the line.
+// Where a run stands that is not over: at which line, and what has come of it.
 #[derive(Clone, Copy)]
 pub struct Progress {
-    pub over: bool,
-    pub line: u64,
-    pub record: JournalRecord,
+    pub place: Place,
     pub pending: Pending,
 }
 
-// The sheet that was read and where the run stands, and how many bytes were written.
+// A run: its sheet, and where it stands.
 #[derive(Clone, Copy)]
 pub struct Started {
-    pub outcome: Outcome,
-    pub sheet: Sheet,
+    pub sheet: Accepted,
     pub state: Progress,
-    pub at: usize,
 }
 
-// Where the run stands after a chunk, and how many bytes were written.
+// Where the run stands after a chunk, none if it is over, and how many bytes were written.
 #[derive(Clone, Copy)]
 pub struct Fed {
-    pub state: Progress,
+    pub next: Option<Progress>,
     pub at: usize,
 }
 
-// Accepts the sheet and prepares the storage; or puts a refusal of the sheet into `out`, and the run is over.
-pub fn start(sheet: &[u8], storage: &mut [u64], out: &mut [u8]) -> Started
+// Accepts the sheet and prepares the storage. Or puts a refusal of the sheet into `out`, answers its length, and there is nothing to run.
+pub fn start(sheet: &[u8], storage: &mut [u64], out: &mut [u8]) -> Result<Started, usize>
     requires { (storage_words ≤ length storage.old) × (40 ≤ length out.old) }
-    ensures begun { Begun sheet.now result storage.new (take result.at out.new) result.outcome }
-    ensures bound { result.at ≤ length out.new }
-    ensures in_table { InTable result.state.pending }
+    ensures begun { Begun sheet.now result storage.new out.new }
+    ensures bound { IfErr result (λ at. at ≤ length out.new) }
 {
-    let got = circular::accept_sheet(sheet);
-    let outcome = got.outcome;
-    let x = got.sheet;
-    let pending = Pending::empty();
-    match outcome {
-        Outcome::Refused(e) => {
-            let to = text::sheet_refusal(out, 0, e);
-            let record = JournalRecord::fresh();
-            let state = Progress {
-                over: true,
+    match circular::accept_sheet(sheet) {
+        Err(e) => Err(text::sheet_refusal(out, 0, e)),
+        Ok(x) => {
+            let prepared = monitor::prepare_on(&x, storage);
+            let place = Place {
                 line: 1,
-                record,
-                pending,
+                record: prepared.record,
             };
-            Started {
-                outcome,
-                sheet: x,
-                state,
-                at: to,
-            }
-        }
-        Outcome::Accepted => {
-            let prepared = monitor::prepare_on(x, storage);
-            let record = prepared.record;
-            let state = Progress {
-                over: false,
-                line: 1,
-                record,
-                pending,
-            };
-            Started {
-                outcome,
-                sheet: x,
-                state,
-                at: 0,
-            }
+            Ok(Started {
+                sheet: Accepted { sheet: x },
+                state: Progress {
+                    place,
+                    pending: Pending::empty(),
+                },
+            })
         }
     }
 }
 
-// Takes a chunk of the input in, and puts what is to be written for it into `out`.
-pub fn feed(
-    x: Sheet,
-    table: &[u64],
+// Takes a chunk of the input in where the run is not over.
+fn feed_running(
+    x: &Accepted,
+    table: &LetterTable,
     s: Progress,
     storage: &mut [u64],
     chunk: &[u8],
     out: &mut [u8],
 ) -> Fed
-    requires { IsAccepted x × (8 * length chunk.now + 462 ≤ length out.old) × Sets table.now × InTable s.pending }
-    ensures goes { Goes x s storage.old chunk.now result.state storage.new (take result.at out.new) }
+    requires { 8 * length chunk.now + 462 ≤ length out.old }
+    ensures goes { Goes x.now.sheet (Some s) storage.old chunk.now result.next storage.new (take result.at out.new) }
     ensures bound { result.at ≤ length out.new }
-    ensures in_table { InTable result.state.pending }
 {
-    let m = x.inputs;
-    let mut line = s.line;
-    let mut record = s.record;
+    let by = Lookup {
+        table,
+        inputs: x.sheet.inputs,
+    };
+    let mut place = s.place;
     let mut pending = s.pending;
     let mut at = 0;
-    let mut i = 0;
-    if s.over {
-        return Fed { state: s, at: 0 };
-    }
-    while i < chunk.len() {
-        let b = chunk[i];
-        i += 1;
+    for b in chunk {
         let line_feed = b'\n';
-        if b != line_feed {
-            pending = pending.scan(table, m, b);
+        if *b != line_feed {
+            pending = pending.scan(by, *b);
             continue;
         }
-        let meaning = pending.asked(table, m, record.closed);
-        let e = line_end::line_end(x, line, record, meaning, storage, out, at);
-        line = e.line;
-        record = e.record;
-        pending = Pending::empty();
+        let meaning = pending.asked(by, place.record.closed);
+        let e = line_end::line_end(x, place, meaning, storage, out, at);
         at = e.at;
-        if e.over {
-            let state = Progress {
-                over: true,
-                line,
-                record,
-                pending,
-            };
-            return Fed { state, at };
-        }
+        let Some(next) = e.next else {
+            return Fed { next: None, at };
+        };
+        place = next;
+        pending = Pending::empty();
     }
-    let state = Progress {
-        over: false,
-        line,
-        record,
-        pending,
+    Fed {
+        next: Some(Progress { place, pending }),
+        at,
+    }
+}
+
+// Takes a chunk of the input in, and puts what is to be written for it into `out`: nothing for a run that is over.
+pub fn feed(
+    x: &Accepted,
+    table: &LetterTable,
+    s: Option<Progress>,
+    storage: &mut [u64],
+    chunk: &[u8],
+    out: &mut [u8],
+) -> Fed
+    requires { 8 * length chunk.now + 462 ≤ length out.old }
+    ensures goes { Goes x.now.sheet s storage.old chunk.now result.next storage.new (take result.at out.new) }
+    ensures bound { result.at ≤ length out.new }
+{
+    match s {
+        Some(running) => feed_running(x, table, running, storage, chunk, out),
+        None => Fed { next: None, at: 0 },
+    }
+}
+
+// The last line of a run that is not over.
+fn finish_running(
+    x: &Accepted,
+    table: &LetterTable,
+    s: Progress,
+    storage: &mut [u64],
+    out: &mut [u8],
+) -> usize
+    requires { 470 ≤ length out.old }
+    ensures finishes { Finishes x.now.sheet (Some s) storage.old (take result out.new) }
+    ensures bound { result ≤ length out.new }
+{
+    if s.pending.is_blank() {
+        return 0;
+    }
+    let by = Lookup {
+        table,
+        inputs: x.sheet.inputs,
     };
-    Fed { state, at }
+    let meaning = s.pending.asked(by, s.place.record.closed);
+    let e = line_end::line_end(x, s.place, meaning, storage, out, 0);
+    e.at
 }
 
 // The input is at its end: a last line may lack its line feed.
-pub fn finish(x: Sheet, table: &[u64], s: Progress, storage: &mut [u64], out: &mut [u8]) -> usize
-    requires { IsAccepted x × (470 ≤ length out.old) × Sets table.now × InTable s.pending }
-    ensures finishes { Finishes x s storage.old (take result out.new) }
+pub fn finish(
+    x: &Accepted,
+    table: &LetterTable,
+    s: Option<Progress>,
+    storage: &mut [u64],
+    out: &mut [u8],
+) -> usize
+    requires { 470 ≤ length out.old }
+    ensures finishes { Finishes x.now.sheet s storage.old (take result out.new) }
     ensures bound { result ≤ length out.new }
 {
-    if s.over {
-        return 0;
+    match s {
+        Some(running) => finish_running(x, table, running, storage, out),
+        None => 0,
     }
-    let line = s.line;
-    let record = s.record;
-    let pending = s.pending;
-    if pending.is_blank() {
-        return 0;
-    }
-    let meaning = pending.asked(table, x.inputs, record.closed);
-    let e = line_end::line_end(x, line, record, meaning, storage, out, 0);
-    e.at
 }

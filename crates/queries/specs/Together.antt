@@ -2,10 +2,9 @@
 -- the refusal. On storage that preparation never filled, the verdict is read off the reached set found there; pairs beyond the sheet's valuations don't
 -- count. Nothing is lent for writing or given back, so nothing alters.
 -- Manual: "Completions and verdicts", "Refusals".
-use Rattle.std.specs.Prelude.{◌≡◌, List, ℕ, length}
+use Rattle.std.specs.Prelude.{◌≡◌, List, ℕ, length, Ok, Err}
 use Rattle.outcomes.specs.Decided.{Decided}
-use Rattle.outcomes.specs.declared.Outcome.{Outcome}
-use Rattle.outcomes.specs.declared.Outcome.TheVariants.{Accepted, Refused}
+use Rattle.outcomes.specs.Outcome.{Outcome}
 use Rattle.outcomes.specs.declared.Verdict.TheVariants.{False}
 use Rattle.sheet.specs.RuleSheet.{RuleSheet}
 use Rattle.circular.specs.SheetChecks.{OfSheet}
@@ -23,8 +22,8 @@ TogetherDone x s set a = a.verdict ≡ pairs_verdict (width x) (reached s) (toge
 
 -- a question with the sheet bs, by the outcome: that verdict, or false with a refusal
 abbrev pub Answers : List ℕ → List ℕ → ℕ → TogetherAnswer → Outcome → Type 0
-Answers bs s set a Accepted = OfSheet bs (λ x. TogetherDone x s set a)
-Answers bs s set a (Refused e) = a.verdict ≡ False
+Answers bs s set a (Ok _) = OfSheet bs (λ x. TogetherDone x s set a)
+Answers bs s set a (Err e) = a.verdict ≡ False
 
 pub record TogetherCall (bs s : List ℕ) (r : JournalRecord) (set : ℕ) (a : TogetherAnswer) : Type 0 where
   pub decided : Decided (together_checks bs (length s) r set) a.outcome

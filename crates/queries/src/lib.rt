@@ -3,41 +3,43 @@
 
 ghost use Rattle.std.specs.Prelude.{◌≡◌, List, ℕ};
 ghost use Rattle.circular.specs.SheetChecks.{AcceptedSheet};
-ghost use Rattle.circular.specs.Accepted.{IsAccepted};
 ghost use Rattle.queries.specs.Together.{TogetherCall};
 
-use outcomes::{Outcome, Refusal, Verdict};
+use outcomes::{Refusal, Verdict};
 use record::JournalRecord;
 use sheet::Sheet;
+use words::Size;
 
 // What a question about a set of outputs is answered: the verdict on all of them being true in the last round. Where it is refused, false.
+// That is promised, so the outcome stands beside the verdict and is no Result.
 #[derive(Clone, Copy)]
 pub struct TogetherAnswer {
-    pub outcome: Outcome,
+    pub outcome: Result<(), Refusal>,
     pub verdict: Verdict,
 }
 
 fn refused(e: Refusal) -> TogetherAnswer
-    ensures { (result.outcome ≡ Outcome.Refused e) × (result.verdict ≡ Verdict.False) }
+    ensures { (result.outcome ≡ Err e) × (result.verdict ≡ Verdict.False) }
 {
     TogetherAnswer {
-        outcome: Outcome::Refused(e),
+        outcome: Err(e),
         verdict: Verdict::False,
     }
 }
 
 // With a sheet that was accepted.
-fn together_on(x: Sheet, storage: &[u64], r: JournalRecord, outputs: u8) -> TogetherAnswer
-    requires { IsAccepted x }
-    ensures { (bs : List ℕ) → AcceptedSheet bs x → TogetherCall bs storage.now r outputs result }
+fn together_on(x: &Sheet, storage: &[u64], r: JournalRecord, outputs: u8) -> TogetherAnswer
+    ensures { (bs : List ℕ) → AcceptedSheet bs x.now → TogetherCall bs storage.now r outputs result }
 {
-    let outcome = checks::check_together(x.outputs, storage.len(), r, outputs);
-    match outcome {
-        Outcome::Refused(e) => refused(e),
-        Outcome::Accepted => TogetherAnswer {
-            outcome: Outcome::Accepted,
-            verdict: verdicts::set_verdict(storage, x.inputs as usize, x.outputs as usize, outputs),
-        },
+    match checks::check_together(x.outputs, storage.len(), r, outputs) {
+        Ok(()) => {
+            let size = Size::new(x.inputs as usize, x.outputs as usize);
+            TogetherAnswer {
+                outcome: Ok(()),
+                verdict: verdicts::set_verdict(pairs::in_front(storage), size, outputs),
+            }
+        }
+        Err(e) => refused(e),
     }
 }
 
@@ -45,10 +47,8 @@ fn together_on(x: Sheet, storage: &[u64], r: JournalRecord, outputs: u8) -> Toge
 pub fn together(sheet: &[u8], storage: &[u64], before: JournalRecord, outputs: u8) -> TogetherAnswer
     ensures { TogetherCall sheet.now storage.now before outputs result }
 {
-    let got = circular::accept_sheet(sheet);
-    let outcome = got.outcome;
-    match outcome {
-        Outcome::Refused(e) => refused(e),
-        Outcome::Accepted => together_on(got.sheet, storage, before, outputs),
+    match circular::accept_sheet(sheet) {
+        Ok(x) => together_on(&x, storage, before, outputs),
+        Err(e) => refused(e),
     }
 }

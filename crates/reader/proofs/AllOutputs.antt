@@ -12,19 +12,17 @@ use borrow.Author.Tests.{leb-true}
 use borrow.Author.Count.{below_more}
 use Rattle.outcomes.specs.declared.Refusal.{Refusal}
 use Rattle.outcomes.specs.declared.Refusal.TheVariants.{Length, Leftover}
-use Rattle.outcomes.specs.declared.Outcome.{Outcome}
-use Rattle.outcomes.specs.declared.Outcome.TheVariants.{Accepted}
-use Rattle.outcomes.specs.declared.Outcome.TheVariants as outcome
+use Rattle.outcomes.specs.Outcome.{Outcome, unbroken}
+use Rattle.std.specs.Prelude.{Ok, Err}
 use Rattle.words.proofs.Bools.{and_split}
 use Rattle.words.proofs.ListLaws.{set_more}
 use Rattle.sheet.specs.Expression.{Expr, newest, Parsed, tree, broken, parse}
-use Rattle.sheet.specs.RuleSheet.{Outputs, trees, breaks, length_ok, after, and_then, read_outputs, required_of, with_outputs}
-use Rattle.sheet.specs.Reading.{tree_of, code_at, trees_of, Parses, reading_by}
-use Rattle.sheet.specs.declared.Assumed.{Assumed}
+use Rattle.sheet.specs.RuleSheet.{Outputs, trees, breaks, length_ok, after, and_then, read_outputs}
+use Rattle.sheet.specs.Parts.{code_at}
+use Rattle.sheet.specs.Reading.{tree_of, trees_of, Parses}
 use Rattle.sheet.specs.declared.Grammar.{Grammar}
 use Rattle.sheet.proofs.Versions.{parse-newest}
 use Rattle.reader.specs.Answer.{output_at, output_of, outputs_by, Put, PackedOutputs}
-use Rattle.reader.specs.declared.OutputRead.TheVariants.{Bytes, Refused}
 use Rattle.reader.proofs.Packing.{copied, not-touched}
 
 -- an output that reads well, at the front of xs, with r outputs more after it
@@ -38,12 +36,12 @@ pub record Step (s : Grammar) (r : ℕ) (xs : List ℕ) (l : ℕ) : Type 0 where
   pub parsed : parse s [] (take l rest) ≡ tree expr
   pub reads : read_outputs s (suc r) xs ≡ after (expr ∷ []) (read_outputs s r (drop l rest))
 
-read_step : (s : Grammar) (r : ℕ) (xs : List ℕ) (l : ℕ) → output_at s xs ≡ Bytes l → Step s r xs l
+read_step : (s : Grammar) (r : ℕ) (xs : List ℕ) (l : ℕ) → output_at s xs ≡ Ok l → Step s r xs l
 unfolding output_at read_outputs
 read_step s r [] l h = absurd (true≢false cc)
 read_step s r (x ∷ ys) l h = go (length_ok x ys) refl (parse s [] (take x ys)) refl h
   where
-    go : (b : Bool) → length_ok x ys ≡ b → (p : Parsed) → parse s [] (take x ys) ≡ p → cond b (output_of x p) (Refused Length) ≡ Bytes l → Step s r (x ∷ ys) l
+    go : (b : Bool) → length_ok x ys ≡ b → (p : Parsed) → parse s [] (take x ys) ≡ p → cond b (output_of x p) (Err Length) ≡ Ok l → Step s r (x ∷ ys) l
     go true e (tree t) q k =
         let a = and_split (leb 1 x) (leb x 64 && leb x (length ys)) e in
         let b = and_split (leb x 64) (leb x (length ys)) a.1 in
@@ -62,12 +60,12 @@ read_step s r (x ∷ ys) l h = go (length_ok x ys) refl (parse s [] (take x ys))
     go true e (broken p) q k = absurd (true≢false cc)
     go false e p q k = absurd (true≢false cc)
 
-read-stop : (s : Grammar) (k : ℕ) (xs : List ℕ) (r : Refusal) → output_at s xs ≡ Refused r → read_outputs s (suc k) xs ≡ breaks r
+read-stop : (s : Grammar) (k : ℕ) (xs : List ℕ) (r : Refusal) → output_at s xs ≡ Err r → read_outputs s (suc k) xs ≡ breaks r
 unfolding output_at read_outputs
 read-stop s k [] r h = cc
 read-stop s k (x ∷ ys) r h = go (length_ok x ys) (parse s [] (take x ys)) h
   where
-    go : (b : Bool) (p : Parsed) → cond b (output_of x p) (Refused Length) ≡ Refused r → cond b (and_then p (read_outputs s k (drop x ys))) (breaks Length) ≡ breaks r
+    go : (b : Bool) (p : Parsed) → cond b (output_of x p) (Err Length) ≡ Err r → cond b (and_then p (read_outputs s k (drop x ys))) (breaks Length) ≡ breaks r
     go true (tree t) h = absurd (true≢false cc)
     go true (broken p) h = cc
     go false p h = cc
@@ -103,13 +101,13 @@ module _ (bs : List ℕ) (s : Grammar) (n : ℕ) (len code : List ℕ) (at k : �
     pub inside : at + 1 + l ≤ length bs
     pub size : length (take l (drop (at + 1) bs)) ≡ l
 
-  pub lies : (l : ℕ) → output_at s (drop at bs) ≡ Bytes l → Lies l
+  pub lies : (l : ℕ) → output_at s (drop at bs) ≡ Ok l → Lies l
   lies l h =
       let r : Step s 0 (drop at bs) l = read_step s 0 (drop at bs) l h in
       let i : at + 1 + l ≤ length bs = omega (arith, ap length r.split, length-drop at bs, r.inside) in
       record { short = r.short; inside = i; size = length-take-le l (drop (at + 1) bs) (omega (arith, length-drop (at + 1) bs)) }
 
-  pub next : k < n → n ≤ 7 → (l : ℕ) → output_at s (drop at bs) ≡ Bytes l → (new : List ℕ) → Put (64 * k) (take l (drop (at + 1) bs)) code new
+  pub next : k < n → n ≤ 7 → (l : ℕ) → output_at s (drop at bs) ≡ Ok l → (new : List ℕ) → Put (64 * k) (take l (drop (at + 1) bs)) code new
       → OutputsTo bs s n (set len k l) new (at + 1 + l) (k + 1)
   next lt seven l h new put =
       let r : Step s (n - (k + 1)) (drop at bs) l = read_step s (n - (k + 1)) (drop at bs) l h in
@@ -145,7 +143,7 @@ module _ (bs : List ℕ) (s : Grammar) (n : ℕ) (len code : List ℕ) (at k : �
             ∙ ap (λ (u : List ℕ). after (trees_of s.streams new (set len k l) (k + 1)) (read_outputs s (n - (k + 1)) u)) (ap (drop l) tail ∙ drop-drop l (at + 1) bs);
       }
 
-  pub stopped : k < n → (r : Refusal) → output_at s (drop at bs) ≡ Refused r → read_outputs s n (drop 8 bs) ≡ breaks r
+  pub stopped : k < n → (r : Refusal) → output_at s (drop at bs) ≡ Err r → read_outputs s n (drop 8 bs) ≡ breaks r
   stopped lt r h =
       kept.rest
       ∙ ap (λ (z : ℕ). after (trees_of s.streams code len k) (read_outputs s z (drop at bs))) (omega arith)
@@ -182,8 +180,11 @@ begins bs s n len code h i j =
       rest = ap (λ (z : ℕ). read_outputs s z (drop 8 bs)) (omega arith) ∙ sym (after_none (read_outputs s (n - 0) (drop 8 bs)));
     }
 
--- an outcome with the outputs that it is of, and what comes with it
-pub reading_by_lem : (m n : ℕ) (a : Assumed) (o : Outcome) (ts : List Expr) (q : Outputs) → outputs_by o ts ≡ q
-    → reading_by o (record { inputs = m; expressions = ts; required = required_of a }) ≡ with_outputs m n a q
-reading_by_lem m n a Accepted ts q e = ap (with_outputs m n a) e
-reading_by_lem m n a (outcome.Refused r) ts q e = ap (with_outputs m n a) e
+-- an answer on all outputs: their trees, or the rule that it breaks
+pub all-trees : (r : Outcome) (ts : List Expr) (o : Outputs) → outputs_by r ts ≡ o → r ≡ unbroken → o ≡ trees ts
+all-trees (Ok _) ts o e h = sym e
+all-trees (Err r) ts o e h = absurd (true≢false cc)
+
+pub all-broken : (r : Outcome) (q : Refusal) (ts : List Expr) (o : Outputs) → outputs_by r ts ≡ o → r ≡ Err q → o ≡ breaks q
+all-broken (Ok _) q ts o e h = absurd (true≢false cc)
+all-broken (Err r) q ts o e h = let z : r ≡ q = cc in sym e ∙ ap breaks z

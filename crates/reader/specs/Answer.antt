@@ -1,27 +1,26 @@
 -- For the contracts of inner functions: what the answers of the reader's parts mean.
-use Rattle.std.specs.Prelude.{◌≡◌, cond, List, [], ◌∷◌, ℕ, ◌+◌, ◌≤◌, ◌<◌, length, take, get_or}
+use Rattle.std.specs.Prelude.{Result, Ok, Err, ◌≡◌, cond, List, [], ◌∷◌, ℕ, ◌+◌, ◌≤◌, ◌<◌, length, take, get_or}
+use Rattle.outcomes.specs.declared.Refusal.{Refusal}
 use Rattle.outcomes.specs.declared.Refusal.TheVariants.{Length}
-use Rattle.outcomes.specs.declared.Outcome.{Outcome}
-use Rattle.outcomes.specs.declared.Outcome.TheVariants as outcome
+use Rattle.outcomes.specs.Outcome.{Outcome}
 use Rattle.sheet.specs.Expression.{Expr, Parsed, tree, broken, parse}
-use Rattle.sheet.specs.Reading.{code_at, Parses}
+use Rattle.sheet.specs.Parts.{code_at}
+use Rattle.sheet.specs.Reading.{Parses}
 use Rattle.sheet.specs.declared.Grammar.{Grammar}
 use Rattle.sheet.specs.RuleSheet.{length_ok, Outputs, trees, breaks}
-use Rattle.reader.specs.declared.OutputRead.{OutputRead}
-use Rattle.reader.specs.declared.OutputRead.TheVariants.{Bytes, Refused}
 
-abbrev pub output_of : ℕ → Parsed → OutputRead
-output_of l (tree t) = Bytes l
-output_of l (broken r) = Refused r
+abbrev pub output_of : ℕ → Parsed → Result ℕ Refusal
+output_of l (tree t) = Ok l
+output_of l (broken r) = Err r
 
 -- what the first output of a list of bytes gives
-unfoldable pub output_at : Grammar → List ℕ → OutputRead
-output_at s [] = Refused Length
-output_at s (l ∷ bs) = cond (length_ok l bs) (output_of l (parse s [] (take l bs))) (Refused Length)
+unfoldable pub output_at : Grammar → List ℕ → Result ℕ Refusal
+output_at s [] = Err Length
+output_at s (l ∷ bs) = cond (length_ok l bs) (output_of l (parse s [] (take l bs))) (Err Length)
 
 abbrev pub outputs_by : Outcome → List Expr → Outputs
-outputs_by outcome.Accepted ts = trees ts
-outputs_by (outcome.Refused r) ts = breaks r
+outputs_by (Ok _) ts = trees ts
+outputs_by (Err r) ts = breaks r
 
 -- e stands in the buffer from a place on, and what lies below is kept
 pub record Put (from : ℕ) (e old new : List ℕ) : Type 0 where

@@ -14,7 +14,6 @@ use borrow.Author.Tests.{eq-eqb, ne_eqb, le-leb, lt-leb, lt-ltb, le-ltb, leb-tru
 use Rattle.outcomes.specs.Numbers.{told_at}
 use Rattle.outcomes.specs.declared.Verdict.{Verdict}
 use Rattle.outcomes.specs.declared.Verdict.TheVariants.{False, True, Open, Broken}
-use Rattle.outcomes.specs.declared.Told.{Told}
 use Rattle.words.specs.Below.{one}
 use Rattle.words.proofs.Bools.{and_split}
 use Rattle.record.specs.Record.{max_rounds, column, count_at, sum_at, add_up, record_ok, same_verdict, Counted, share}
@@ -87,15 +86,15 @@ column_lt Open = omega arith
 column_lt Broken = omega arith
 
 -- the first k outputs are counted
-pub record CountedTo (k : ℕ) (vs : List Told) (old new : List ℕ) : Type 0 where
+pub record CountedTo (k : ℕ) (vs : List Verdict) (old new : List ℕ) : Type 0 where
   pub same_length : length new ≡ length old
   pub each : (j : ℕ) (v : Verdict) → j < k → count_at new j v ≡ one (same_verdict (told_at vs j) v) + count_at old j v
   pub beyond : (i : ℕ) → 4 * k ≤ i → get_or new i 0 ≡ get_or old i 0
 
-pub counted_none : (vs : List Told) (old : List ℕ) → CountedTo 0 vs old old
+pub counted_none : (vs : List Verdict) (old : List ℕ) → CountedTo 0 vs old old
 counted_none vs old = record { same_length = refl; each = λ j v h. absurd (omega arith); beyond = λ i h. refl }
 
-module _ (k : ℕ) (vs : List Told) (old new : List ℕ) (fits : 4 * k + 4 ≤ length old) (x : CountedTo k vs old new) where
+module _ (k : ℕ) (vs : List Verdict) (old new : List ℕ) (fits : 4 * k + 4 ≤ length old) (x : CountedTo k vs old new) where
   abbrev col : ℕ
   col = column (told_at vs k)
 
@@ -129,7 +128,7 @@ module _ (k : ℕ) (vs : List Told) (old new : List ℕ) (fits : 4 * k + 4 ≤ l
           let e : j ≡ k = omega arith in
           subst (λ (z : ℕ). count_at after z v ≡ one (same_verdict (told_at vs z) v) + count_at old z v) (sym e) (here v (ℕ_discrete col (column v)))
 
-pub counted-all : (n k : ℕ) (vs : List Told) (old new : List ℕ) → k ≡ n → length old ≡ 28 → CountedTo k vs old new → Counted n vs old new
+pub counted-all : (n k : ℕ) (vs : List Verdict) (old new : List ℕ) → k ≡ n → length old ≡ 28 → CountedTo k vs old new → Counted n vs old new
 counted-all n k vs old new e l x = record {
   size = x.same_length ∙ l;
   each = λ j v h. x.each j v (omega arith);
@@ -182,7 +181,7 @@ unfolding add_up
 add_up-of counts t zero f = refl
 add_up-of counts t (suc n) f = rw (eq-eqb (sum_at counts n) t (f n (omega arith))) (add_up-of counts t n (λ k h. f k (omega arith)))
 
-pub record_more : (n : ℕ) (r q : JournalRecord) (vs : List Told) → RecordOk n r → r.rounds < max_rounds
+pub record_more : (n : ℕ) (r q : JournalRecord) (vs : List Verdict) → RecordOk n r → r.rounds < max_rounds
     → q.rounds ≡ r.rounds + 1 → Counted n vs r.counts q.counts → record_ok n q ≡ true
 record_more n r q vs ok h e x =
     by_counts n q true (omega arith)

@@ -4,7 +4,6 @@ use Rattle.std.specs.Prelude.{◌≡◌, Bool, true, false, cond, ◌&&◌, List
 use Rattle.outcomes.specs.Numbers.{told_at}
 use Rattle.outcomes.specs.declared.Verdict.{Verdict}
 use Rattle.outcomes.specs.declared.Verdict.TheVariants.{False, True, Open, Broken}
-use Rattle.outcomes.specs.declared.Told.{Told}
 use Rattle.words.specs.Below.{one}
 use Rattle.record.specs.declared.JournalRecord.{JournalRecord}
 
@@ -55,7 +54,7 @@ abbrev pub same_verdict : Verdict → Verdict → Bool
 same_verdict u v = eqb (column u) (column v)
 
 -- one round more: for each of the n outputs one count goes up by one, that of its verdict
-pub record Counted (n : ℕ) (verdicts : List Told) (old new : List ℕ) : Type 0 where
+pub record Counted (n : ℕ) (verdicts : List Verdict) (old new : List ℕ) : Type 0 where
   pub size : length new ≡ 28
   pub each : (k : ℕ) (v : Verdict) → k < n → count_at new k v ≡ one (same_verdict (told_at verdicts k) v) + count_at old k v
   pub beyond : (i : ℕ) → 4 * n ≤ i → get_or new i 0 ≡ get_or old i 0

@@ -1,10 +1,10 @@
 // The journal record: how many rounds were accepted, whether the journal is closed, and per output how many rounds had each verdict.
 #![tactic(auto)]
 
-ghost use Rattle.std.specs.Prelude.{◌≡◌, true, ◌+◌, ◌*◌, ◌<◌, ◌≤◌, length};
+ghost use Rattle.std.specs.Prelude.{◌≡◌, true, ◌+◌, ◌*◌, ◌<◌, ◌≤◌};
 ghost use Rattle.record.specs.Record.{max_rounds, Fresh, column, record_ok, sum_at, Counted, share};
 
-use outcomes::{Told, Verdict};
+use outcomes::Verdict;
 use sheet::OutputNo;
 
 #[derive(Clone, Copy)]
@@ -33,12 +33,15 @@ impl JournalRecord {
 }
 
 // The four counts of output k, added up.
-fn sum_at(counts: &[u32], k: OutputNo) -> u64
-    requires { (k.0 < 7) × (length counts.now ≡ 28) }
+fn sum_at(counts: &[u32; 28], k: OutputNo) -> u64
+    requires { k.0 < 7 }
     ensures { result ≡ sum_at counts.now k.0 }
 {
     let at = 4 * (k.0 as usize);
-    counts[at] as u64 + counts[at + 1] as u64 + counts[at + 2] as u64 + counts[at + 3] as u64
+    u64::from(counts[at])
+        + u64::from(counts[at + 1])
+        + u64::from(counts[at + 2])
+        + u64::from(counts[at + 3])
 }
 
 // Rule 18: whether the record can be one of a journal of n outputs.
@@ -50,18 +53,15 @@ pub fn record_ok(r: JournalRecord, n: usize) -> bool
         return false;
     }
     let t = r.rounds as u64;
-    let counts = r.counts;
-    let mut k: usize = 0;
-    while k < n {
-        if sum_at(&counts, OutputNo(k as u8)) != t {
+    for k in 0..n {
+        if sum_at(&r.counts, OutputNo(k as u8)) != t {
             return false;
         }
-        k += 1;
     }
     true
 }
 
-// The place of a verdict among an output's four counts.
+// The place of a verdict among an output's four counts. No From: neither type is of this crate.
 fn column_of(verdict: Verdict) -> usize
     ensures { result ≡ column verdict }
 {
@@ -82,23 +82,19 @@ fn count_index(k: OutputNo, verdict: Verdict) -> usize
 }
 
 // The record after one round more: counts one verdict for each of its n outputs.
-pub fn with_round(r: JournalRecord, n: usize, verdicts: [Told; 7]) -> JournalRecord
+pub fn with_round(r: JournalRecord, n: usize, verdicts: [Verdict; 7]) -> JournalRecord
     requires { (n ≤ 7) × (record_ok n r ≡ true) × (r.rounds < max_rounds) }
     ensures { (result.rounds ≡ r.rounds + 1) × (result.closed ≡ r.closed) × Counted n verdicts r.counts result.counts }
 {
     let mut counts = r.counts;
-    let mut k: usize = 0;
-    while k < n {
-        let told = verdicts[k];
-        let verdict = told.verdict;
-        let at = count_index(OutputNo(k as u8), verdict);
+    for k in 0..n {
+        let at = count_index(OutputNo(k as u8), verdicts[k]);
         counts[at] = counts[at] + 1;
-        k += 1;
     }
     JournalRecord {
         rounds: r.rounds + 1,
         closed: r.closed,
-        counts: counts,
+        counts,
     }
 }
 

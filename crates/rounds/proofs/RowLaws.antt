@@ -1,9 +1,10 @@
 -- What the reached set gains, row by row.
-use mathlib.Core.Path.{◌≡◌, refl, sym, ap, ap₂, ◌∙◌, subst}
+use Rattle.std.specs.Prelude.{Some, None}
+use mathlib.Core.Path.{◌≡◌, refl, sym, ap, ap₂, ◌∙◌}
 use mathlib.Core.Bool.{Bool, true, false, ◌&&◌, ◌||◌, and-true, and-false, or-false, or_comm, and_assoc}
 use mathlib.Core.List.{List}
 use mathlib.Core.Option.{Option, none, some}
-use Prim.Native.Nat.{ℕ, ◌+◌, ◌*◌, ◌/◌, ◌≤◌, ◌<◌, min}
+use Prim.Native.Nat.{ℕ, ◌+◌, ◌*◌, ◌/◌, ◌≤◌, ◌<◌}
 use native.Mathlib.Omega.{arith}
 use native.Mathlib.Decide.{ℕ_discrete}
 use lib.Dec.{eqb, ltb}
@@ -17,7 +18,7 @@ use Rattle.lola.specs.Equations.{holds}
 use Rattle.completions.specs.Live.{Pairs}
 use Rattle.completions.specs.Steps.{Within, part_below}
 use Rattle.pairs.specs.Storage.{live, reached, scratch, live_at, reached_at, scratch_at}
-use Rattle.pairs.specs.Changes.{eq_next, Adds, row_bit, NextBit, NextMember, Noted}
+use Rattle.pairs.specs.Changes.{eq_next, Adds, row_bit, FirstFrom, Noted}
 use Rattle.pairs.proofs.BitSearch.{any_skip}
 use Rattle.pairs.proofs.Sets.{adds_none, adds_as, adds_then, framed-before, framed-beyond}
 use Rattle.rounds.specs.Rows.{cut, gains, in_row, brought, Sparse}
@@ -116,10 +117,9 @@ module _ (x : RuleSheet) where
 
   -- ---- the rows that one row of a set G names
 
-  -- those below b are done; b is the next, or at least w
-  pub record Bringing (s t : List ℕ) (w g : ℕ) (p : Option ℕ) (b : ℕ) : Type 0 where
-    pub sofar : Adds reached_at s t (Rows b (in_row (scratch s) w g) (cut (λ c. ltb c w)) s p)
-    pub next : b < w → scratch s g (some b) ≡ true
+  -- those below `from` are done
+  abbrev pub Brought : List ℕ → ℕ → ℕ → Option ℕ → List ℕ → ℕ → Type 0
+  Brought s w g p t from = Adds reached_at s t (Rows from (in_row (scratch s) w g) (cut (λ c. ltb c w)) s p)
 
   module _ (s : List ℕ) (w g : ℕ) (p : Option ℕ) (hw : w ≤ 256) (hg : g < 256) where
     abbrev Cells : Option ℕ → Bool
@@ -137,25 +137,24 @@ module _ (x : RuleSheet) where
         (λ k c hk hc. ap (λ (u : Bool). u && Cells c)
         (below_wider k b b' (In k) l (λ h i. ap (λ (u : Bool). ltb k w && u) (f k hk h i) ∙ and-false (ltb k w))))
 
-    pub bring-first : (n b : ℕ) → w ≤ 64 * n → NextMember (scratch s) g n 0 b → Bringing s s w g p b
-    bring-first n b hn z =
-        record { sofar = wider s 0 b (omega arith) (λ a h l i. z.skipped a l i) (rows_none s Cells In p); next = λ h. z.found (omega arith) }
+    pub bring-none : Brought s w g p s 0
+    bring-none = rows_none s Cells In p
 
-    pub bring-more : (t u : List ℕ) (n b b' : ℕ) → w ≤ 64 * n → b < w → Bringing s t w g p b → Adds reached_at t u (gains x (λ a. eqb a b) (cut (λ c. ltb c w)) (live t) p)
-        → NextMember (scratch u) g n (b + 1) b' → Bringing s u w g p b'
-    bring-more t u n b b' hn hb f q z =
-        let one : Adds reached_at t u (One b In Cells t p) = heard t u b Cells In p (ap₂ ◌&&◌ (lt-ltb b w hb) (f.next hb)) q in
-        let all : Adds reached_at s u (Rows (b + 1) In Cells s p) = rows_more s t u b Cells In p f.sofar one in
-        record {
-          sofar = wider u (b + 1) b' z.onward (λ a h l i. sym (row_same u (Rows (b + 1) In Cells s p) all a h) ∙ z.skipped a l i) all;
-          next = λ h. sym (row_same u (Rows (b + 1) In Cells s p) all b' (omega arith)) ∙ z.found (omega arith);
-        }
+    pub bring-more : (t u : List ℕ) (from b : ℕ) → FirstFrom (λ a. scratch t g (some a)) w from (Some b) → Brought s w g p t from
+        → Adds reached_at t u (gains x (λ a. eqb a b) (cut (λ c. ltb c w)) (live t) p) → Brought s w g p u (b + 1)
+    bring-more t u from b z f q =
+        let same : (a : ℕ) → a < 256 → scratch t g (some a) ≡ scratch s g (some a) = row_same t (Rows from In Cells s p) f in
+        let up : Brought s w g p t b = wider t from b z.0 (λ a h l i. sym (same a h) ∙ z.2 a l i) f in
+        let one : Adds reached_at t u (One b In Cells t p) = heard t u b Cells In p (ap₂ ◌&&◌ (lt-ltb b w z.1) (sym (same b (omega (arith, z.1))) ∙ z.3)) q in
+        rows_more s t u b Cells In p up one
 
-    pub bring-all : (t : List ℕ) (b : ℕ) → w ≤ b → Bringing s t w g p b → Adds reached_at s t (gains x (in_row (scratch s) w g) (cut (λ c. ltb c w)) (live s) p)
-    bring-all t b h f =
-        gains-as s t (λ a. ltb a b && In a) In Cells Cells (live s) p f.sofar
+    pub bring-all : (t : List ℕ) (from : ℕ) → from ≤ w → FirstFrom (λ a. scratch t g (some a)) w from None → Brought s w g p t from
+        → Adds reached_at s t (gains x (in_row (scratch s) w g) (cut (λ c. ltb c w)) (live s) p)
+    bring-all t from l z f =
+        let same : (a : ℕ) → a < 256 → scratch t g (some a) ≡ scratch s g (some a) = row_same t (Rows from In Cells s p) f in
+        gains-as s t (λ a. ltb a w && In a) In Cells Cells (live s) p (wider t from w l (λ a h k i. sym (same a h) ∙ z a k i) f)
         (λ a c ha hc. ap (λ (u : Bool). u && Cells c)
-        (sym (and_assoc (ltb a b) (ltb a w) (scratch s g (some a))) ∙ ap (λ (u : Bool). u && scratch s g (some a)) (below-within a w b h)))
+        (sym (and_assoc (ltb a w) (ltb a w) (scratch s g (some a))) ∙ ap (λ (u : Bool). u && scratch s g (some a)) (below-within a w w (omega arith))))
 
     -- the rows, and then their ends
     pub rows_end : (t u : List ℕ) → Adds reached_at s t (gains x In Cells (live s) p)
@@ -204,15 +203,13 @@ module _ (x : RuleSheet) where
         (λ a d e. ap (λ (u : Bool). (ltb b w && u) && (part_below w c && (live s b c && holds x (some a) b c))) (f a (omega arith) (absent a d e) b hb)
         ∙ ap (λ (u : Bool). u && (part_below w c && (live s b c && holds x (some a) b c))) (and-false (ltb b w)))))
 
-    pub groups-first : (n g : ℕ) → NextBit groups 0 n 0 g → Adds reached_at s s (Upto (min g w))
-    groups-first n g z = skip s 0 (min g w) (omega arith) (omega arith) (λ a d e. z.skipped a d (omega arith)) (brought-none s (scratch s) (live s) w)
+    pub groups-none : Adds reached_at s s (Upto 0)
+    groups-none = brought-none s (scratch s) (live s) w
 
-    pub groups-more : (t u : List ℕ) (n g g' : ℕ) → g < w → Adds reached_at s t (Upto (min g w))
-        → Adds reached_at t u (gains x (in_row (scratch t) w g) (part_below w) (live t) (some g)) → NextBit groups 0 n (g + 1) g' → Adds reached_at s u (Upto (min g' w))
-    groups-more t u n g g' h q r z =
-        let e : min g w ≡ g = omega arith in
-        skip u (g + 1) (min g' w) (omega (arith, z.onward)) (omega arith) (λ a d e. z.skipped a d (omega arith))
-        (brought-more s t u w g (omega arith) (subst (λ (k : ℕ). Adds reached_at s t (Upto k)) e q) r)
+    pub groups-more : (t u : List ℕ) (from g : ℕ) → FirstFrom (row_bit groups 0) w from (Some g) → Adds reached_at s t (Upto from)
+        → Adds reached_at t u (gains x (in_row (scratch t) w g) (part_below w) (live t) (some g)) → Adds reached_at s u (Upto (g + 1))
+    groups-more t u from g z q r =
+        brought-more s t u w g (omega (arith, z.1)) (skip t from g z.0 (omega (arith, z.1)) (λ a d e. z.2 a d e) q) r
 
-    pub groups-all : (t : List ℕ) (g : ℕ) → w ≤ g → Adds reached_at s t (Upto (min g w)) → Adds reached_at s t (Upto w)
-    groups-all t g h q = let e : min g w ≡ w = omega arith in subst (λ (k : ℕ). Adds reached_at s t (Upto k)) e q
+    pub groups-all : (t : List ℕ) (from : ℕ) → from ≤ w → FirstFrom (row_bit groups 0) w from None → Adds reached_at s t (Upto from) → Adds reached_at s t (Upto w)
+    groups-all t from l z q = skip t from w l (omega arith) (λ a d e. z a d e) q

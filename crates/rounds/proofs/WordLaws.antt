@@ -28,35 +28,21 @@ use Rattle.rounds.proofs.Bools.{turn, merge_under, nothing_new}
 
 -- ---- the lanes of a row, its words joined
 
-or_two : (u v : Bool) → (u || v) ≡ (v || (u || false))
-or_two u v = or_comm u v ∙ ap (λ (z : Bool). v || z) (sym (or-false u))
+-- the first k words of row a of the set S, joined
+pub record Lanes (S : Pairs) (a lanes k : ℕ) : Type 0 where
+  pub joined : (i : ℕ) → i < 64 → bit i lanes ≡ any_below k (λ j. S a (some (64 * j + i)))
 
-or_four : (u v y z : Bool) → (((u || v) || y) || z) ≡ (z || (y || (v || (u || false))))
-or_four u v y z = or_comm ((u || v) || y) z ∙ ap (λ (q : Bool). z || q) (or_comm (u || v) y ∙ ap (λ (q : Bool). y || q) (or_two u v))
-
-module _ (S : Pairs) (a i : ℕ) (h : i < 64) where
-  abbrev has : ℕ → Bool
-  has j = S a (some (64 * j + i))
-
-  pub row_one : (w x₀ : ℕ) → w ≡ 1 → RowWord S a 0 x₀ → bit i x₀ ≡ any_below w has
+module _ (S : Pairs) (a : ℕ) where
+  pub lanes_none : Lanes S a 0 0
   unfolding any_below
-  row_one w x₀ e f₀ = rw e (f₀ i h ∙ sym (or-false (has 0)))
+  lanes_none = record { joined = λ i h. bit-none i }
 
-  two-words : (x₀ x₁ : ℕ) → RowWord S a 0 x₀ → RowWord S a 1 x₁ → bit i (bit_or x₀ x₁) ≡ (has 0 || has 1)
-  two-words x₀ x₁ f₀ f₁ = bit-or i x₀ x₁ ∙ ap₂ ◌||◌ (f₀ i h) (f₁ i h)
-
-  pub row-two : (w x₀ x₁ : ℕ) → w ≡ 2 → RowWord S a 0 x₀ → RowWord S a 1 x₁ → bit i (bit_or x₀ x₁) ≡ any_below w has
-  unfolding any_below
-  row-two w x₀ x₁ e f₀ f₁ = rw e (two-words x₀ x₁ f₀ f₁ ∙ or_two (has 0) (has 1))
-
-  pub row-four : (w x₀ x₁ x₂ x₃ : ℕ) → w ≡ 4 → RowWord S a 0 x₀ → RowWord S a 1 x₁ → RowWord S a 2 x₂ → RowWord S a 3 x₃
-      → bit i (bit_or (bit_or (bit_or x₀ x₁) x₂) x₃) ≡ any_below w has
-  unfolding any_below
-  row-four w x₀ x₁ x₂ x₃ e f₀ f₁ f₂ f₃ =
-      rw e
-      (bit-or i (bit_or (bit_or x₀ x₁) x₂) x₃
-      ∙ ap₂ ◌||◌ (bit-or i (bit_or x₀ x₁) x₂ ∙ ap₂ ◌||◌ (two-words x₀ x₁ f₀ f₁) (f₂ i h)) (f₃ i h)
-      ∙ or_four (has 0) (has 1) (has 2) (has 3))
+  pub lanes_more : (lanes x k : ℕ) → Lanes S a lanes k → RowWord S a k x → Lanes S a (bit_or lanes x) (k + 1)
+  lanes_more lanes x k f word = record {
+    joined = λ i h.
+        bit-or i lanes x ∙ ap₂ ◌||◌ (f.joined i h) (word i h) ∙ or_comm (any_below k (λ j. S a (some (64 * j + i)))) (S a (some (64 * k + i)))
+        ∙ sym (any_one k (λ j. S a (some (64 * j + i))));
+  }
 
 -- a lane was heard just where its valuations were
 pub heard_lane : (letters j i : ℕ) → i < 64 → bit i letters ≡ among letters (64 * j + i)
@@ -294,32 +280,28 @@ module _ (s : List ℕ) (letters mask w v : ℕ) (hv : v ≤ 256) where
       grouped-quiet s t (reached s) (among letters) mask w (min a v) (min (a + 4) v) (omega arith)
       (λ x y l k hy. sym (framed-before f.frame reached_at x (some y) (omega arith) hy (omega arith)) ∙ q x y (omega arith) (omega arith) hy) f
 
-  pub upto_all : (t : List ℕ) (a : ℕ) → v ≤ a → Adds scratch_at s t (Upto a) → Adds scratch_at s t (grouped (reached s) (among letters) mask w v)
-  upto_all t a h f = let e : min a v ≡ v = omega arith in subst (λ (k : ℕ). Adds scratch_at s t (grouped (reached s) (among letters) mask w k)) e f
+-- if the first k words, joined as any, have no lane, they are 0
+pub record Joining (row : List ℕ) (any k : ℕ) : Type 0 where
+  pub zeros : any ≡ 0 → (j : ℕ) → j < k → get_or row j 0 ≡ 0
 
--- if k words from `at` on, joined as any, have no lane, they are 0
-pub record Joining (s : List ℕ) (at any k : ℕ) : Type 0 where
-  pub zeros : any ≡ 0 → (j : ℕ) → j < k → get_or s (at + j) 0 ≡ 0
-
-pub joining-none : (s : List ℕ) (at : ℕ) → Joining s at 0 0
-joining-none s at = record { zeros = λ e j h. absurd (omega arith) }
-
-pub joining-more : (s : List ℕ) (at any k : ℕ) → Joining s at any k → Joining s at (bit_or any (get_or s (at + k) 0)) (k + 1)
-joining-more s at any k f = record { zeros = λ e j h. go e j h (ℕ_discrete j k) }
+pub joining-more : (row : List ℕ) (any k : ℕ) → Joining row any k → Joining row (bit_or any (get_or row k 0)) (k + 1)
+joining-more row any k f = record { zeros = λ e j h. go e j h (ℕ_discrete j k) }
   where
     x : ℕ
-    x = get_or s (at + k) 0
+    x = get_or row k 0
 
-    go : bit_or any x ≡ 0 → (j : ℕ) → j < k + 1 → Dec (j ≡ k) → get_or s (at + j) 0 ≡ 0
-    go e j h (yes d) = ap (λ (i : ℕ). get_or s (at + i) 0) d ∙ (let z : x ≡ 0 = omega (arith, or_add_and any x, and_le_l any x, and_le_r any x) in z)
+    go : bit_or any x ≡ 0 → (j : ℕ) → j < k + 1 → Dec (j ≡ k) → get_or row j 0 ≡ 0
+    go e j h (yes d) = ap (λ (i : ℕ). get_or row i 0) d ∙ (let z : x ≡ 0 = omega (arith, or_add_and any x, and_le_l any x, and_le_r any x) in z)
     go e j h (no d) = f.zeros (omega (arith, or_add_and any x, and_le_l any x, and_le_r any x)) j (omega arith)
 
-pub joining-quiet : (s : List ℕ) (a any k : ℕ) → 16 ≤ k → any ≡ 0 → Joining s (reached_at + 4 * a) any k → Quiet (reached s) a (a + 4)
-joining-quiet s a any k m e f x y l h hy =
+-- the words of four rows of the reached set
+pub joining-quiet : (s row : List ℕ) (a any k : ℕ) → 16 ≤ k → any ≡ 0 → ((j : ℕ) → j < 16 → get_or row j 0 ≡ get_or s (reached_at + (4 * a + j)) 0) → Joining row any k
+    → Quiet (reached s) a (a + 4)
+joining-quiet s row a any k m e same f x y l h hy =
     let j : ℕ = 4 * (x - a) + y / 64 in
-    let p : reached_at + (4 * x + y / 64) ≡ reached_at + 4 * a + j = omega arith in
+    let p : reached_at + (4 * x + y / 64) ≡ reached_at + (4 * a + j) = omega arith in
     let d : 64 * (y / 64) + y % 64 ≡ y = omega arith in
     ap (λ (z : ℕ). reached s x (some z)) (sym d)
     ∙ sym (lane s reached_at x (y / 64) (y % 64) (omega arith))
-    ∙ ap (bit (y % 64)) (ap (λ (i : ℕ). get_or s i 0) p ∙ f.zeros e j (omega arith))
+    ∙ ap (bit (y % 64)) (ap (λ (i : ℕ). get_or s i 0) p ∙ sym (same j (omega arith)) ∙ f.zeros e j (omega arith))
     ∙ bit-none (y % 64)

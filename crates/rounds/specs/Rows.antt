@@ -9,16 +9,10 @@ use Rattle.lola.specs.Equations.{holds}
 use Rattle.completions.specs.Live.{Pairs}
 use Rattle.completions.specs.Steps.{part_below}
 use Rattle.pairs.specs.Changes.{row_bit}
-use Rattle.lanes.specs.Around.{Before}
 
 -- v was heard, as its lane of the round's letters tells: the inputs, at most 6, are the low bits of the lane's number too
 unfoldable pub among : ℕ → ℕ → Bool
 among letters v = bit (v % 64) letters
-
--- the word has the reads of some round before
-pub record Earlier (w : ℕ) : Type 0 where
-  pub round : Option ℕ
-  pub reads : Before w round
 
 -- c is a valuation that passes the test
 abbrev pub cut : (ℕ → Bool) → Option ℕ → Bool

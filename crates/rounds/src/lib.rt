@@ -5,151 +5,130 @@ ghost use Rattle.std.specs.Prelude.{◌≡◌, List, ℕ, ◌+◌, ◌*◌, ◌^
 ghost use Rattle.std.proofs.Math.Option.{Option, none, some};
 ghost use Rattle.words.specs.Bits.{bit};
 ghost use Rattle.words.specs.Below.{any_below};
-ghost use Rattle.words.specs.Sizes.{Sized};
 ghost use Rattle.completions.specs.Steps.{start_set, step_set, part_below};
-ghost use Rattle.pairs.specs.Storage.{stored, live, reached, scratch, reached_at, scratch_at, storage_words};
-ghost use Rattle.pairs.specs.Changes.{Adds};
+ghost use Rattle.pairs.specs.Storage.{stored, live, reached, scratch, reached_at, scratch_at};
+ghost use Rattle.pairs.specs.Changes.{base_of, Adds, FirstFrom};
 ghost use Rattle.lanes.specs.Around.{stack_words, Before};
-ghost use Rattle.lanes.specs.Coded.{Coded, sheet_of, sheet_by};
-ghost use Rattle.rounds.specs.Rows.{among, Earlier, gains, in_row, heard_first, brought, Sparse};
+ghost use Rattle.lanes.specs.Sheets.{sheet_by};
+ghost use Rattle.rounds.specs.Rows.{among, gains, in_row, heard_first, brought, Sparse};
 ghost use Rattle.rounds.specs.Round.{Rounded};
 
 use gain::{gain_ends, gain_row};
-use group::{clear_groups, group_rows};
+use group::{clear_groups, group_rows, next_group};
+use lanes::Equations;
+use pairs::{PairSet, Row, Storage};
 use words::Size;
 
 mod gain; // gain.rt: what one valuation, and the ends of a row, bring to the reached set
 mod group; // group.rt: rows of the reached set joined by the streams that are read one round earlier
 
-// The valuations of row a of the set at base, its w words joined: in each lane whether some word has it.
-pub fn row_lanes(s: &[u64], base: usize, w: usize, a: usize) -> u64
-    requires { (1 ≤ w) × (w ≤ 4) × (w ≡ 3 → ⊥) × (a < 256) × (base ≤ scratch_at) × (storage_words ≤ length s.now) }
-    ensures { (i : ℕ) → i < 64 → bit i result ≡ any_below w (λ j. stored s.now base a (some (64 * j + i))) }
+// The valuations of row a of the set, its first w words joined: in each lane whether some word has it.
+pub fn row_lanes(s: &Storage, set: PairSet, w: usize, a: usize) -> u64
+    requires { (w ≤ 4) × (a < 256) }
+    ensures { (i : ℕ) → i < 64 → bit i result ≡ any_below w (λ j. stored s.now (base_of set) a (some (64 * j + i))) }
 {
-    let first = pairs::row_word(s, base, a, 0);
-    if w == 1 {
-        return first;
+    let mut lanes = 0;
+    for j in 0..w {
+        lanes |= pairs::row_word(s, set, a, j);
     }
-    let two = first | pairs::row_word(s, base, a, 1);
-    if w == 2 {
-        return two;
-    }
-    two | pairs::row_word(s, base, a, 2) | pairs::row_word(s, base, a, 3)
+    lanes
 }
 
 // ---- The pairs that one round brings
 
-// The pairs that the valuations of row g of the scratch set bring, after the round whose reads are `before`.
-fn bring_row(
-    s: &mut [u64],
-    st: &mut [u64],
-    code: &[u8],
-    len: &[usize],
-    size: Size,
-    before: u64,
-    g: usize,
-)
-    requires coded { Coded size.inputs size.outputs code.now len.now }
-    requires sized { Sized size × (stack_words size.words ≤ length st.old) × (storage_words ≤ length s.old) × (g < 256) × Earlier before }
-    ensures { (p : Option ℕ) → Before before p → (ks : List ℕ) → Adds reached_at s.old s.new (gains (sheet_by size code.now len.now ks) (in_row (scratch s.old) size.valuations g) (part_below size.valuations) (live s.old) p) }
+// The first valuation from `from` on in row g of the scratch set, if there is one.
+fn next_heard(s: &Storage, size: &Size, g: usize, from: usize) -> Option<usize>
+    requires { g < 256 }
+    ensures { FirstFrom (λ b. scratch s.now g (some b)) size.now.valuations from result }
 {
-    let v = size.valuations;
-    let w = size.words;
-    let mut b = pairs::next_member(s, pairs::SCRATCH, g, w, 0);
-    while b < v {
-        let env = lanes::seen(before, b);
-        gain_row(s, st, code, len, size, env, b);
-        b = pairs::next_member(s, pairs::SCRATCH, g, w, b + 1);
+    let next = pairs::next_member(s, PairSet::Scratch, g, size.words, from);
+    next.filter(|b| *b < size.valuations)
+}
+
+// The pairs that the valuations of row g of the scratch set bring, after the round whose reads are `before`; st is room to work in.
+fn bring_row(s: &mut Storage, st: &mut [u64], equations: &Equations, before: u32, g: usize)
+    requires { (stack_words equations.now.size.words ≤ length st.old) × (g < 256) }
+    ensures { (p : Option ℕ) → Before before p → (ks : List ℕ) → Adds reached_at s.old s.new (gains (sheet_by equations.now ks) (in_row (scratch s.old) equations.now.size.valuations g) (part_below equations.now.size.valuations) (live s.old) p) }
+{
+    let mut from = 0;
+    while let Some(b) = next_heard(s, &equations.size, g, from) {
+        gain_row(s, st, equations, lanes::seen(before, b), b);
+        from = b + 1;
     }
-    gain_ends(s, st, code, len, size, before, g);
+    gain_ends(s, st, equations, before, g);
 }
 
 // ---- The first round
 
 // Puts the valuations that were heard into row 0 of the scratch set.
-fn hear(s: &mut [u64], size: Size, letters: u64)
-    requires { Sized size × (storage_words ≤ length s.old) }
-    ensures { Adds scratch_at s.old s.new (heard_first size.valuations (among letters) (64 * size.words)) }
+fn hear(s: &mut Storage, size: &Size, letters: u64)
+    ensures { Adds scratch_at s.old s.new (heard_first size.now.valuations (among letters) (64 * size.now.words)) }
 {
-    let v = size.valuations;
-    let w = size.words;
-    let mut j: usize = 0;
-    while j < w {
-        pairs::insert_word(s, pairs::SCRATCH, 0, j, words::lanes_below(v, j) & letters);
-        j += 1;
+    for j in 0..size.words {
+        let heard = words::lanes_below(size.valuations, j) & letters;
+        pairs::insert_word(s, PairSet::Scratch, 0, j, heard);
     }
 }
 
 // The pairs that row 0 of the scratch set brings, with nothing before it.
-fn bring_first(s: &mut [u64], code: &[u8], len: &[usize], size: Size)
-    requires coded { Coded size.inputs size.outputs code.now len.now }
-    requires sized { Sized size × (storage_words ≤ length s.old) }
-    ensures { (ks : List ℕ) → Adds reached_at s.old s.new (gains (sheet_by size code.now len.now ks) (in_row (scratch s.old) size.valuations 0) (part_below size.valuations) (live s.old) none) }
+fn bring_first(s: &mut Storage, equations: &Equations)
+    ensures { (ks : List ℕ) → Adds reached_at s.old s.new (gains (sheet_by equations.now ks) (in_row (scratch s.old) equations.now.size.valuations 0) (part_below equations.now.size.valuations) (live s.old) none) }
 {
-    let mut st = [0u64; 256];
-    bring_row(s, &mut st, code, len, size, lanes::before(true, 0), 0);
+    let mut st = [0; 256];
+    bring_row(s, &mut st, equations, lanes::before(None), 0);
 }
 
 // The first round, where the valuations heard are those of the lanes of `letters`.
-pub fn first_round(s: &mut [u64], code: &[u8], len: &[usize], m: usize, n: usize, letters: u64)
-    requires coded { Coded m n code.now len.now }
-    requires storage_words_in_bounds { storage_words ≤ length s.old }
-    ensures { (ks : List ℕ) → Rounded (2 ^ (m + n)) s.old s.new (start_set (sheet_of m n code.now len.now ks) (live s.old) (among letters)) }
+pub fn first_round(s: &mut Storage, equations: &Equations, letters: u64)
+    ensures { (ks : List ℕ) → Rounded equations.now.size.valuations s.old s.new (start_set (sheet_by equations.now ks) (live s.old) (among letters)) }
 {
-    let size = words::size_of(m, n);
-    let v = size.valuations;
-    pairs::clear_rows(s, pairs::SCRATCH, v);
-    hear(s, size, letters);
-    pairs::clear_rows(s, pairs::REACHED, v);
-    bring_first(s, code, len, size);
-    pairs::clear_rows(s, pairs::SCRATCH, v);
+    let v = equations.size.valuations;
+    pairs::clear_rows(s, PairSet::Scratch, v);
+    hear(s, &equations.size, letters);
+    pairs::clear_rows(s, PairSet::Reached, v);
+    bring_first(s, equations);
+    pairs::clear_rows(s, PairSet::Scratch, v);
 }
 
 // ---- A later round
 
-// The pairs that the scratch set brings; only rows of the groups have any, and st is room to work in.
-fn bring_rows(s: &mut [u64], st: &mut [u64], groups: &[u64], code: &[u8], len: &[usize], size: Size)
-    requires coded { Coded size.inputs size.outputs code.now len.now }
-    requires sized { Sized size × (stack_words size.words ≤ length st.old) × (length groups.now ≡ 4) × (storage_words ≤ length s.old) × Sparse size.valuations groups.now (scratch s.old) }
-    ensures { (ks : List ℕ) → Adds reached_at s.old s.new (brought (sheet_by size code.now len.now ks) (scratch s.old) size.valuations (live s.old) size.valuations) }
+// The pairs that the scratch set brings; only rows of the groups have any. ROOM is the room to work in.
+fn bring_rows<const ROOM: usize>(s: &mut Storage, groups: &Row, equations: &Equations)
+    requires room { (stack_words equations.now.size.words ≤ ROOM) × (ROOM ≤ 256) }
+    requires sparse { Sparse equations.now.size.valuations groups.now (scratch s.old) }
+    ensures { (ks : List ℕ) → Adds reached_at s.old s.new (brought (sheet_by equations.now ks) (scratch s.old) equations.now.size.valuations (live s.old) equations.now.size.valuations) }
 {
-    let v = size.valuations;
-    let w = size.words;
-    let mut g = pairs::next_bit(groups, 0, w, 0);
-    while g < v {
-        bring_row(s, st, code, len, size, lanes::before(false, g), g);
-        g = pairs::next_bit(groups, 0, w, g + 1);
+    let mut st = [0; ROOM];
+    let mut from = 0;
+    while let Some(g) = next_group(groups, &equations.size, from) {
+        bring_row(s, &mut st, equations, lanes::before(Some(g)), g);
+        from = g + 1;
     }
 }
 
 // The same, with as much room as the valuations want.
-fn bring_pairs(s: &mut [u64], groups: &[u64], code: &[u8], len: &[usize], size: Size)
-    requires coded { Coded size.inputs size.outputs code.now len.now }
-    requires sized { Sized size × (length groups.now ≡ 4) × (storage_words ≤ length s.old) × Sparse size.valuations groups.now (scratch s.old) }
-    ensures { (ks : List ℕ) → Adds reached_at s.old s.new (brought (sheet_by size code.now len.now ks) (scratch s.old) size.valuations (live s.old) size.valuations) }
+fn bring_pairs(s: &mut Storage, groups: &Row, equations: &Equations)
+    requires { Sparse equations.now.size.valuations groups.now (scratch s.old) }
+    ensures { (ks : List ℕ) → Adds reached_at s.old s.new (brought (sheet_by equations.now ks) (scratch s.old) equations.now.size.valuations (live s.old) equations.now.size.valuations) }
 {
-    if size.valuations <= 128 {
-        let mut st = [0u64; 128];
-        bring_rows(s, &mut st, groups, code, len, size);
-        return;
+    if equations.size.valuations <= 128 {
+        bring_rows::<128>(s, groups, equations);
+    } else {
+        bring_rows::<256>(s, groups, equations);
     }
-    let mut st = [0u64; 256];
-    bring_rows(s, &mut st, groups, code, len, size);
 }
 
 // A later round. Pairs (a, b) and (a', b) whose first parts agree in every stream that is read one round earlier have the same
 // successors, so the rows of the reached set, what was heard of them, are first joined by these groups.
-pub fn later_round(s: &mut [u64], code: &[u8], len: &[usize], m: usize, n: usize, letters: u64)
-    requires coded { Coded m n code.now len.now }
-    requires storage_words_in_bounds { storage_words ≤ length s.old }
-    ensures { (ks : List ℕ) → Rounded (2 ^ (m + n)) s.old s.new (step_set (sheet_of m n code.now len.now ks) (2 ^ (m + n)) (live s.old) (reached s.old) (among letters)) }
+pub fn later_round(s: &mut Storage, equations: &Equations, letters: u64)
+    ensures { (ks : List ℕ) → Rounded equations.now.size.valuations s.old s.new (step_set (sheet_by equations.now ks) equations.now.size.valuations (live s.old) (reached s.old) (among letters)) }
 {
-    let size = words::size_of(m, n);
-    let mask = lanes::earlier_mask(code, len, m, n);
-    pairs::clear_rows(s, pairs::SCRATCH, size.valuations);
-    let mut groups = [0u64; 4];
-    group_rows(s, &mut groups, size, letters, mask);
-    pairs::clear_rows(s, pairs::REACHED, size.valuations);
-    bring_pairs(s, &groups, code, len, size);
-    clear_groups(s, &groups, size);
+    let size = equations.size;
+    let mask = equations.earlier_mask();
+    pairs::clear_rows(s, PairSet::Scratch, size.valuations);
+    let mut groups = [0; 4];
+    group_rows(s, &mut groups, &size, letters, mask);
+    pairs::clear_rows(s, PairSet::Reached, size.valuations);
+    bring_pairs(s, &groups, equations);
+    clear_groups(s, &groups, &size);
 }

@@ -13,34 +13,29 @@ use borrow.Author.Tests.{le-ltb, lt-ltb, le-leb, lt-leb, ne_eqb, ltb-true, ltb-f
 use Rattle.outcomes.specs.Decided.{Check, test, Decided}
 use Rattle.outcomes.specs.declared.Refusal.{Refusal}
 use Rattle.outcomes.specs.declared.Refusal.TheVariants.{Short, Mark, Version, Counts, Assumption, Byte, Values, Length, Leftover}
-use Rattle.outcomes.specs.declared.Outcome.{Outcome}
-use Rattle.outcomes.specs.declared.Outcome.TheVariants.{Accepted, Refused}
+use Rattle.outcomes.specs.Outcome.{Outcome, unbroken}
+use Rattle.std.specs.Prelude.{Option, Some, None, Ok, Err}
 use Rattle.outcomes.proofs.Decisions.{test_decides}
 use Rattle.words.proofs.Bools.{and_split}
-use Rattle.sheet.specs.Bytes.{op_of}
+use Rattle.sheet.specs.Bytes.{op_of, Decoded}
 use Rattle.sheet.specs.Expression.{Expr, has_equal, stack, Parsed, tree, broken, apply_op, final, parse}
 use Rattle.sheet.specs.Expression
-use Rattle.sheet.specs.Header.{mark_ok, version_of, version_ok, counts_ok, assumed_at, fields_of, header_of}
+use Rattle.sheet.specs.Header.{header, mark_ok, version_of, version_ok, counts_ok, assumed_at, fields_of, header_of}
 use Rattle.sheet.specs.RuleSheet.{Outputs, trees, breaks, length_ok, after, and_then, read_outputs, with_outputs, with_header, read_sheet}
 use Rattle.sheet.specs.ReadingChecks.{inputs_of, outputs_of, grammar_of, output_at, length_at, expression_of, known, needs, height_from, bad_length, op_at, bad_byte, bad_values, bad_end, left_over, byte_checks, output_checks, reading_checks}
 use Rattle.sheet.specs.Decided.{reading_outcome, ReadingDecided}
 use Rattle.sheet.specs.declared.Grammar.{Grammar}
-use Rattle.sheet.specs.declared.Op.{Op}
-use Rattle.sheet.specs.declared.Op.TheVariants.{Const, Not, And, Or, Equal, Read, Rejected}
-use Rattle.sheet.specs.declared.Assumed.{Assumed}
-use Rattle.sheet.specs.declared.Assumed.TheVariants.{Nothing, Output}
-use Rattle.sheet.specs.declared.AssumedRead.TheVariants as assumed
-use Rattle.sheet.specs.declared.Header.TheVariants.{Fields}
-use Rattle.sheet.specs.declared.Header.TheVariants as header
+use Rattle.sheet.specs.declared.Op.TheVariants.{Const, Not, And, Or, Equal, Read}
+use Rattle.sheet.specs.declared.OutputNo.{OutputNo}
 use Rattle.sheet.proofs.Ops.{OnlyByte, only_byte}
 
 -- what one operation does: it is unknown, or lacks a value, or goes on
-data Does (s : Grammar) (op : Op) (st : List Expr) : Type 0 where
+data Does (s : Grammar) (op : Decoded) (st : List Expr) : Type 0 where
   unknown : known s op ≡ false → apply_op s op st ≡ Expression.breaks Byte → Does s op st
   lacks : known s op ≡ true → length st < needs op → apply_op s op st ≡ Expression.breaks Values → Does s op st
   goes : known s op ≡ true → needs op ≤ length st → (st' : List Expr) → apply_op s op st ≡ stack st' → length st' ≡ length st + 1 - needs op → Does s op st
 
-does_equal : (s : Grammar) (st : List Expr) (t : Bool) → has_equal s ≡ t → Does s Equal st
+does_equal : (s : Grammar) (st : List Expr) (t : Bool) → has_equal s ≡ t → Does s (Ok Equal) st
 unfolding known needs apply_op
 does_equal s [] true e = lacks e (omega arith) (rw e)
 does_equal s (b ∷ []) true e = lacks e (omega arith) (rw e)
@@ -49,27 +44,27 @@ does_equal s [] false e = unknown e (rw e)
 does_equal s (b ∷ []) false e = unknown e (rw e)
 does_equal s (b ∷ (a ∷ st)) false e = unknown e (rw e)
 
-does : (s : Grammar) (op : Op) (st : List Expr) → OnlyByte op → Does s op st
+does : (s : Grammar) (op : Decoded) (st : List Expr) → OnlyByte op → Does s op st
 unfolding known needs apply_op
-does s (Const v) st ok = goes refl (omega arith) _ refl (omega arith)
-does s Not [] ok = lacks refl (omega arith) refl
-does s Not (a ∷ st) ok = goes refl (omega arith) _ refl (omega arith)
-does s And [] ok = lacks refl (omega arith) refl
-does s And (b ∷ []) ok = lacks refl (omega arith) refl
-does s And (b ∷ (a ∷ st)) ok = goes refl (omega arith) _ refl (omega arith)
-does s Or [] ok = lacks refl (omega arith) refl
-does s Or (b ∷ []) ok = lacks refl (omega arith) refl
-does s Or (b ∷ (a ∷ st)) ok = goes refl (omega arith) _ refl (omega arith)
-does s Equal st ok = does_equal s st (has_equal s) refl
-does s (Read q o v) st ok = go (ltb q.0 s.streams) refl
+does s (Ok (Const v)) st ok = goes refl (omega arith) _ refl (omega arith)
+does s (Ok Not) [] ok = lacks refl (omega arith) refl
+does s (Ok Not) (a ∷ st) ok = goes refl (omega arith) _ refl (omega arith)
+does s (Ok And) [] ok = lacks refl (omega arith) refl
+does s (Ok And) (b ∷ []) ok = lacks refl (omega arith) refl
+does s (Ok And) (b ∷ (a ∷ st)) ok = goes refl (omega arith) _ refl (omega arith)
+does s (Ok Or) [] ok = lacks refl (omega arith) refl
+does s (Ok Or) (b ∷ []) ok = lacks refl (omega arith) refl
+does s (Ok Or) (b ∷ (a ∷ st)) ok = goes refl (omega arith) _ refl (omega arith)
+does s (Ok Equal) st ok = does_equal s st (has_equal s) refl
+does s (Ok (Read q o v)) st ok = go (ltb q.0 s.streams) refl
   where
-    go : (t : Bool) → ltb q.0 s.streams ≡ t → Does s (Read q o v) st
+    go : (t : Bool) → ltb q.0 s.streams ≡ t → Does s (Ok (Read q o v)) st
     go true e = goes e (omega arith) (Expression.read q.0 o v ∷ st) (rw e) (omega arith)
     go false e = unknown e (rw e)
-does s (Rejected r) st ok = unknown refl (ap Expression.breaks ok)
+does s (Err r) st ok = unknown refl (ap Expression.breaks ok)
 
 -- a test in front of decided checks
-by_test : (r : Refusal) (t : Bool) (cs : List Check) (x o : Outcome) → Decided cs x → cond t (Refused r) x ≡ o → Decided (test r t ∷ cs) o
+by_test : (r : Refusal) (t : Bool) (cs : List Check) (x o : Outcome) → Decided cs x → cond t (Err r) x ≡ o → Decided (test r t ∷ cs) o
 by_test r t cs x o d e = subst (Decided (test r t ∷ cs)) e (test_decides r t cs x d)
 
 off : {t : Bool} → t ≡ false → t ≡ true → ⊥
@@ -79,9 +74,9 @@ off f e = false≢true (sym f ∙ e)
 
 abbrev after_parse : Parsed → Outcome → Outcome
 after_parse (tree t) x = x
-after_parse (broken r) x = Refused r
+after_parse (broken r) x = Err r
 
-end_law : (st : List Expr) (h : ℕ) (x : Outcome) → length st ≡ h → cond (not (eqb h 1)) (Refused Values) x ≡ after_parse (final st) x
+end_law : (st : List Expr) (h : ℕ) (x : Outcome) → length st ≡ h → cond (not (eqb h 1)) (Err Values) x ≡ after_parse (final st) x
 unfolding final
 end_law [] h x e = rw (← e)
 end_law (t ∷ []) h x e = rw (← e)
@@ -124,8 +119,8 @@ module _ (bs : List ℕ) (k : ℕ) where
 -- the law of the outputs
 
 abbrev outputs_no : Outputs → Outcome
-outputs_no (trees ts) = Accepted
-outputs_no (breaks r) = Refused r
+outputs_no (trees ts) = unbroken
+outputs_no (breaks r) = Err r
 
 after_no : (ts : List Expr) (o : Outputs) → outputs_no (after ts o) ≡ outputs_no o
 after_no ts (trees us) = refl
@@ -183,12 +178,12 @@ module _ (bs : List ℕ) where
   size-missing : (k : ℕ) → length bs ≤ output_at bs k → bad_length bs k ≡ true
   size-missing k h = simp (le-ltb (output_at bs k) (length bs) h)
 
-  last-law : (k : ℕ) → k ≡ outputs_of bs → cond (left_over bs) (Refused Leftover) Accepted ≡ reads k 0
+  last-law : (k : ℕ) → k ≡ outputs_of bs → cond (left_over bs) (Err Leftover) unbroken ≡ reads k 0
   unfolding read_outputs
   last-law k h =
-      ap (λ (z : ℕ). cond {A = Outcome} (ltb (output_at bs z) (length bs)) (Refused Leftover) Accepted) (sym h) ∙ go (ltb (output_at bs k) (length bs)) refl
+      ap (λ (z : ℕ). cond {A = Outcome} (ltb (output_at bs z) (length bs)) (Err Leftover) unbroken) (sym h) ∙ go (ltb (output_at bs k) (length bs)) refl
     where
-      go : (t : Bool) → ltb (output_at bs k) (length bs) ≡ t → cond t (Refused Leftover) Accepted ≡ outputs_no (read_outputs (grammar_of bs) 0 (drop (output_at bs k) bs))
+      go : (t : Bool) → ltb (output_at bs k) (length bs) ≡ t → cond t (Err Leftover) unbroken ≡ outputs_no (read_outputs (grammar_of bs) 0 (drop (output_at bs k) bs))
       go true q = rw (drop-cons bs (output_at bs k) 0 (ltb-true _ _ q))
       go false q = rw (drop_of_length-le bs (ltb-false _ _ q))
 
@@ -208,36 +203,36 @@ module _ (bs : List ℕ) where
 
   outputs-law : (r k : ℕ) → k + r ≡ outputs_of bs → Decided (from k r) (reads k r)
   unfolding output_checks
-  outputs-law zero k h = by_test Leftover (left_over bs) [] Accepted _ refl (last-law k (omega arith))
+  outputs-law zero k h = by_test Leftover (left_over bs) [] unbroken _ refl (last-law k (omega arith))
   outputs-law (suc r) k h =
       subst (λ (cs : List Check). Decided cs (reads k (suc r))) (sym (lined k r))
       (next-law k r (outputs-law r (suc k) (omega arith)) (ltb (output_at bs k) (length bs)) refl)
 
 -- the whole sheet
 
-with_no : (m n : ℕ) (a : Assumed) (o : Outputs) → reading_outcome (with_outputs m n a o) ≡ outputs_no o
+with_no : (m n : ℕ) (a : Option OutputNo) (o : Outputs) → reading_outcome (with_outputs m n a o) ≡ outputs_no o
 with_no m n a (trees ts) = refl
 with_no m n a (breaks r) = refl
 
 header_law : (bs : List ℕ) (cs : List Check) (t u v w y z : Bool)
-    → ((a : Assumed) → Decided cs (reading_outcome (with_header bs (Fields (inputs_of bs) (outputs_of bs) a))))
+    → ((a : Option OutputNo) → Decided cs (reading_outcome (with_header bs (header (inputs_of bs) (outputs_of bs) a))))
     → Decided (test Short t ∷ (test Mark (not u) ∷ (test Version (not v) ∷ (test Counts (not w) ∷ (test Assumption (not (y || z)) ∷ cs)))))
     (reading_outcome
     (with_header bs
-    (cond t (header.Refused Short)
+    (cond t (Err Short)
     (cond u
     (cond v
     (cond w
-    (fields_of (inputs_of bs) (outputs_of bs) (cond y (assumed.Is Nothing) (cond z (assumed.Is (Output (record { 0 = get_or bs 7 0 }))) (assumed.Refused Assumption))))
-    (header.Refused Counts))
-    (header.Refused Version))
-    (header.Refused Mark)))))
+    (fields_of (inputs_of bs) (outputs_of bs) (cond y (Ok None) (cond z (Ok (Some (record { 0 = get_or bs 7 0 }))) (Err Assumption))))
+    (Err Counts))
+    (Err Version))
+    (Err Mark)))))
 header_law bs cs true u v w y z f = inl (refl, refl)
 header_law bs cs false false v w y z f = inr (false≢true, inl (refl, refl))
 header_law bs cs false true false w y z f = inr (false≢true, inr (false≢true, inl (refl, refl)))
 header_law bs cs false true true false y z f = inr (false≢true, inr (false≢true, inr (false≢true, inl (refl, refl))))
-header_law bs cs false true true true true z f = inr (false≢true, inr (false≢true, inr (false≢true, inr (false≢true, inr (false≢true, f Nothing)))))
-header_law bs cs false true true true false true f = inr (false≢true, inr (false≢true, inr (false≢true, inr (false≢true, inr (false≢true, f (Output (record { 0 = get_or bs 7 0 })))))))
+header_law bs cs false true true true true z f = inr (false≢true, inr (false≢true, inr (false≢true, inr (false≢true, inr (false≢true, f None)))))
+header_law bs cs false true true true false true f = inr (false≢true, inr (false≢true, inr (false≢true, inr (false≢true, inr (false≢true, f (Some (record { 0 = get_or bs 7 0 })))))))
 header_law bs cs false true true true false false f = inr (false≢true, inr (false≢true, inr (false≢true, inr (false≢true, inl (refl, refl)))))
 
 -- A sheet is refused by the first broken check in the order of the rules, and accepted where none is broken.

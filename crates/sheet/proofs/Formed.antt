@@ -5,18 +5,20 @@ use mathlib.Core.List.{List, [], ◌∷◌}
 use Prim.Native.Nat.{ℕ, zero, suc, ◌+◌, ◌<◌}
 use native.Mathlib.Omega.{arith}
 use lib.ListN.{length, get_or, take, drop}
+use Rattle.std.specs.Prelude.{Option, Result, Ok, Err}
+use Rattle.outcomes.specs.declared.Refusal.{Refusal}
 use Rattle.outcomes.specs.declared.Refusal.TheVariants.{Length}
 use Rattle.sheet.specs.Expression.{Expr, constant, newest, Parsed, tree, broken, parse}
-use Rattle.sheet.specs.Header.{header_of, version_of}
+use Rattle.sheet.specs.Header.{header, header_of, version_of}
 use Rattle.sheet.specs.RuleSheet.{RuleSheet, outputs, streams, accepted, Outputs, trees, breaks, length_ok, and_then, read_outputs, with_outputs, with_header, read_sheet, required_of}
-use Rattle.sheet.specs.Reading.{rule_sheet, tree_of, code_at, Usable, Ranges, Below}
+use Rattle.sheet.specs.Parts.{code_at, Ranges, Below}
+use Rattle.sheet.specs.Reading.{rule_sheet, tree_of, Usable}
 use Rattle.sheet.specs.Postfix.{InSheet}
 use Rattle.sheet.specs.ReadingChecks.{inputs_of, outputs_of}
 use Rattle.sheet.specs.declared.Sheet.{Sheet}
-use Rattle.sheet.specs.declared.Assumed.{Assumed}
+use Rattle.sheet.specs.declared.OutputNo.{OutputNo}
 use Rattle.sheet.specs.declared.Grammar.{Grammar}
 use Rattle.sheet.specs.declared.Header.{Header}
-use Rattle.sheet.specs.declared.Header.TheVariants.{Fields, Refused}
 use Rattle.sheet.proofs.Sheets.{tree-at, length-trees}
 use Rattle.sheet.proofs.Headers.{fields, fields_are}
 use Rattle.sheet.proofs.Postfixes.{tree_exactly}
@@ -65,8 +67,8 @@ all_in s (suc k) (l ∷ bs) ts h =
 
 -- the header and the outputs that a sheet is read from
 record From (bs : List ℕ) (x : RuleSheet) : Type 0 where
-  assumed : Assumed
-  header : header_of bs ≡ Fields x.inputs (outputs x) assumed
+  assumed : Option OutputNo
+  header : header_of bs ≡ header x.inputs (outputs x) assumed
   body : read_outputs (record { version = version_of bs; streams = streams x }) (outputs x) (drop 8 bs) ≡ trees x.expressions
   required : x.required ≡ required_of assumed
 
@@ -74,7 +76,7 @@ read-from : (bs : List ℕ) (x : RuleSheet) → read_sheet bs ≡ accepted x →
 unfolding read_sheet
 read-from bs x h = go (header_of bs) refl h
   where
-    with : (m n : ℕ) (a : Assumed) → header_of bs ≡ Fields m n a → (o : Outputs) → read_outputs (record { version = version_of bs; streams = m + n }) n (drop 8 bs) ≡ o
+    with : (m n : ℕ) (a : Option OutputNo) → header_of bs ≡ header m n a → (o : Outputs) → read_outputs (record { version = version_of bs; streams = m + n }) n (drop 8 bs) ≡ o
         → with_outputs m n a o ≡ accepted x → From bs x
     with m n a f (trees ts) g e =
         let same : record { inputs = m; expressions = ts; required = required_of a } ≡ x = cc in
@@ -82,9 +84,9 @@ read-from bs x h = go (header_of bs) refl h
         subst (From bs) same (record { assumed = a; header = rw size f; body = rw size g; required = refl })
     with m n a f (breaks r) g e = absurd (true≢false cc)
 
-    go : (k : Header) → header_of bs ≡ k → with_header bs k ≡ accepted x → From bs x
-    go (Fields m n a) f e = with m n a f _ refl e
-    go (Refused r) f e = absurd (true≢false cc)
+    go : (k : Result Header Refusal) → header_of bs ≡ k → with_header bs k ≡ accepted x → From bs x
+    go (Ok h) f e = with h.inputs h.outputs h.assumed f _ refl e
+    go (Err r) f e = absurd (true≢false cc)
 
 pub formed_in : (bs : List ℕ) (x : RuleSheet) → read_sheet bs ≡ accepted x → FormedIn (version_of bs) x
 formed_in bs x h =
@@ -109,7 +111,7 @@ usable_formed x u =
     }
 
 -- what is assumed is one of the sheet's outputs, or nothing
-pub assumed-of : (bs : List ℕ) (x : RuleSheet) → read_sheet bs ≡ accepted x → (a : Assumed) × (x.required ≡ required_of a) × Below a (outputs x)
+pub assumed-of : (bs : List ℕ) (x : RuleSheet) → read_sheet bs ≡ accepted x → (a : Option OutputNo) × (x.required ≡ required_of a) × Below a (outputs x)
 assumed-of bs x h = let r = read-from bs x h in (r.assumed, r.required, (fields bs x.inputs (outputs x) r.assumed r.header).2)
 
 -- the sheet's counts are those of its header

@@ -1,16 +1,14 @@
 -- Expressions as trees, and how postfix bytes are read (01, "The sheet"): a stack of trees, on which each byte works; rules 7 and 8, byte by
 -- byte (01, "What is turned down").
 -- Manual: "The sheet".
-use Rattle.std.specs.Prelude.{Bool, cond, List, [], ◌∷◌, ℕ, leb, ltb}
+use Rattle.std.specs.Prelude.{Bool, cond, List, [], ◌∷◌, ℕ, leb, ltb, Ok, Err}
 use Rattle.outcomes.specs.declared.Refusal.{Refusal}
 use Rattle.outcomes.specs.declared.Refusal.TheVariants.{Byte, Values}
-use Rattle.outcomes.specs.declared.Outcome.{Outcome}
-use Rattle.outcomes.specs.declared.Outcome.TheVariants.{Accepted, Refused}
-use Rattle.sheet.specs.Bytes.{op_of}
+use Rattle.outcomes.specs.Outcome.{Outcome, unbroken}
+use Rattle.sheet.specs.Bytes.{op_of, Decoded}
 use Rattle.sheet.specs.declared.Grammar.{Grammar}
 use Rattle.sheet.specs.declared.Offset.{Offset}
-use Rattle.sheet.specs.declared.Op.{Op}
-use Rattle.sheet.specs.declared.Op.TheVariants.{Const, Not, And, Or, Equal, Read, Rejected}
+use Rattle.sheet.specs.declared.Op.TheVariants.{Const, Not, And, Or, Equal, Read}
 
 pub data Expr : Type 0 where
   constant : Bool → Expr
@@ -36,21 +34,21 @@ pub data Next : Type 0 where
   breaks : Refusal → Next
 
 -- what an operation does to the stack, its top first, in a sheet of the grammar s: 7 (Byte) before 8 (Values)
-unfoldable pub apply_op : Grammar → Op → List Expr → Next
-apply_op s (Const v) st = stack (constant v ∷ st)
-apply_op s Not [] = breaks Values
-apply_op s Not (a ∷ st) = stack (negation a ∷ st)
-apply_op s And [] = breaks Values
-apply_op s And (b ∷ []) = breaks Values
-apply_op s And (b ∷ (a ∷ st)) = stack (conjunction a b ∷ st)
-apply_op s Or [] = breaks Values
-apply_op s Or (b ∷ []) = breaks Values
-apply_op s Or (b ∷ (a ∷ st)) = stack (disjunction a b ∷ st)
-apply_op s Equal [] = cond (has_equal s) (breaks Values) (breaks Byte)
-apply_op s Equal (b ∷ []) = cond (has_equal s) (breaks Values) (breaks Byte)
-apply_op s Equal (b ∷ (a ∷ st)) = cond (has_equal s) (stack (equality a b ∷ st)) (breaks Byte)
-apply_op s (Read q o d) st = cond (ltb q.0 s.streams) (stack (read q.0 o d ∷ st)) (breaks Byte)
-apply_op s (Rejected r) st = breaks r
+unfoldable pub apply_op : Grammar → Decoded → List Expr → Next
+apply_op s (Ok (Const v)) st = stack (constant v ∷ st)
+apply_op s (Ok Not) [] = breaks Values
+apply_op s (Ok Not) (a ∷ st) = stack (negation a ∷ st)
+apply_op s (Ok And) [] = breaks Values
+apply_op s (Ok And) (b ∷ []) = breaks Values
+apply_op s (Ok And) (b ∷ (a ∷ st)) = stack (conjunction a b ∷ st)
+apply_op s (Ok Or) [] = breaks Values
+apply_op s (Ok Or) (b ∷ []) = breaks Values
+apply_op s (Ok Or) (b ∷ (a ∷ st)) = stack (disjunction a b ∷ st)
+apply_op s (Ok Equal) [] = cond (has_equal s) (breaks Values) (breaks Byte)
+apply_op s (Ok Equal) (b ∷ []) = cond (has_equal s) (breaks Values) (breaks Byte)
+apply_op s (Ok Equal) (b ∷ (a ∷ st)) = cond (has_equal s) (stack (equality a b ∷ st)) (breaks Byte)
+apply_op s (Ok (Read q o d)) st = cond (ltb q.0 s.streams) (stack (read q.0 o d ∷ st)) (breaks Byte)
+apply_op s (Err r) st = breaks r
 
 -- the tree of a whole expression, or the rule that it breaks first
 pub data Parsed : Type 0 where
@@ -73,5 +71,5 @@ parse s st [] = final st
 parse s st (b ∷ bs) = go_on (apply_op s (op_of b) st) (λ st'. parse s st' bs)
 
 abbrev pub outcome_of : Parsed → Outcome
-outcome_of (tree t) = Accepted
-outcome_of (broken r) = Refused r
+outcome_of (tree t) = unbroken
+outcome_of (broken r) = Err r

@@ -1,12 +1,10 @@
 -- The first 8 bytes of a sheet (01, "The sheet"): rules 1 to 5, in their order (01, "What is turned down").
 -- Manual: "The sheet".
-use Rattle.std.specs.Prelude.{Bool, cond, ◌&&◌, ◌||◌, List, ℕ, ◌+◌, ◌*◌, length, get_or, leb, ltb, eqb}
+use Rattle.std.specs.Prelude.{Option, Some, None, Result, Ok, Err, Bool, cond, ◌&&◌, ◌||◌, List, ℕ, ◌+◌, ◌*◌, length, get_or, leb, ltb, eqb}
+use Rattle.outcomes.specs.declared.Refusal.{Refusal}
 use Rattle.outcomes.specs.declared.Refusal.TheVariants.{Short, Mark, Version, Counts, Assumption}
-use Rattle.sheet.specs.declared.Assumed.TheVariants.{Nothing, Output}
-use Rattle.sheet.specs.declared.AssumedRead.{AssumedRead}
-use Rattle.sheet.specs.declared.AssumedRead.TheVariants as assumed
+use Rattle.sheet.specs.declared.OutputNo.{OutputNo}
 use Rattle.sheet.specs.declared.Header.{Header}
-use Rattle.sheet.specs.declared.Header.TheVariants.{Fields, Refused}
 
 -- bytes 0 to 2 are `SLR`
 unfoldable pub mark_ok : List ℕ → Bool
@@ -25,24 +23,27 @@ unfoldable pub counts_ok : ℕ → ℕ → Bool
 counts_ok m n = leb 1 m && (leb m 6 && (leb 1 n && (leb n 7 && leb (m + n) 8)))
 
 -- the assumption's byte: 255 for none, or an output number below n
-unfoldable pub assumed_at : ℕ → ℕ → AssumedRead
+unfoldable pub assumed_at : ℕ → ℕ → Result (Option OutputNo) Refusal
 assumed_at a n =
-    cond (eqb a 255) (assumed.Is Nothing)
-    (cond (ltb a n) (assumed.Is (Output (record { 0 = a })))
-    (assumed.Refused Assumption))
+    cond (eqb a 255) (Ok None)
+    (cond (ltb a n) (Ok (Some (record { 0 = a })))
+    (Err Assumption))
 
-abbrev pub fields_of : ℕ → ℕ → AssumedRead → Header
-fields_of m n (assumed.Is x) = Fields m n x
-fields_of m n (assumed.Refused r) = Refused r
+abbrev pub header : ℕ → ℕ → Option OutputNo → Result Header Refusal
+header m n a = Ok (record { inputs = m; outputs = n; assumed = a })
+
+abbrev pub fields_of : ℕ → ℕ → Result (Option OutputNo) Refusal → Result Header Refusal
+fields_of m n (Ok a) = header m n a
+fields_of m n (Err r) = Err r
 
 -- m is byte 5, n is byte 6, the assumption is byte 7
-unfoldable pub header_of : List ℕ → Header
+unfoldable pub header_of : List ℕ → Result Header Refusal
 header_of bs =
-    cond (ltb (length bs) 8) (Refused Short)
+    cond (ltb (length bs) 8) (Err Short)
     (cond (mark_ok bs)
     (cond (version_ok (version_of bs))
     (cond (counts_ok (get_or bs 5 0) (get_or bs 6 0))
     (fields_of (get_or bs 5 0) (get_or bs 6 0) (assumed_at (get_or bs 7 0) (get_or bs 6 0)))
-    (Refused Counts))
-    (Refused Version))
-    (Refused Mark))
+    (Err Counts))
+    (Err Version))
+    (Err Mark))

@@ -3,6 +3,7 @@ pub mod Expression
 pub mod Header
 pub mod RuleSheet
 pub mod Depth
+pub mod Parts
 pub mod Reading
 pub mod ReadingChecks
 pub mod Postfix

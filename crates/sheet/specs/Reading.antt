@@ -1,23 +1,17 @@
 -- What the reader's answer means: a refusal, or the rule sheet that the answer holds (01, "The sheet"; "What is turned down").
 -- Manual: "The sheet".
-use Rattle.std.specs.Prelude.{◌≡◌, false, List, [], ◌∷◌, ◌++◌, ℕ, zero, suc, ◌+◌, ◌*◌, ◌≤◌, ◌<◌, length, take, drop, get_or, replicate}
-use Rattle.outcomes.specs.declared.Outcome.{Outcome}
-use Rattle.outcomes.specs.declared.Outcome.TheVariants.{Accepted, Refused}
+use Rattle.std.specs.Prelude.{Result, Ok, Err, ◌≡◌, false, List, [], ◌∷◌, ◌++◌, ℕ, zero, suc, ◌+◌, ◌≤◌, ◌<◌, length, get_or}
+use Rattle.outcomes.specs.Outcome.{Outcome}
+use Rattle.outcomes.specs.declared.Refusal.{Refusal}
 use Rattle.sheet.specs.Expression.{Expr, constant, newest, Parsed, tree, broken, parse}
+use Rattle.sheet.specs.Parts.{Ranges, Below, code_at}
 use Rattle.sheet.specs.RuleSheet.{RuleSheet, Reading, refused, accepted, required_of}
-use Rattle.sheet.specs.declared.Assumed.{Assumed}
-use Rattle.sheet.specs.declared.Assumed.TheVariants.{Nothing, Output}
 use Rattle.sheet.specs.declared.Sheet.{Sheet}
-use Rattle.sheet.specs.declared.SheetRead.{SheetRead}
 
 -- the tree of an expression that parses (an accepted sheet has no other)
 abbrev pub tree_of : Parsed → Expr
 tree_of (tree t) = t
 tree_of (broken r) = constant false
-
--- the bytes of output k's expression: the first of the 64 from 64 k on
-abbrev pub code_at : List ℕ → List ℕ → ℕ → List ℕ
-code_at code len k = take (get_or len k 0) (drop (64 * k) code)
 
 -- the trees of the first k outputs, in their order, in a sheet of s streams; a sheet that was read has no byte that its version lacks
 unfoldable pub trees_of : ℕ → List ℕ → List ℕ → ℕ → List Expr
@@ -33,25 +27,9 @@ rule_sheet x =
       required = required_of x.assumed;
     }
 
-abbrev pub reading_by : Outcome → RuleSheet → Reading
-reading_by Accepted x = accepted x
-reading_by (Refused r) x = refused r
-
-abbrev pub reading_of : SheetRead → Reading
-reading_of r = reading_by r.outcome (rule_sheet r.sheet)
-
--- m is 1 to 6, n is 1 to 7, m + n is at most 8
-pub record Ranges (m n : ℕ) : Type 0 where
-  pub an_input : 1 ≤ m
-  pub inputs : m ≤ 6
-  pub an_output : 1 ≤ n
-  pub outputs : n ≤ 7
-  pub streams : m + n ≤ 8
-
--- an assumption is an output
-abbrev pub Below : Assumed → ℕ → Type 0
-Below Nothing n = Unit {0}
-Below (Output k) n = k.0 < n
+abbrev pub reading_of : Result Sheet Refusal → Reading
+reading_of (Ok x) = accepted (rule_sheet x)
+reading_of (Err r) = refused r
 
 -- an expression of 1 to 64 bytes that parses
 pub record Parses (s : ℕ) (e : List ℕ) : Type 0 where
@@ -68,14 +46,7 @@ pub record Usable (x : Sheet) : Type 0 where
   pub small : (k : ℕ) → k < x.outputs → get_or x.len k 0 ≤ 64
   pub parts : (k : ℕ) → k < x.outputs → Parses (x.inputs + x.outputs) (code_at x.code x.len k)
 
+-- what holds of an answer that is no refusal
 abbrev pub when_accepted : Outcome → Type 0 → Type 0
-when_accepted Accepted X = X
-when_accepted (Refused r) X = Unit {0}
-
--- the sheet that comes with a refusal: a refusal returns its number alone
-unfoldable pub blank : Sheet
-blank = record { inputs = 0; outputs = 0; assumed = Nothing; len = replicate 7 0; code = replicate 448 0 }
-
-abbrev pub blank_if_refused : Outcome → Sheet → Type 0
-blank_if_refused Accepted x = Unit {0}
-blank_if_refused (Refused r) x = x ≡ blank
+when_accepted (Ok _) X = X
+when_accepted (Err r) X = Unit {0}

@@ -1,15 +1,14 @@
 -- The rules of a sheet one by one, each said of the whole sheet, in the order of 01, "What is turned down": 1 to 5; then output by
 -- output 6, byte by byte 7 before 8, 8 for the end; 9. Rule 10 is stated in the crate `circular`.
 -- Manual: "Refusals".
-use Rattle.std.specs.Prelude.{Bool, true, false, not, ◌&&◌, ◌||◌, List, [], ◌∷◌, ◌++◌, ℕ, zero, suc, ◌+◌, ◌-◌, length, take, drop, get_or, leb, ltb, eqb}
+use Rattle.std.specs.Prelude.{Ok, Err, Bool, true, false, not, ◌&&◌, ◌||◌, List, [], ◌∷◌, ◌++◌, ℕ, zero, suc, ◌+◌, ◌-◌, length, take, drop, get_or, leb, ltb, eqb}
 use Rattle.outcomes.specs.Decided.{Check, test}
 use Rattle.outcomes.specs.declared.Refusal.TheVariants.{Short, Mark, Version, Counts, Assumption, Length, Byte, Values, Leftover}
-use Rattle.sheet.specs.Bytes.{op_of}
+use Rattle.sheet.specs.Bytes.{op_of, Decoded}
 use Rattle.sheet.specs.Expression.{has_equal}
 use Rattle.sheet.specs.Header.{mark_ok, version_of, version_ok, counts_ok}
 use Rattle.sheet.specs.declared.Grammar.{Grammar}
-use Rattle.sheet.specs.declared.Op.{Op}
-use Rattle.sheet.specs.declared.Op.TheVariants.{Const, Not, And, Or, Equal, Read, Rejected}
+use Rattle.sheet.specs.declared.Op.TheVariants.{Const, Not, And, Or, Equal, Read}
 
 -- the counts in the header
 abbrev pub inputs_of : List ℕ → ℕ
@@ -35,24 +34,24 @@ abbrev pub expression_of : List ℕ → ℕ → List ℕ
 expression_of bs k = take (length_at bs k) (drop (output_at bs k + 1) bs)
 
 -- an operation that may stand in a sheet of the grammar s
-unfoldable pub known : Grammar → Op → Bool
-known s (Const v) = true
-known s Not = true
-known s And = true
-known s Or = true
-known s Equal = has_equal s
-known s (Read q o v) = ltb q.0 s.streams
-known s (Rejected r) = false
+unfoldable pub known : Grammar → Decoded → Bool
+known s (Ok (Const v)) = true
+known s (Ok Not) = true
+known s (Ok And) = true
+known s (Ok Or) = true
+known s (Ok Equal) = has_equal s
+known s (Ok (Read q o v)) = ltb q.0 s.streams
+known s (Err r) = false
 
 -- the values that an operation takes; it leaves one
-unfoldable pub needs : Op → ℕ
-needs (Const v) = 0
-needs Not = 1
-needs And = 2
-needs Or = 2
-needs Equal = 2
-needs (Read q o v) = 0
-needs (Rejected r) = 0
+unfoldable pub needs : Decoded → ℕ
+needs (Ok (Const v)) = 0
+needs (Ok Not) = 1
+needs (Ok And) = 2
+needs (Ok Or) = 2
+needs (Ok Equal) = 2
+needs (Ok (Read q o v)) = 0
+needs (Err r) = 0
 
 -- the number of values after the bytes of a list, from d values on
 unfoldable pub height_from : ℕ → List ℕ → ℕ
@@ -66,7 +65,7 @@ bad_length bs k =
     && (leb 1 (length_at bs k) && (leb (length_at bs k) 64 && leb (output_at bs k + 1 + length_at bs k) (length bs))))
 
 -- byte i of output k's expression, as an operation
-abbrev pub op_at : List ℕ → ℕ → ℕ → Op
+abbrev pub op_at : List ℕ → ℕ → ℕ → Decoded
 op_at bs k i = op_of (get_or (expression_of bs k) i 0)
 
 -- it is unknown to the sheet's version, or its stream isn't below m + n

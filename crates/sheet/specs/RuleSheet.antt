@@ -1,15 +1,13 @@
 -- A rule sheet, and what reading a list of bytes as one gives: the sheet, or the first rule that is broken (01, "The sheet").
 -- Manual: "The sheet".
-use Rattle.std.specs.Prelude.{Bool, cond, ◌&&◌, List, [], ◌∷◌, ◌++◌, ℕ, zero, suc, ◌+◌, length, take, drop, leb}
+use Rattle.std.specs.Prelude.{Option, Some, None, Result, Ok, Err, Bool, cond, ◌&&◌, List, [], ◌∷◌, ◌++◌, ℕ, zero, suc, ◌+◌, length, take, drop, leb}
 use Rattle.outcomes.specs.declared.Refusal.{Refusal}
 use Rattle.outcomes.specs.declared.Refusal.TheVariants.{Length, Leftover}
 use Rattle.sheet.specs.Expression.{Expr, Parsed, tree, broken, parse}
 use Rattle.sheet.specs.Header.{header_of, version_of}
-use Rattle.sheet.specs.declared.Assumed.{Assumed}
-use Rattle.sheet.specs.declared.Assumed.TheVariants.{Nothing, Output}
+use Rattle.sheet.specs.declared.OutputNo.{OutputNo}
 use Rattle.sheet.specs.declared.Grammar.{Grammar}
 use Rattle.sheet.specs.declared.Header.{Header}
-use Rattle.sheet.specs.declared.Header.TheVariants.{Fields, Refused}
 
 -- The number of inputs m, the expression of each output in the order of their numbers, and the outputs that are assumed to be true
 -- in every round: none or one from a sheet.
@@ -58,17 +56,17 @@ read_outputs s (suc k) (l ∷ bs) =
     cond (length_ok l bs) (and_then (parse s [] (take l bs)) (read_outputs s k (drop l bs))) (breaks Length)
 
 -- byte 7 names none or one
-abbrev pub required_of : Assumed → List ℕ
-required_of Nothing = []
-required_of (Output k) = k.0 ∷ []
+abbrev pub required_of : Option OutputNo → List ℕ
+required_of None = []
+required_of (Some k) = k.0 ∷ []
 
-abbrev pub with_outputs : ℕ → ℕ → Assumed → Outputs → Reading
+abbrev pub with_outputs : ℕ → ℕ → Option OutputNo → Outputs → Reading
 with_outputs m n a (trees ts) = accepted (record { inputs = m; expressions = ts; required = required_of a })
 with_outputs m n a (breaks r) = refused r
 
-abbrev pub with_header : List ℕ → Header → Reading
-with_header bs (Fields m n a) = with_outputs m n a (read_outputs (record { version = version_of bs; streams = m + n }) n (drop 8 bs))
-with_header bs (Refused r) = refused r
+abbrev pub with_header : List ℕ → Result Header Refusal → Reading
+with_header bs (Ok h) = with_outputs h.inputs h.outputs h.assumed (read_outputs (record { version = version_of bs; streams = h.inputs + h.outputs }) h.outputs (drop 8 bs))
+with_header bs (Err r) = refused r
 
 unfoldable pub read_sheet : List ℕ → Reading
 read_sheet bs = with_header bs (header_of bs)

@@ -1,13 +1,15 @@
 // The language of a rule sheet: its versions, its bytes, its expressions, its counts, and the types of what is read. Rules 3, 4, 7 and 8.
 #![tactic(auto)]
 
-ghost use Rattle.std.specs.Prelude.{◌≡◌, ◌+◌, ◌%◌, ◌^◌, ◌<◌, []};
+ghost use Rattle.std.specs.Prelude.{◌≡◌, true, ℕ, ◌+◌, ◌-◌, ◌<◌, ◌≤◌, ◌^◌, [], cond, ltb, length, get_or};
+ghost use Rattle.outcomes.specs.declared.Refusal.TheVariants.{Values};
 ghost use Rattle.sheet.specs.Bytes.{op_of};
 ghost use Rattle.sheet.specs.Expression.{parse, outcome_of};
 ghost use Rattle.sheet.specs.Depth.{depth_after};
 ghost use Rattle.sheet.specs.Header.{version_ok, counts_ok};
+ghost use Rattle.sheet.specs.Parts.{Ranges, Below, code_at, parses};
 
-use outcomes::{Outcome, Refusal};
+use outcomes::Refusal;
 
 // A stream's number counts the inputs first; an output's number counts outputs alone.
 #[derive(Clone, Copy)]
@@ -32,8 +34,7 @@ pub enum Offset {
     Later,
 }
 
-// What an expression byte means: an operation, or the rule that it breaks. A read has its stream, its round, and its value where
-// there is no such round.
+// What an expression byte does. A read has its stream, its round, and its value where there is no such round.
 #[derive(Clone, Copy)]
 pub enum Op {
     Const(bool),
@@ -42,46 +43,41 @@ pub enum Op {
     Or,
     Equal,
     Read(StreamNo, Offset, bool),
-    Rejected(Refusal),
 }
 
-// The read of the stream that the last three bits of a byte number.
-fn read(byte: u8, offset: Offset, none: bool) -> Op
-    ensures { result ≡ Op.Read (record { 0 = byte % 8 }) offset none }
-{
-    Op::Read(StreamNo(byte % 8), offset, none)
-}
+impl TryFrom<u8> for Op {
+    type Error = Refusal;
 
-// The meaning of an expression byte.
-pub fn operation(byte: u8) -> Op
-    ensures { result ≡ op_of byte }
-{
-    match byte {
-        0x00 => Op::Const(false),
-        0x01 => Op::Const(true),
-        0x02 => Op::Not,
-        0x03 => Op::And,
-        0x04 => Op::Or,
-        0x05 => Op::Equal,
-        0x40..=0x47 => read(byte, Offset::Now, false),
-        0x50..=0x57 => read(byte, Offset::Earlier, false),
-        0x58..=0x5F => read(byte, Offset::Earlier, true),
-        0x60..=0x67 => read(byte, Offset::Later, false),
-        0x68..=0x6F => read(byte, Offset::Later, true),
-        _ => Op::Rejected(Refusal::Byte),
+    ghost try_from_gives = { λ byte r. r ≡ op_of byte };
+
+    // The last three bits of a read's byte number its stream.
+    fn try_from(byte: u8) -> Result<Op, Refusal> {
+        let stream = StreamNo(byte % 8);
+        match byte {
+            0x00 => Ok(Op::Const(false)),
+            0x01 => Ok(Op::Const(true)),
+            0x02 => Ok(Op::Not),
+            0x03 => Ok(Op::And),
+            0x04 => Ok(Op::Or),
+            0x05 => Ok(Op::Equal),
+            0x40..=0x47 => Ok(Op::Read(stream, Offset::Now, false)),
+            0x50..=0x57 => Ok(Op::Read(stream, Offset::Earlier, false)),
+            0x58..=0x5F => Ok(Op::Read(stream, Offset::Earlier, true)),
+            0x60..=0x67 => Ok(Op::Read(stream, Offset::Later, false)),
+            0x68..=0x6F => Ok(Op::Read(stream, Offset::Later, true)),
+            _ => Err(Refusal::Byte),
+        }
     }
 }
 
 // The newest version of a sheet. It adds the byte 05 to version 1.
 const NEWEST: u64 = 2;
 
+#[tactic(auto, unfolding(crate::specs::Header::version_ok))]
 pub fn version_fits(v: u64) -> bool
     ensures { result ≡ version_ok v }
 {
-    if v == 1 {
-        return true;
-    }
-    v == NEWEST
+    v == 1 || v == NEWEST
 }
 
 // What a sheet says of the bytes that may stand in its expressions: its version, and how many streams there are.
@@ -91,125 +87,75 @@ pub struct Grammar {
     pub streams: u8,
 }
 
-// The number of values on the stack after a byte, or the rule that the byte breaks.
-#[derive(Clone, Copy)]
-enum Depth {
-    Is(usize),
-    Refused(Refusal),
+// The number of values after an operator of so many values, of which it leaves one.
+fn after_operator(values: usize, depth: usize) -> Result<usize, Refusal>
+    requires { depth + 1 < 2 ^ 64 }
+    ensures { result ≡ cond (ltb depth values) (Err Values) (Ok (depth + 1 - values)) }
+{
+    if depth < values {
+        return Err(Refusal::Values);
+    }
+    Ok(depth + 1 - values)
 }
 
-fn after_byte(byte: u8, grammar: Grammar, depth: usize) -> Depth
+// The number of values on the stack after a byte, or the rule that the byte breaks.
+#[tactic(auto, unfolding(crate::specs::Depth::depth_after))]
+fn after_byte(byte: u8, grammar: Grammar, depth: usize) -> Result<usize, Refusal>
     requires { depth + 1 < 2 ^ 64 }
     ensures { result ≡ depth_after grammar (op_of byte) depth }
 {
-    let op = operation(byte);
+    let op = Op::try_from(byte)?;
     match op {
-        Op::Const(_) => Depth::Is(depth + 1),
-        Op::Not => {
-            if depth < 1 {
-                return Depth::Refused(Refusal::Values);
-            }
-            Depth::Is(depth)
-        }
-        Op::And => {
-            if depth < 2 {
-                return Depth::Refused(Refusal::Values);
-            }
-            Depth::Is(depth - 1)
-        }
-        Op::Or => {
-            if depth < 2 {
-                return Depth::Refused(Refusal::Values);
-            }
-            Depth::Is(depth - 1)
-        }
+        Op::Const(_) => Ok(depth + 1),
+        Op::Not => after_operator(1, depth),
+        Op::And => after_operator(2, depth),
+        Op::Or => after_operator(2, depth),
         Op::Equal => {
             let first = NEWEST;
             if grammar.version < first {
-                return Depth::Refused(Refusal::Byte);
+                return Err(Refusal::Byte);
             }
-            if depth < 2 {
-                return Depth::Refused(Refusal::Values);
-            }
-            Depth::Is(depth - 1)
+            after_operator(2, depth)
         }
         Op::Read(stream, _, _) => {
             let q = stream.0;
             if q < grammar.streams {
-                return Depth::Is(depth + 1);
+                return Ok(depth + 1);
             }
-            Depth::Refused(Refusal::Byte)
+            Err(Refusal::Byte)
         }
-        Op::Rejected(r) => Depth::Refused(r),
     }
 }
 
 // Checks one output's expression, a stretch of the sheet.
-pub fn read_expression(e: &[u8], grammar: Grammar) -> Outcome
+pub fn read_expression(e: &[u8], grammar: Grammar) -> Result<(), Refusal>
     ensures { result ≡ outcome_of (parse grammar [] e.now) }
 {
-    let mut depth: usize = 0;
-    let mut i: usize = 0;
-    while i < e.len() {
-        let d = after_byte(e[i], grammar, depth);
-        match d {
-            Depth::Is(k) => {
-                depth = k;
-            }
-            Depth::Refused(r) => {
-                return Outcome::Refused(r);
-            }
-        }
-        i += 1;
+    let mut depth = 0;
+    for byte in e {
+        depth = after_byte(*byte, grammar, depth)?;
     }
     let left = depth;
     if left == 1 {
-        Outcome::Accepted
+        Ok(())
     } else {
-        Outcome::Refused(Refusal::Values)
+        Err(Refusal::Values)
     }
 }
 
-// The assumption: the output that must be true in every round, where there is one.
+// What the first 8 bytes say: the numbers of inputs and outputs, and the assumption, the output that must be true in every round.
 #[derive(Clone, Copy)]
-pub enum Assumed {
-    Nothing,
-    Output(OutputNo),
+pub struct Header {
+    pub inputs: u8,
+    pub outputs: u8,
+    pub assumed: Option<OutputNo>,
 }
 
-// The assumption that byte 7 names, or the rule that it breaks.
-#[derive(Clone, Copy)]
-pub enum AssumedRead {
-    Is(Assumed),
-    Refused(Refusal),
-}
-
-// What the first 8 bytes say: the numbers of inputs and outputs, and the assumption.
-#[derive(Clone, Copy)]
-pub enum Header {
-    Fields(u8, u8, Assumed),
-    Refused(Refusal),
-}
-
+#[tactic(auto, unfolding(crate::specs::Header::counts_ok))]
 pub fn counts_fit(m: u8, n: u8) -> bool
     ensures { result ≡ counts_ok m n }
 {
-    if m < 1 {
-        return false;
-    }
-    if 6 < m {
-        return false;
-    }
-    if n < 1 {
-        return false;
-    }
-    if 7 < n {
-        return false;
-    }
-    if 8 < m + n {
-        return false;
-    }
-    true
+    1 <= m && m <= 6 && 1 <= n && n <= 7 && m + n <= 8
 }
 
 // A sheet that was read: the numbers of inputs and outputs, the assumption, and the expressions: output k's are the first len[k]
@@ -218,14 +164,13 @@ pub fn counts_fit(m: u8, n: u8) -> bool
 pub struct Sheet {
     pub inputs: u8,
     pub outputs: u8,
-    pub assumed: Assumed,
+    pub assumed: Option<OutputNo>,
     pub len: [usize; 7],
     pub code: [u8; 448],
-}
-
-// The answer of the reader. Where it is refused, the sheet is blank.
-#[derive(Clone, Copy)]
-pub struct SheetRead {
-    pub outcome: Outcome,
-    pub sheet: Sheet,
+    pub ghost ranges: { Ranges inputs outputs },
+    pub ghost code_size: { length code ≡ 448 },
+    pub ghost sizes: { length len ≡ 7 },
+    pub ghost below: { Below assumed outputs },
+    pub ghost small: { (k : ℕ) → k < outputs → get_or len k 0 ≤ 64 },
+    pub ghost parts: { (k : ℕ) → k < outputs → parses (inputs + outputs) (code_at code len k) ≡ true },
 }

@@ -1,4 +1,5 @@
 -- Numbers put into a slice, a record taken out of one, and the sizes of a call's slices.
+use Rattle.outcomes.specs.declared.Verdict.{Verdict}
 use mathlib.Core.Path.{◌≡◌, refl, sym, ap, ◌∙◌}
 use mathlib.Core.Bool.{Bool, true, false, not}
 use mathlib.Core.List.{List, [], ◌∷◌, append-nil}
@@ -11,7 +12,6 @@ use lib.Seq.{get_or-take, paste, paste-zero, paste-suc, get_or-drop, ext_get_or,
 use borrow.Author.Tests.{not-false, eqb-true, leb-true, leb-false, eq-eqb, le-leb, lt-ltb, le-ltb}
 use Rattle.outcomes.specs.Numbers.{untold, told_at, verdict_no, verdict_list}
 use Rattle.outcomes.specs.declared.Verdict.TheVariants.{False}
-use Rattle.outcomes.specs.declared.Told.{Told}
 use Rattle.outcomes.proofs.NumberLaws.{told-size}
 use Rattle.words.proofs.Bools.{and_split}
 use Rattle.words.proofs.ListLaws.{set_more}
@@ -35,13 +35,13 @@ put-more k at xs old new v h l e p = record {
 }
 
 -- the numbers of verdicts, one after the other
-pub numbers-size : (vs : List Told) (n : ℕ) → n ≤ length vs → length (verdict_numbers vs n) ≡ n
+pub numbers-size : (vs : List Verdict) (n : ℕ) → n ≤ length vs → length (verdict_numbers vs n) ≡ n
 numbers-size vs n h = length-map (verdict_list vs n) verdict_no ∙ told-size vs n h
 
-pub numbers-at : (vs : List Told) (n k : ℕ) → k < n → get_or (verdict_numbers vs n) k 0 ≡ verdict_no (told_at vs k)
+pub numbers-at : (vs : List Verdict) (n k : ℕ) → k < n → get_or (verdict_numbers vs n) k 0 ≡ verdict_no (told_at vs k)
 numbers-at vs n k h =
     get_or-map verdict_no (verdict_list vs n) k False
-    ∙ ap verdict_no (get_or-map (λ t. t.verdict) (take n vs) k untold ∙ ap (λ (t : Told). t.verdict) (get_or-take n vs k untold h))
+    ∙ ap verdict_no (get_or-take n vs k untold h)
 
 -- the first k counts are those of the slice
 pub record TakenTo (k : ℕ) (ns counts : List ℕ) : Type 0 where

@@ -1,8 +1,8 @@
 -- The journal record and the answers as the exported functions take them: slices of 32-bit numbers (docs/LAYOUT.md).
 -- Manual: "Calling it".
+use Rattle.outcomes.specs.declared.Verdict.{Verdict}
 use Rattle.std.specs.Prelude.{Bool, ◌&&◌, List, ◌∷◌, map, ℕ, eqb, leb, length, get_or, drop}
 use Rattle.outcomes.specs.Numbers.{verdict_no, verdict_list}
-use Rattle.outcomes.specs.declared.Told.{Told}
 use Rattle.words.specs.Below.{one}
 use Rattle.record.specs.declared.JournalRecord.{JournalRecord}
 
@@ -18,7 +18,7 @@ abbrev pub numbers_of : JournalRecord → List ℕ
 numbers_of r = r.rounds ∷ (one r.closed ∷ r.counts)
 
 -- an answer begins with the numbers of the verdicts on the sheet's n outputs
-abbrev pub verdict_numbers : List Told → ℕ → List ℕ
+abbrev pub verdict_numbers : List Verdict → ℕ → List ℕ
 verdict_numbers vs n = map verdict_no (verdict_list vs n)
 
 -- the record has 30 numbers, and the answer room for 16

@@ -1,17 +1,18 @@
-// What the program prints, put into a buffer. Each function answers the place after it.
+// What the program prints, put into a buffer. Each function answers the place after it. Buffer and place stay two parameters, as in `buffer`.
 #![tactic(auto)]
 
 ghost use Rattle.std.specs.Prelude.{◌≡◌, ◌∷◌, ◌++◌, ◌+◌, ◌*◌, ◌<◌, ◌≤◌, length};
-ghost use Rattle.outcomes.specs.Numbers.{verdict_list, refusal_no};
+ghost use Rattle.outcomes.specs.Numbers.{refusal_no};
 ghost use Rattle.buffer.specs.Decimal.{decimal};
 ghost use Rattle.buffer.specs.Wrote.{Placed};
 ghost use Rattle.record.specs.Record.{count_at};
 ghost use Rattle.text.specs.Text.{verdict_char, verdict_line, spaced, tally_line, tally_lines, closing_text, refused_word, line_refusal, sheet_refusal};
 
 use buffer::{byte, bytes, decimal};
-use outcomes::{Refusal, Told, Verdict, refusal_number};
+use outcomes::{Refusal, Verdict};
 use sheet::OutputNo;
 
+// A verdict's character. No From: neither type is of this crate.
 fn verdict_char(v: Verdict) -> u8
     ensures { result ≡ verdict_char v }
 {
@@ -23,31 +24,28 @@ fn verdict_char(v: Verdict) -> u8
     }
 }
 
-// The first n verdicts, and a line feed.
-pub fn verdict_line(out: &mut [u8], at: usize, verdicts: [Told; 7], n: usize) -> usize
-    requires { (n ≤ 7) × (at + n + 1 ≤ length out.old) }
-    ensures placed { Placed out.old at (verdict_line (verdict_list verdicts n)) out.new result }
-    ensures value { result ≡ at + n + 1 }
+// Verdicts, and a line feed.
+pub fn verdict_line(out: &mut [u8], at: usize, verdicts: &[Verdict]) -> usize
+    requires { at + length verdicts.now + 1 ≤ length out.old }
+    ensures placed { Placed out.old at (verdict_line verdicts.now) out.new result }
+    ensures value { result ≡ at + length verdicts.now + 1 }
 {
     let mut to = at;
-    let mut i = 0;
-    while i < n {
-        let told = verdicts[i];
-        let verdict = told.verdict;
-        to = byte(out, to, verdict_char(verdict));
-        i += 1;
+    for verdict in verdicts {
+        to = byte(out, to, verdict_char(*verdict));
     }
     byte(out, to, b'\n')
 }
 
 // A space, and a number of at most 10 digits.
+#[tactic(auto, using(buffer::proofs::DecimalLaws::half_word_digits))]
 fn spaced(out: &mut [u8], at: usize, n: u32) -> usize
     requires { at + 11 ≤ length out.old }
     ensures placed { Placed out.old at (spaced n) out.new result }
     ensures upper_bound { result ≤ at + 11 }
 {
-    let to = byte(out, at, 32);
-    decimal(out, to, n as u64)
+    let to = byte(out, at, b' ');
+    decimal(out, to, u64::from(n))
 }
 
 // `#`, a space and the number of output k, a digit.
@@ -57,12 +55,18 @@ fn output_number(out: &mut [u8], at: usize, k: OutputNo) -> usize
     ensures value { result ≡ at + 3 }
 {
     let to = byte(out, at, b'#');
-    spaced(out, to, k.0 as u32)
+    spaced(out, to, u32::from(k.0))
 }
 
 // The tally line of output k: at most 3 + 5 * 11 + 1 bytes.
-fn tally_line(out: &mut [u8], at: usize, counts: &[u32], shares: &[u32], k: OutputNo) -> usize
-    requires { (k.0 < 7) × (length counts.now ≡ 28) × (length shares.now ≡ 7) × (at + 59 ≤ length out.old) }
+fn tally_line(
+    out: &mut [u8],
+    at: usize,
+    counts: &[u32; 28],
+    shares: &[u32; 7],
+    k: OutputNo,
+) -> usize
+    requires { (k.0 < 7) × (at + 59 ≤ length out.old) }
     ensures placed { Placed out.old at (tally_line (count_at counts.now) shares.now k.0) out.new result }
     ensures upper_bound { result ≤ at + 59 }
 {
@@ -78,36 +82,33 @@ fn tally_line(out: &mut [u8], at: usize, counts: &[u32], shares: &[u32], k: Outp
 }
 
 // The tally lines of the first n outputs.
-fn tally_lines(out: &mut [u8], at: usize, counts: &[u32], shares: &[u32], n: usize) -> usize
-    requires { (n ≤ 7) × (length counts.now ≡ 28) × (length shares.now ≡ 7) × (at + 59 * n ≤ length out.old) }
+fn tally_lines(out: &mut [u8], at: usize, counts: &[u32; 28], shares: &[u32; 7], n: usize) -> usize
+    requires { (n ≤ 7) × (at + 59 * n ≤ length out.old) }
     ensures placed { Placed out.old at (tally_lines (count_at counts.now) shares.now 0 n) out.new result }
     ensures upper_bound { result ≤ at + 59 * n }
 {
     let mut to = at;
-    let mut k: usize = 0;
-    while k < n {
+    for k in 0..n {
         to = tally_line(out, to, counts, shares, OutputNo(k as u8));
-        k += 1;
     }
     to
 }
 
-// A closing: at most 1 + 8 + 7 * 59 bytes.
+// A closing, with a verdict for each output: at most 1 + 8 + 7 * 59 bytes.
 pub fn closing(
     out: &mut [u8],
     at: usize,
-    verdicts: [Told; 7],
-    counts: &[u32],
-    shares: &[u32],
-    n: usize,
+    verdicts: &[Verdict],
+    counts: &[u32; 28],
+    shares: &[u32; 7],
 ) -> usize
-    requires { (n ≤ 7) × (length counts.now ≡ 28) × (length shares.now ≡ 7) × (at + 422 ≤ length out.old) }
-    ensures placed { Placed out.old at (closing_text n (verdict_list verdicts n) (count_at counts.now) shares.now) out.new result }
+    requires { (length verdicts.now ≤ 7) × (at + 422 ≤ length out.old) }
+    ensures placed { Placed out.old at (closing_text (length verdicts.now) verdicts.now (count_at counts.now) shares.now) out.new result }
     ensures upper_bound { result ≤ at + 422 }
 {
     let start = byte(out, at, b'=');
-    let line = verdict_line(out, start, verdicts, n);
-    tally_lines(out, line, counts, shares, n)
+    let line = verdict_line(out, start, verdicts);
+    tally_lines(out, line, counts, shares, verdicts.len())
 }
 
 // `refused R`: at most 8 + 2 bytes.
@@ -117,10 +118,11 @@ fn refused(out: &mut [u8], at: usize, r: Refusal) -> usize
     ensures upper_bound { result ≤ at + 10 }
 {
     let to = bytes(out, at, b"refused ");
-    decimal(out, to, refusal_number(r) as u64)
+    decimal(out, to, u64::from(u32::from(r)))
 }
 
 // `refused R line L`: at most 10 + 6 + 20 + 1 bytes.
+#[tactic(auto, using(buffer::proofs::DecimalLaws::word_digits))]
 pub fn line_refusal(out: &mut [u8], at: usize, r: Refusal, line: u64) -> usize
     requires { at + 40 ≤ length out.old }
     ensures placed { Placed out.old at (line_refusal r line) out.new result }

@@ -1,6 +1,6 @@
 -- One bit of a byte turned over.
+use mir.Val.{bool_byte}
 use mathlib.Core.Path.{◌≡◌, refl, sym, ap, ap₂, ◌∙◌}
-use mathlib.Core.Logic.{◌⊎◌, inl, inr}
 use mathlib.Core.Bool.{Bool, true, false, not, beq, true≢false}
 use mathlib.Core.List.{List}
 use Prim.Native.Nat.{ℕ, zero, suc, ◌+◌, ◌*◌, ◌/◌, ◌%◌, ◌^◌, ◌<◌}
@@ -82,21 +82,18 @@ module _ (i s : ℕ) (v : Bool) (old : List ℕ) where
       here = get_or-set_same old i _ 0 l
 
   -- the bit is turned over where it differs
-  pub put_byte : (flip : ℕ) → i < length old → s < 8 → ((flip ≡ 0) × (bit s (get_or old i 0) ≡ v)) ⊎ ((flip ≡ 1) × (not (bit s (get_or old i 0)) ≡ v))
-      → BitPut i s v old (set old i (bit_xor (get_or old i 0) (flip * 2 ^ s % 2 ^ 8))) (eqb flip 1)
-  put_byte flip l h (inl x) =
-      rw x.0 (rw same (put-nothing x.1))
+  pub put_byte : i < length old → s < 8 → (was : Bool) → was ≡ bit s (get_or old i 0)
+      → BitPut i s v old (set old i (bit_xor (get_or old i 0) (bool_byte (not (beq was v)) * 2 ^ s % 2 ^ 8))) (not (beq was v))
+  put_byte l h was e = go was v e refl
     where
-      none : 0 * 2 ^ s % 2 ^ 8 ≡ 0
-      none = omega arith
-
       same : set old i (bit_xor (get_or old i 0) (0 * 2 ^ s % 2 ^ 8)) ≡ old
-      same = ap (λ (z : ℕ). set old i (bit_xor (get_or old i 0) z)) none ∙ ap (set old i) (xor_zero_r (get_or old i 0)) ∙ set-get_or old i 0
-  put_byte flip l h (inr x) = rw x.0 (put-flip l h x.1)
+      same =
+          let none : 0 * 2 ^ s % 2 ^ 8 ≡ 0 = omega arith in
+          ap (λ (z : ℕ). set old i (bit_xor (get_or old i 0) z)) none ∙ ap (set old i) (xor_zero_r (get_or old i 0)) ∙ set-get_or old i 0
 
--- a test whether two values are the same, that failed
-pub other_values : (a b : Bool) → beq a b ≡ false → not a ≡ b
-other_values true true e = absurd (true≢false cc)
-other_values true false e = refl
-other_values false true e = refl
-other_values false false e = absurd (true≢false cc)
+      go : (was w : Bool) → was ≡ bit s (get_or old i 0) → w ≡ v
+          → BitPut i s v old (set old i (bit_xor (get_or old i 0) (bool_byte (not (beq was w)) * 2 ^ s % 2 ^ 8))) (not (beq was w))
+      go true true e g = rw same (put-nothing (sym e ∙ g))
+      go false false e g = rw same (put-nothing (sym e ∙ g))
+      go true false e g = put-flip l h (ap not (sym e) ∙ g)
+      go false true e g = put-flip l h (ap not (sym e) ∙ g)

@@ -10,20 +10,9 @@ use lib.ListN.{length, get_or}
 use Rattle.words.specs.Bits.{bit}
 use Rattle.circular.specs.Places.{Assignment, Place, Reads, Solves, RightAt, Right}
 use Rattle.circular.proofs.Sweep.{fresh-right}
-use Rattle.trace.specs.Passes.{values_of, RoundBytes, BitPut, SameShape, Renewed, Passed}
-use Rattle.trace.specs.declared.place.Counts.{Counts}
+use Rattle.trace.specs.Passes.{values_of, BitPut, SameShape, Renewed, Passed}
 
 -- ---- buffers that are kept
-
-pub bytes-kept : {counts : Counts} {letters old new : List ℕ} → SameShape counts.outputs old new → RoundBytes counts letters old → RoundBytes counts letters new
-bytes-kept p x =
-    record {
-      streams = x.streams;
-      rounds = x.rounds;
-      same = p.same_length ∙ x.same;
-      letters_below = x.letters_below;
-      bytes_below = p.below x.bytes_below;
-    }
 
 pub kept-none : (n : ℕ) (l : List ℕ) → SameShape n l l
 kept-none n l = record { same_length = refl; below = λ b. b }
@@ -63,31 +52,6 @@ renewed_or_kept {s = s} {t = t} {old = old} {new = new} one q u l = go (ℕ_disc
 -- ---- passes
 
 module _ (n N : ℕ) (f : Assignment → Assignment) where
-  -- nothing was refreshed
-  pub passed_none : (P : ℕ → ℕ → Type 0) (l : List ℕ) (changed : Bool) → ((s t : ℕ) → Place n N s t → P s t → ⊥) → Passed n N f P l l changed
-  passed_none P l changed h =
-      record {
-        kept = kept-none n l;
-        hold = λ E local sol good k r. r;
-        keep = λ E local sol good k r s t pl x. x;
-        further = λ E local sol good k r s t pl x. absurd (h s t pl x);
-        same = λ e. refl;
-        quiet = λ e s t pl x. absurd (h s t pl x);
-      }
-
-  -- less is claimed
-  pub passed-as : (P R : ℕ → ℕ → Type 0) (old new : List ℕ) (changed : Bool) → ((s t : ℕ) → Place n N s t → R s t → P s t)
-      → Passed n N f P old new changed → Passed n N f R old new changed
-  passed-as P R old new changed h p =
-      record {
-        kept = p.kept;
-        hold = p.hold;
-        keep = p.keep;
-        further = λ E local sol good k r s t pl x. p.further E local sol good k r s t pl (h s t pl x);
-        same = p.same;
-        quiet = λ e s t pl x. p.quiet e s t pl (h s t pl x);
-      }
-
   -- one after the other
   pub passed_then : (P Q R : ℕ → ℕ → Type 0) (old mid new : List ℕ) (a b c : Bool) → ((s t : ℕ) → Place n N s t → R s t → P s t ⊎ Q s t)
       → (c ≡ false → (a ≡ false) × (b ≡ false)) → Passed n N f P old mid a → Passed n N f Q mid new b → Passed n N f R old new c
@@ -142,10 +106,3 @@ next_place s t q u h = go (dec_lt q s)
     go : Dec (q < s) → ((q < s) × (u ≡ t)) ⊎ ((q ≡ s) × (u ≡ t))
     go (yes l) = inl (l, h.1)
     go (no l) = inr (omega (arith, h.0), h.1)
-
-pub next-round : (t u : ℕ) → u < t + 1 → (u < t) ⊎ (u ≡ t)
-next-round t u h = go (dec_lt u t)
-  where
-    go : Dec (u < t) → (u < t) ⊎ (u ≡ t)
-    go (yes l) = inl l
-    go (no l) = inr (omega arith)

@@ -2,19 +2,19 @@
 use mathlib.Core.Path.{◌≡◌, refl, ap, ◌∙◌}
 use mathlib.Core.Bool.{Bool, true, false, cond, ◌&&◌, and-false}
 use mathlib.Core.List.{List, []}
-use Prim.Native.Nat.{ℕ, suc, ◌+◌, ◌-◌, ◌*◌, ◌/◌, ◌%◌, ◌^◌, ◌≤◌, ◌<◌}
+use Prim.Native.Nat.{ℕ, suc, ◌+◌, ◌-◌, ◌*◌, ◌%◌, ◌^◌, ◌≤◌, ◌<◌}
 use native.Mathlib.Omega.{arith}
-use native.Mathlib.Nat.{mul-le-mul, add-sub_cancel_left, div-add-mod, div-eq_of_lt, mod-lt}
+use native.Mathlib.Nat.{mul-le-mul, mul_comm, mod-eq_of_lt}
 use native.Mathlib.Decide.{dec_lt}
 use lib.Dec.{leb, ltb}
-use lib.ListN.{length, get_or, take, drop, length-take}
-use lib.Pow.{pow_mono, pow_pos}
+use lib.ListN.{length, get_or}
+use lib.Pow.{pow_mono}
 use borrow.Author.Tests.{lt-ltb, le-ltb, le-leb, lt-leb}
 use Rattle.words.specs.Bits.{bit}
-use Rattle.words.proofs.BitLaws.{bit-none, bit-all, one_shl}
+use Rattle.words.proofs.BitLaws.{bit-none, bit-all}
 use Rattle.words.proofs.JoinLaws.{bit-low, bit-above, bit-high-part, join_lt}
 use Rattle.sheet.specs.Expression.{Expr, newest, tree, parse}
-use Rattle.sheet.specs.Reading.{code_at}
+use Rattle.sheet.specs.Parts.{code_at}
 use Rattle.sheet.specs.declared.Grammar.{Grammar}
 use Rattle.sheet.specs.declared.Offset.{Offset}
 use Rattle.sheet.specs.declared.Offset.TheVariants.{Earlier, Now, Later}
@@ -22,8 +22,9 @@ use Rattle.lola.specs.Value.{value}
 use Rattle.lola.specs.Slots.{read_no, slots}
 use Rattle.lola.proofs.ValueLaws.{value-of-bytes}
 use Rattle.circular.specs.Places.{joint, look_at, right}
-use Rattle.trace.specs.Passes.{values_of, seen, streams_of, tree_in, sides, Setting, RoundBytes, SeenRound, Environment}
-use Rattle.trace.specs.declared.place.Counts.{Counts}
+use Rattle.trace.specs.Passes.{values_of, seen, tree_in, sides, RoundBytes, SeenRound, Environment}
+use Rattle.sheet.specs.declared.Sheet.{Sheet}
+use Rattle.sheet.proofs.Sheets.{usable}
 
 -- the bits of a round's valuation
 stream_of_round : (m : ℕ) (letters buf : List ℕ) (at q : ℕ) → 2 ≤ at → get_or letters (at - 2) 0 < 2 ^ m
@@ -58,23 +59,23 @@ round-twice-none m letters buf at e =
     }
 
 -- the round's valuation
-module _ (counts : Counts) (letters buf : List ℕ) (at : ℕ) (filled : RoundBytes counts letters buf) (lo : 2 ≤ at) (hi : at ≤ length letters + 1) (v : ℕ)
-    (e : v ≡ get_or letters (at - 2) 0 + 2 ^ counts.inputs * get_or buf (at - 2) 0) where
-  below : get_or letters (at - 2) 0 < 2 ^ counts.inputs
+module _ (x : Sheet) (letters buf : List ℕ) (at : ℕ) (filled : RoundBytes x letters buf) (lo : 2 ≤ at) (hi : at ≤ length letters + 1) (v : ℕ)
+    (e : v ≡ get_or letters (at - 2) 0 + 2 ^ x.inputs * get_or buf (at - 2) 0) where
+  below : get_or letters (at - 2) 0 < 2 ^ x.inputs
   below = filled.letters_below (at - 2) (omega arith)
 
   pub valuation-small : v < 256
   valuation-small =
-      let g : 2 ^ streams_of counts ≤ 2 ^ 8 = pow_mono {i = streams_of counts} {j = 8} filled.streams in
-      omega (arith, join_lt counts.inputs counts.outputs (get_or letters (at - 2) 0) (get_or buf (at - 2) 0) below (filled.bytes_below (at - 2) (omega (arith, filled.same))))
+      let g : 2 ^ (x.inputs + x.outputs) ≤ 2 ^ 8 = pow_mono {i = x.inputs + x.outputs} {j = 8} x.ranges.streams in
+      omega (arith, join_lt x.inputs x.outputs (get_or letters (at - 2) 0) (get_or buf (at - 2) 0) below (filled.bytes_below (at - 2) (omega (arith, filled.same))))
 
-  pub round-twice-some : SeenRound counts.inputs letters buf at (v + 256 * v)
+  pub round-twice-some : SeenRound x.inputs letters buf at (v + 256 * v)
   unfolding seen
   round-twice-some =
       record {
         small = omega (arith, valuation-small);
-        low = λ q k. rw (inside letters at lo hi) (bit-low 8 q v v k valuation-small ∙ ap (bit q) e ∙ stream_of_round counts.inputs letters buf at q lo below);
-        high = λ q k. rw (inside letters at lo hi) (bit-above 8 q v v valuation-small ∙ ap (bit q) e ∙ stream_of_round counts.inputs letters buf at q lo below);
+        low = λ q k. rw (inside letters at lo hi) (bit-low 8 q v v k valuation-small ∙ ap (bit q) e ∙ stream_of_round x.inputs letters buf at q lo below);
+        high = λ q k. rw (inside letters at lo hi) (bit-above 8 q v v valuation-small ∙ ap (bit q) e ∙ stream_of_round x.inputs letters buf at q lo below);
       }
 
 -- the three rounds in their order
@@ -114,41 +115,21 @@ environment_of m letters buf t c e l h g bc be bl =
     at q Later false k = third c e l bc.small be.small (32 + q) q (omega arith) ∙ bl.low q k
     at q Later true k = third c e l bc.small be.small (40 + q) (8 + q) (omega arith) ∙ bl.high q k
 
--- `1 << m`
-shifted_one : (m : ℕ) → m ≤ 8 → (1 * 2 ^ m % 2 ^ 64 ≡ 2 ^ m) × (2 ^ m ≤ 256)
-shifted_one m h = let g : 2 ^ m ≤ 2 ^ 8 = pow_mono {i = m} {j = 8} h in (one_shl m (omega arith), omega arith)
-
-module _ (m : ℕ) (h : m ≤ 8) (l o x y : ℕ) (el : x ≡ l) (eo : y ≡ o) (bl : l < 256) (bo : o < 256) where
-  pub product_small : (1 * 2 ^ m % 2 ^ 64) * y ≤ 65280
-  product_small =
-      rw ((shifted_one m h).0, eo) (omega (arith, mul-le-mul {n₁ = 2 ^ m} {m₁ = o} {n₂ = 256} {m₂ = 255} (shifted_one m h).1 (omega arith)))
-
-  pub product_is : x + (1 * 2 ^ m % 2 ^ 64) * y ≡ l + 2 ^ m * o
-  product_is = rw ((shifted_one m h).0, eo, el)
+-- a byte shifted above the letter
+pub shifted : (m : ℕ) → m ≤ 8 → (o : ℕ) → o < 256 → o * 2 ^ m % 2 ^ 64 ≡ 2 ^ m * o
+shifted m h o b =
+    let p : 2 ^ m ≤ 2 ^ 8 = pow_mono {i = m} {j = 8} h in
+    let small : 2 ^ m * o ≤ 65280 = mul-le-mul {n₁ = 2 ^ m} {m₁ = o} {n₂ = 256} {m₂ = 255} p (omega arith) in
+    ap (λ (z : ℕ). z % 2 ^ 64) (mul_comm o (2 ^ m)) ∙ mod-eq_of_lt (omega arith)
 
 -- ---- the right side of one place
 
--- the bytes of output s, as a part of the code
-part_code : (code len : List ℕ) (s : ℕ) → take (64 * s + get_or len s 0 - 64 * s) (drop (64 * s) code) ≡ code_at code len s
-part_code code len s = ap (λ (k : ℕ). take k (drop (64 * s) code)) (add-sub_cancel_left (64 * s) (get_or len s 0))
-
-pub part-short : (code len : List ℕ) (s : ℕ) → get_or len s 0 ≤ 64 → length (take (64 * s + get_or len s 0 - 64 * s) (drop (64 * s) code)) ≤ 64
-part-short code len s h = rw part_code (omega (arith, length-take (get_or len s 0) (drop (64 * s) code)))
-
-pub place-value : (counts : Counts) (code len letters buf : List ℕ) (s t env : ℕ) (v : Bool) → Setting counts code len → s < counts.outputs → Environment counts.inputs letters buf t env
-    → ((w : Grammar) (x : Expr) → parse w [] (take (64 * s + get_or len s 0 - 64 * s) (drop (64 * s) code)) ≡ tree x → v ≡ value (slots env) x)
-    → v ≡ sides counts code len letters (values_of buf) s t
+pub place-value : (x : Sheet) (letters buf : List ℕ) (s t env : ℕ) (v : Bool) → s < x.outputs → Environment x.inputs letters buf t env
+    → ((w : Grammar) (e : Expr) → parse w [] (code_at x.code x.len s) ≡ tree e → v ≡ value (slots env) e)
+    → v ≡ sides x letters (values_of buf) s t
 unfolding sides right
-place-value counts code len letters buf s t env v x h e f =
-    let p = x.parses s h in
-    f (newest (streams_of counts)) (tree_in (streams_of counts) code len s) (ap (parse (newest (streams_of counts)) []) (part_code code len s) ∙ p)
-    ∙ value-of-bytes (slots env) (look_at counts.inputs (length letters) (values_of letters) (values_of buf) t) e.reads (newest (streams_of counts)) (code_at code len s) (tree_in (streams_of counts) code len s) p
-
--- ---- letters
-
--- the test `x >> m != 0`
-pub letter-small : (x l m : ℕ) → x ≡ l → x / 2 ^ m ≡ 0 → l < 2 ^ m
-letter-small x l m e h = let p : 0 < 2 ^ m = pow_pos m in omega (arith, div-add-mod x (2 ^ m), mod-lt x p, ap (λ (z : ℕ). 2 ^ m * z) h)
-
-pub letter_large : (x l m : ℕ) → x ≡ l → (x / 2 ^ m ≡ 0 → ⊥) → l < 2 ^ m → ⊥
-letter_large x l m e h b = let c : x < 2 ^ m = omega arith in h (div-eq_of_lt c)
+place-value x letters buf s t env v h e f =
+    let streams = x.inputs + x.outputs in
+    let p = ((usable x).parts s h).parses in
+    f (newest streams) (tree_in streams x.code x.len s) p
+    ∙ value-of-bytes (slots env) (look_at x.inputs (length letters) (values_of letters) (values_of buf) t) e.reads (newest streams) (code_at x.code x.len s) (tree_in streams x.code x.len s) p

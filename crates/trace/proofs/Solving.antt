@@ -1,10 +1,9 @@
 -- Passes until nothing changes.
-use mathlib.Core.Path.{◌≡◌, sym, subst}
-use mathlib.Core.Bool.{Bool, true, false}
+use mathlib.Core.Path.{◌≡◌, subst}
+use mathlib.Core.Bool.{Bool, true}
 use mathlib.Core.List.{List}
-use Prim.Native.Nat.{ℕ, ◌+◌, ◌*◌, ◌≤◌}
+use Prim.Native.Nat.{ℕ, ◌+◌, ◌*◌}
 use native.Mathlib.Numerals.{add-one}
-use native.Mathlib.Nat.{mul-le-mul}
 use Rattle.circular.specs.Table.{reads_of}
 use Rattle.circular.specs.Places.{Assignment, Reads, Solves, Right}
 use Rattle.circular.proofs.Unique.{run, solution}
@@ -32,13 +31,6 @@ module _ (n N : ℕ) (f : Assignment → Assignment) (old : List ℕ) where
               (record { all = λ s t pl. p.further E local sol good k (g.right E local sol good) s t pl tt });
         }
 
-    pub going-quiet : changed ≡ false → Solved n N f old newer
-    going-quiet e =
-        record {
-          kept = kept_then g.kept p.kept;
-          holds = λ E local level. subst (λ (l : List ℕ). Solves n N f (values_of l)) (sym (p.same e)) (record { all = λ s t pl. p.quiet e s t pl tt });
-        }
-
   pub going_end : (new : List ℕ) (k : ℕ) → k ≡ n * N → Going n N f old new k → Solved n N f old new
   going_end new k e g =
       record {
@@ -50,16 +42,8 @@ module _ (n N : ℕ) (f : Assignment → Assignment) (old : List ℕ) where
             (right_end n E N sol level (values_of new) (subst (λ (j : ℕ). Right n E N sol j (values_of new)) e (g.right E local sol good)));
       }
 
--- the number of passes fits
-pub most-small : (n N : ℕ) → n ≤ 7 → N ≤ 4096 → n * N ≤ 28672
-most-small n N h k = mul-le-mul {n₁ = n} {m₁ = N} {n₂ = 7} {m₂ = 4096} h k
-
--- solved from a buffer that was kept
-pub solved_after : {n N : ℕ} {f : Assignment → Assignment} {old mid new : List ℕ} → SameShape n old mid → Solved n N f mid new → Solved n N f old new
-solved_after k x = record { kept = kept_then k x.kept; holds = x.holds }
-
 -- all places are right
-pub solved_all : {n N : ℕ} {f : Assignment → Assignment} {masks : List ℕ} {all : Bool} {old new : List ℕ} → Extends n N f masks (λ q u. ⊥) (λ q u. all ≡ true) old new
+pub solved_all : {n N : ℕ} {f : Assignment → Assignment} {masks : List (List ℕ)} {all : Bool} {old new : List ℕ} → Extends n N f masks (λ q u. ⊥) (λ q u. all ≡ true) old new
     → Reads n (reads_of masks) N f → all ≡ true → Solved n N f old new
 solved_all {n} {N} {f} {new = new} x reads e =
     record {

@@ -5,17 +5,18 @@ use mathlib.Core.List.{List, [], ◌∷◌, ◌++◌}
 use mathlib.Core.Option.{none}
 use Prim.Native.Nat.{ℕ, suc, ◌+◌, ◌-◌, ◌^◌, ◌≤◌, ◌<◌}
 use native.Mathlib.Omega.{arith}
-use lib.ListN.{length, get_or, take, drop, length-take, length-drop, length-append, get_or-append}
+use lib.ListN.{length, get_or, take, drop, replicate, length-replicate, length-take, length-drop, length-append, get_or-append}
+use Rattle.words.proofs.ListLaws.{zeros}
 use lib.Seq.{take_at, drop_at}
 use lib.Pow.{pow_pos}
-use Rattle.outcomes.specs.declared.Outcome.{Outcome}
-use Rattle.outcomes.specs.declared.Outcome.TheVariants.{Accepted, Refused}
+use Rattle.outcomes.specs.Outcome.{Outcome}
+use Rattle.std.specs.Prelude.{Ok, Err}
 use Rattle.words.specs.Bits.{bit}
 use Rattle.sheet.specs.Expression.{constant}
 use Rattle.sheet.specs.RuleSheet.{RuleSheet, outputs, accepted, read_sheet}
-use Rattle.sheet.specs.Reading.{rule_sheet, Usable}
+use Rattle.sheet.specs.Reading.{rule_sheet}
 use Rattle.sheet.specs.declared.Sheet.{Sheet}
-use Rattle.sheet.proofs.Sheets.{tree-at, sheet-outputs}
+use Rattle.sheet.proofs.Sheets.{usable, tree-at, sheet-outputs}
 use Rattle.sheet.proofs.Formed.{Formed, usable_formed}
 use Rattle.lola.specs.Value.{value}
 use Rattle.lola.specs.Equations.{Satisfies, Letters, joined}
@@ -26,32 +27,18 @@ use Rattle.circular.specs.Places.{Assignment, look_at, right, Reads, Solves}
 use Rattle.circular.proofs.Sides.{right_of, right-reads}
 use Rattle.circular.proofs.Lists.{inputs_by, outputs_by, joined-trace}
 use Rattle.trace.specs.Evaluated.{OutputsWritten, Evaluated}
-use Rattle.trace.specs.Passes.{values_of, sides, Setting, RoundBytes, Solved, Ready, Left}
-use Rattle.trace.specs.declared.place.Counts.{Counts}
-
-abbrev counts_of : Sheet → Counts
-counts_of x = record { inputs = x.inputs; outputs = x.outputs }
-
-pub setting_of : (x : Sheet) → Usable x → Setting (counts_of x) x.code x.len
-setting_of x u =
-    record {
-      outputs = u.ranges.outputs;
-      code_size = u.code_size;
-      sizes = u.sizes;
-      small = u.small;
-      parses = λ k h. (u.parts k h).parses;
-    }
+use Rattle.trace.specs.Passes.{values_of, sides, RoundBytes, Solved, Ready, Left}
 
 letters-of : (m : ℕ) (ls : List ℕ) → ((i : ℕ) → i < length ls → get_or ls i 0 < 2 ^ m) → Letters m ls
 letters-of m [] h = tt
 letters-of m (l ∷ ls) h = (h 0 (omega arith), letters-of m ls (λ i g. h (suc i) (omega arith)))
 
-module _ (x : Sheet) (u : Usable x) (letters : List ℕ) where
+module _ (x : Sheet) (letters : List ℕ) where
   abbrev n : ℕ
   n = x.outputs
 
   abbrev f : Assignment → Assignment
-  f = sides (counts_of x) x.code x.len letters
+  f = sides x letters
 
   abbrev g : Assignment → Assignment
   g = right_of (rule_sheet x) (length letters) (inputs_by letters)
@@ -63,7 +50,7 @@ module _ (x : Sheet) (u : Usable x) (letters : List ℕ) where
       (sym (tree-at (x.inputs + x.outputs) x.code x.len x.outputs s (constant false) h))
 
   formed : Formed (rule_sheet x)
-  formed = usable_formed x u
+  formed = usable_formed x (usable x)
 
   side-reads : Reads n (edges (rule_sheet x)) (length letters) f
   side-reads =
@@ -72,7 +59,7 @@ module _ (x : Sheet) (u : Usable x) (letters : List ℕ) where
       in
       record { only = λ v w s t pl a. side_same v s t pl.s_lt ∙ r.only v w s t pl a ∙ sym (side_same w s t pl.s_lt) }
 
-  told : {masks : List ℕ} {s t q v : ℕ} → Tells (rule_sheet x) masks → Read n (edges (rule_sheet x)) (length letters) s t q v → Read n (reads_of masks) (length letters) s t q v
+  told : {masks : List (List ℕ)} {s t q v : ℕ} → Tells (rule_sheet x) masks → Read n (edges (rule_sheet x)) (length letters) s t q v → Read n (reads_of masks) (length letters) s t q v
   told {s = s} {q = q} tells r =
       let a = r.edge in
       record {
@@ -82,7 +69,7 @@ module _ (x : Sheet) (u : Usable x) (letters : List ℕ) where
               from = a.from;
               to = a.to;
               off = a.off;
-              is = tells.reads s q r.o (omega (arith, a.from, u.ranges.outputs)) (omega (arith, a.to, u.ranges.outputs)) a.off ∙ a.is;
+              is = tells.reads s q r.o (omega (arith, a.from, x.ranges.outputs)) (omega (arith, a.to, x.ranges.outputs)) a.off ∙ a.is;
             };
         shift = r.shift;
         t_low = r.t_low;
@@ -91,7 +78,7 @@ module _ (x : Sheet) (u : Usable x) (letters : List ℕ) where
         u_high = r.u_high;
       }
 
-  pub told-reads : (masks : List ℕ) → Tells (rule_sheet x) masks → Reads n (reads_of masks) (length letters) f
+  pub told-reads : (masks : List (List ℕ)) → Tells (rule_sheet x) masks → Reads n (reads_of masks) (length letters) f
   told-reads masks tells = record { only = λ v w s t pl a. side-reads.only v w s t pl (λ q z r. a q z (told tells r)) }
 
   not_circular : (CircularSheet (rule_sheet x) → ⊥) → Circular n (edges (rule_sheet x)) → ⊥
@@ -138,20 +125,25 @@ module _ (N : ℕ) (out c : List ℕ) (h : N ≤ length out) (e : length c ≡ l
   pub cleared-room : N ≡ length (take N (c ++ drop N out))
   cleared-room = rw cleared-part (sym cleared-length)
 
-module _ (x : Sheet) (u : Usable x) (letters out c : List ℕ) (ready : Ready x.inputs letters (length out))
-    (e : length c ≡ length (take (length letters) out)) (zeros : (i : ℕ) → i < length c → get_or c i 0 ≡ 0) where
-  pub bytes-start : RoundBytes (counts_of x) letters (take (length letters) (c ++ drop (length letters) out))
+module _ (x : Sheet) (letters out c : List ℕ) (ready : Ready x.inputs letters (length out))
+    (cleared : c ≡ replicate (length (take (length letters) out)) 0) where
+  e : length c ≡ length (take (length letters) out)
+  e = ap length cleared ∙ length-replicate (length (take (length letters) out)) 0
+
+  zero : (i : ℕ) → get_or c i 0 ≡ 0
+  zero i = rw cleared (zeros (length (take (length letters) out)) i)
+
+  pub bytes-start : RoundBytes x letters (take (length letters) (c ++ drop (length letters) out))
   bytes-start =
       record {
-        streams = u.ranges.streams;
         rounds = ready.few;
         same = sym (cleared-room (length letters) out c ready.fits e);
         letters_below = ready.below;
-        bytes_below = rw (cleared-part (length letters) out c ready.fits e) (λ i l. rw (zeros i l) (pow_pos x.outputs));
+        bytes_below = rw (cleared-part (length letters) out c ready.fits e) (λ i l. rw (zero i) (pow_pos x.outputs));
       }
 
   module _ (level : CircularSheet (rule_sheet x) → ⊥) (a : List ℕ)
-      (solved : Solved x.outputs (length letters) (sides (counts_of x) x.code x.len letters) (take (length letters) (c ++ drop (length letters) out)) a) where
+      (solved : Solved x.outputs (length letters) (sides x letters) (take (length letters) (c ++ drop (length letters) out)) a) where
     whole : length a ≡ length letters
     whole = solved.kept.same_length ∙ bytes-start.same
 
@@ -167,17 +159,13 @@ module _ (x : Sheet) (u : Usable x) (letters out c : List ℕ) (ready : Ready x.
           rest = drop_at a (drop (length letters) (c ++ drop (length letters) out)) (length letters) whole ∙ cleared-rest (length letters) out c ready.fits e;
           bytes = λ i l.
               rw (get_or-append a (drop (length letters) (c ++ drop (length letters) out)) 0 i (omega (arith, whole)))
-              (bytes_lt x u letters (get_or a i 0) (below i (omega (arith, whole))));
+              (bytes_lt x letters (get_or a i 0) (below i (omega (arith, whole))));
           satisfies =
               rw (take_at a (drop (length letters) (c ++ drop (length letters) out)) (length letters) whole)
-              (trace-of x u letters a whole ready.below below (solved.holds (edges (rule_sheet x)) (side-reads x u letters) (not_circular x u letters level)));
+              (trace-of x letters a whole ready.below below (solved.holds (edges (rule_sheet x)) (side-reads x letters) (not_circular x letters level)));
         }
 
 -- the sheet is the one that was read
 pub evaluated_of : (bs letters old new : List ℕ) (x : RuleSheet) → read_sheet bs ≡ accepted x → (o : Outcome) → Left x letters old new o → Evaluated bs letters old new o
-evaluated_of bs letters old new x e Accepted h = (x, e, h)
-evaluated_of bs letters old new x e (Refused r) h = h
-
-pub left-length : (x : RuleSheet) (letters old new : List ℕ) (o : Outcome) → Left x letters old new o → length new ≡ length old
-left-length x letters old new Accepted h = h.same_length
-left-length x letters old new (Refused r) h = ap length h
+evaluated_of bs letters old new x e (Ok _) h = (x, e, h)
+evaluated_of bs letters old new x e (Err r) h = h

@@ -1,10 +1,9 @@
 -- What evaluation leaves in the buffer (01, "Whole traces").
 -- Manual: "The language".
-use Rattle.std.specs.Prelude.{◌≡◌, List, ℕ, ◌^◌, ◌<◌, length, get_or, take, drop}
+use Rattle.std.specs.Prelude.{◌≡◌, List, ℕ, ◌^◌, ◌<◌, length, get_or, take, drop, Ok, Err}
 use Rattle.std.proofs.Math.Option.{none}
 use Rattle.outcomes.specs.Decided.{Decided}
-use Rattle.outcomes.specs.declared.Outcome.{Outcome}
-use Rattle.outcomes.specs.declared.Outcome.TheVariants.{Accepted, Refused}
+use Rattle.outcomes.specs.Outcome.{Outcome}
 use Rattle.sheet.specs.RuleSheet.{RuleSheet, outputs}
 use Rattle.lola.specs.Equations.{Satisfies, joined}
 use Rattle.circular.specs.SheetChecks.{OfSheet}
@@ -20,8 +19,8 @@ pub record OutputsWritten (x : RuleSheet) (letters old new : List ℕ) : Type 0 
 
 -- accepted: the bytes by the sheet that was read; a refusal leaves the buffer that was handed in
 abbrev pub Evaluated : List ℕ → List ℕ → List ℕ → List ℕ → Outcome → Type 0
-Evaluated bs letters old new Accepted = OfSheet bs (λ x. OutputsWritten x letters old new)
-Evaluated bs letters old new (Refused r) = new ≡ old
+Evaluated bs letters old new (Ok _) = OfSheet bs (λ x. OutputsWritten x letters old new)
+Evaluated bs letters old new (Err r) = new ≡ old
 
 -- what a call of evaluation means: its outcome, and the buffer before and after it
 pub record EvaluateCall (bs letters old new : List ℕ) (o : Outcome) : Type 0 where

@@ -1,6 +1,6 @@
 -- For the contracts of inner functions: the order in which a sweep refreshes places. Output s in round t has the key 8 t + lead, with
 -- rounds counted in the sweep's direction.
-use Rattle.std.specs.Prelude.{◌≡◌, ◌⊎◌, Bool, true, false, List, ℕ, ◌+◌, ◌-◌, ◌*◌, ◌/◌, ◌%◌, ◌≤◌, ◌<◌, get_or}
+use Rattle.std.specs.Prelude.{◌≡◌, ◌⊎◌, Bool, true, false, Option, Some, None, List, ℕ, ◌+◌, ◌-◌, ◌*◌, ◌/◌, ◌%◌, ◌≤◌, ◌<◌, length, get_or}
 use Rattle.words.specs.Bits.{bit}
 use Rattle.circular.specs.Table.{reads_of}
 
@@ -33,42 +33,39 @@ pub record BehindAll (mask other : ℕ) (up : Bool) (r : ℕ) : Type 0 where
   pub reads : (o : ℕ) → o ≤ 2 → bit o mask ≡ true → Behind up o other r
 
 -- the same for all reads of output s, of n outputs that aren't settled
-pub record Raised (masks lead : List ℕ) (n : ℕ) (up : Bool) (settled s r : ℕ) : Type 0 where
+pub record Raised (masks : List (List ℕ)) (lead : List ℕ) (n : ℕ) (up : Bool) (settled s r : ℕ) : Type 0 where
   pub reads : (q o : ℕ) → q < n → o ≤ 2 → reads_of masks s q o ≡ true → bit q settled ≡ false → Behind up o (get_or lead q 0) r
 
 -- for all outputs: along reads of outputs that aren't settled keys fall
-pub record Steady (masks lead : List ℕ) (n : ℕ) (up : Bool) (settled : ℕ) : Type 0 where
+pub record Steady (masks : List (List ℕ)) (lead : List ℕ) (n : ℕ) (up : Bool) (settled : ℕ) : Type 0 where
   pub outputs : (s : ℕ) → s < n → Raised masks lead n up settled s (get_or lead s 0)
 
 -- every output of the new set is one of the old set or has a bounded lead
 pub record Settled (lead : List ℕ) (old new : ℕ) : Type 0 where
   pub all : (s : ℕ) → s < 7 → bit s new ≡ true → (bit s old ≡ true) ⊎ Bounded lead s
 
--- the round that an output has in a block, or 0 for none
-pub record RoundIn (block lead N : ℕ) (up : Bool) (t : ℕ) : Type 0 where
-  pub high : t ≤ N
-  pub none : t ≡ 0 → (u : ℕ) → 1 ≤ u → u ≤ N → in_sweep up N u + lead / 8 ≡ block → ⊥
-  pub some : 1 ≤ t → in_sweep up N t + lead / 8 ≡ block
+-- the round that an output has in a block
+abbrev pub RoundIn : ℕ → ℕ → ℕ → Bool → Option ℕ → Type 0
+RoundIn block lead N up None = (u : ℕ) → 1 ≤ u → u ≤ N → in_sweep up N u + lead / 8 ≡ block → ⊥
+RoundIn block lead N up (Some t) = (1 ≤ t) × (t ≤ N) × (in_sweep up N t + lead / 8 ≡ block)
 
--- output i % 7 is one of n, with a bounded lead, and its keys are at the place i / 7 of a block
-pub record Due (lead : List ℕ) (n i : ℕ) : Type 0 where
-  pub below : i % 7 < n
-  pub bounded : Bounded lead (i % 7)
-  pub at : get_or lead (i % 7) 0 % 8 ≡ i / 7
+-- a bounded lead, whose keys are at a place of a block
+pub record Due (lead place : ℕ) : Type 0 where
+  pub bounded : lead ≤ 54
+  pub at : lead % 8 ≡ place
 
--- an output is an entry below `count`
+-- an output is one of the first `count` entries
 pub record Listed (outputs : List ℕ) (count s : ℕ) : Type 0 where
   pub p : ℕ
   pub inside : p < count
   pub is : get_or outputs p 0 ≡ s
 
 -- the outputs with bounded leads, by the places of their keys in a block
-pub record Ordered (lead : List ℕ) (n : ℕ) (outputs : List ℕ) (count : ℕ) : Type 0 where
-  pub few : count ≤ 56
-  pub below : (p : ℕ) → p < count → get_or outputs p 0 < n
-  pub bounded : (p : ℕ) → p < count → Bounded lead (get_or outputs p 0)
-  pub rising : (p r : ℕ) → p ≤ r → r < count → get_or lead (get_or outputs p 0) 0 % 8 ≤ get_or lead (get_or outputs r 0) 0 % 8
-  pub all : (s : ℕ) → s < n → Bounded lead s → Listed outputs count s
+pub record Ordered (lead : List ℕ) (n : ℕ) (outputs : List ℕ) : Type 0 where
+  pub below : (p : ℕ) → p < length outputs → get_or outputs p 0 < n
+  pub bounded : (p : ℕ) → p < length outputs → Bounded lead (get_or outputs p 0)
+  pub rising : (p r : ℕ) → p ≤ r → r < length outputs → get_or lead (get_or outputs p 0) 0 % 8 ≤ get_or lead (get_or outputs r 0) 0 % 8
+  pub all : (s : ℕ) → s < n → Bounded lead s → Listed outputs (length outputs) s
 
 -- the places of the outputs of a set
 abbrev pub InSet : ℕ → ℕ → ℕ → Type 0

@@ -1,10 +1,10 @@
 -- For the contracts of inner functions: a buffer as the values of the outputs, and what refreshing some of its places does.
-use Rattle.std.specs.Prelude.{◌≡◌, Bool, true, false, cond, ◌&&◌, List, [], ℕ, suc, ◌+◌, ◌-◌, ◌^◌, ◌≤◌, ◌<◌, leb, length, get_or}
-use Rattle.outcomes.specs.declared.Outcome.{Outcome}
-use Rattle.outcomes.specs.declared.Outcome.TheVariants.{Accepted, Refused}
+use Rattle.std.specs.Prelude.{◌≡◌, Bool, true, false, cond, ◌&&◌, List, [], ℕ, suc, ◌+◌, ◌-◌, ◌^◌, ◌≤◌, ◌<◌, leb, length, get_or, Ok, Err}
+use Rattle.outcomes.specs.Outcome.{Outcome}
 use Rattle.words.specs.Bits.{bit}
-use Rattle.sheet.specs.Expression.{Expr, newest, tree, parse}
-use Rattle.sheet.specs.Reading.{tree_of, code_at}
+use Rattle.sheet.specs.Expression.{Expr, newest, parse}
+use Rattle.sheet.specs.Parts.{code_at}
+use Rattle.sheet.specs.Reading.{tree_of}
 use Rattle.sheet.specs.RuleSheet.{RuleSheet}
 use Rattle.sheet.specs.declared.Offset.{Offset}
 use Rattle.lola.specs.Slots.{slots}
@@ -13,38 +13,26 @@ use Rattle.circular.specs.Circular.{Circular}
 use Rattle.circular.specs.Places.{Assignment, joint, look_at, right, Place, Reads, Solves, RightAt, Right}
 use Rattle.trace.specs.Evaluated.{OutputsWritten}
 use Rattle.trace.specs.Order.{Steady}
-use Rattle.trace.specs.declared.place.Counts.{Counts}
+use Rattle.sheet.specs.declared.Sheet.{Sheet}
 
 -- bit s of the byte of round t
 unfoldable pub values_of : List ℕ → Assignment
 values_of l s t = bit s (get_or l (t - 1) 0)
-
-abbrev pub streams_of : Counts → ℕ
-streams_of counts = counts.inputs + counts.outputs
 
 -- the expression of output k, in a sheet of s streams
 abbrev pub tree_in : ℕ → List ℕ → List ℕ → ℕ → Expr
 tree_in s code len k = tree_of (parse (newest s) [] (code_at code len k))
 
 -- the right sides of the equations over the letters
-unfoldable pub sides : Counts → List ℕ → List ℕ → List ℕ → Assignment → Assignment
-sides counts code len letters = right counts.inputs (tree_in (streams_of counts) code len) (length letters) (values_of letters)
-
--- a sheet of so many inputs and outputs that was read
-pub record Setting (counts : Counts) (code len : List ℕ) : Type 0 where
-  pub outputs : counts.outputs ≤ 7
-  pub code_size : length code ≡ 448
-  pub sizes : length len ≡ 7
-  pub small : (k : ℕ) → k < counts.outputs → get_or len k 0 ≤ 64
-  pub parses : (k : ℕ) → k < counts.outputs → parse (newest (streams_of counts)) [] (code_at code len k) ≡ tree (tree_in (streams_of counts) code len k)
+unfoldable pub sides : Sheet → List ℕ → Assignment → Assignment
+sides x letters = right x.inputs (tree_in (x.inputs + x.outputs) x.code x.len) (length letters) (values_of letters)
 
 -- a letter of the inputs and a byte of the outputs for each round
-pub record RoundBytes (counts : Counts) (letters buf : List ℕ) : Type 0 where
-  pub streams : streams_of counts ≤ 8
+pub record RoundBytes (x : Sheet) (letters buf : List ℕ) : Type 0 where
   pub rounds : length letters ≤ 4096
   pub same : length buf ≡ length letters
-  pub letters_below : (i : ℕ) → i < length letters → get_or letters i 0 < 2 ^ counts.inputs
-  pub bytes_below : (i : ℕ) → i < length buf → get_or buf i 0 < 2 ^ counts.outputs
+  pub letters_below : (i : ℕ) → i < length letters → get_or letters i 0 < 2 ^ x.inputs
+  pub bytes_below : (i : ℕ) → i < length buf → get_or buf i 0 < 2 ^ x.outputs
 
 -- the stream q in the round u, where u + 1 = at, or d where there is no such round
 unfoldable pub seen : ℕ → List ℕ → List ℕ → ℕ → ℕ → Bool → Bool
@@ -96,34 +84,28 @@ pub record Passed (n N : ℕ) (f : Assignment → Assignment) (P : ℕ → ℕ �
   pub quiet : changed ≡ false → (s t : ℕ) → Place n N s t → P s t → values_of old s t ≡ f (values_of old) s t
 
 -- the same for the equations of a sheet over the letters
-abbrev pub Refreshed : Counts → List ℕ → List ℕ → List ℕ → (ℕ → ℕ → Type 0) → List ℕ → List ℕ → Bool → Type 0
-Refreshed counts code len letters P old new changed = Passed counts.outputs (length letters) (sides counts code len letters) P old new changed
+abbrev pub Refreshed : Sheet → List ℕ → (ℕ → ℕ → Type 0) → List ℕ → List ℕ → Bool → Type 0
+Refreshed x letters P old new changed = Passed x.outputs (length letters) (sides x letters) P old new changed
 
 -- the values at the places of P are those of a solution
 abbrev pub RightOn : ℕ → ℕ → Assignment → (ℕ → ℕ → Type 0) → Assignment → Type 0
 RightOn n N sol P v = (s t : ℕ) → Place n N s t → P s t → v s t ≡ sol s t
 
 -- what is right at the places of P before is right at the places of Q after, if the reads are those of the masks
-pub record Extends (n N : ℕ) (f : Assignment → Assignment) (masks : List ℕ) (P Q : ℕ → ℕ → Type 0) (old new : List ℕ) : Type 0 where
+pub record Extends (n N : ℕ) (f : Assignment → Assignment) (masks : List (List ℕ)) (P Q : ℕ → ℕ → Type 0) (old new : List ℕ) : Type 0 where
   pub kept : SameShape n old new
   pub right : Reads n (reads_of masks) N f → (sol : Assignment) → Solves n N f sol → RightOn n N sol P (values_of old) → RightOn n N sol Q (values_of new)
 
 -- the same for all masks and settled outputs for which the leads are steady
 pub record Sweeps (n N : ℕ) (f : Assignment → Assignment) (lead : List ℕ) (up : Bool) (P Q : ℕ → ℕ → ℕ → Type 0) (old new : List ℕ) : Type 0 where
   pub kept : SameShape n old new
-  pub right : (masks : List ℕ) (settled : ℕ) → Steady masks lead n up settled → Reads n (reads_of masks) N f → (sol : Assignment) → Solves n N f sol
+  pub right : (masks : List (List ℕ)) (settled : ℕ) → Steady masks lead n up settled → Reads n (reads_of masks) N f → (sol : Assignment) → Solves n N f sol
       → RightOn n N sol (P settled) (values_of old) → RightOn n N sol (Q settled) (values_of new)
 
 -- the buffer satisfies the equations, if the reads between the outputs are not circular
 pub record Solved (n N : ℕ) (f : Assignment → Assignment) (old new : List ℕ) : Type 0 where
   pub kept : SameShape n old new
   pub holds : (E : ℕ → ℕ → ℕ → Bool) → Reads n E N f → (Circular n E → ⊥) → Solves n N f (values_of new)
-
--- the first letter that isn't below 2 ^ m
-pub record FirstBad (m : ℕ) (letters : List ℕ) (r : ℕ) : Type 0 where
-  pub within : r ≤ length letters
-  pub before : (i : ℕ) → i < r → get_or letters i 0 < 2 ^ m
-  pub found : r < length letters → get_or letters r 0 < 2 ^ m → ⊥
 
 -- letters that are not refused, with room for a byte each
 pub record Ready (m : ℕ) (letters : List ℕ) (room : ℕ) : Type 0 where
@@ -134,5 +116,5 @@ pub record Ready (m : ℕ) (letters : List ℕ) (room : ℕ) : Type 0 where
 
 -- what is left in the buffer, for a sheet that was read
 abbrev pub Left : RuleSheet → List ℕ → List ℕ → List ℕ → Outcome → Type 0
-Left x letters old new Accepted = OutputsWritten x letters old new
-Left x letters old new (Refused r) = new ≡ old
+Left x letters old new (Ok _) = OutputsWritten x letters old new
+Left x letters old new (Err r) = new ≡ old

@@ -1,200 +1,117 @@
-// Sweeps, which refresh places in the order of their keys, and passes over all places.
+// Sweeps, which refresh places in the order of their keys, and passes over all places. What sheet, letters and buffer have to do with each other
+// (`RoundBytes`) stands in each contract, as the buffer is written: a struct with a `&mut` in it can have no ghost field.
 ghost use Rattle.std.specs.Prelude.{◌≡◌, true, ◌<◌, ◌≤◌, length};
 ghost use Rattle.circular.specs.Table.{reads_of};
 ghost use Rattle.circular.specs.Places.{Reads};
 ghost use Rattle.trace.specs.Order.{Ordered, InSet, Done, Known};
-ghost use Rattle.trace.specs.Passes.{Setting, RoundBytes, Renewed, Refreshed, Extends, Sweeps, sides, Solved};
+ghost use Rattle.trace.specs.Passes.{RoundBytes, Refreshed, Extends, Sweeps, sides, Solved};
 
 use super::order::{leads, order_of, round_in, settle};
-use super::place::{Counts, refresh};
+use super::place::refresh;
+use sheet::Sheet;
 
 // The set of all seven outputs. Those that a sheet lacks read nothing, and are settled by the first sweep.
 const ALL: u8 = 127;
 
 // Refreshes the outputs of round t, one after the other.
-fn refresh_round(
-    code: &[u8],
-    len: &[usize],
-    counts: Counts,
-    letters: &[u8],
-    buf: &mut [u8],
-    t: usize,
-) -> bool
-    requires { Setting counts code.now len.now × RoundBytes counts letters.now buf.old × (1 ≤ t) × (t ≤ length letters.now) }
-    ensures { Refreshed counts code.now len.now letters.now (λ q u. u ≡ t) buf.old buf.new result }
+fn refresh_round(sheet: &Sheet, letters: &[u8], buf: &mut [u8], t: usize) -> bool
+    requires { RoundBytes sheet.now letters.now buf.old × (1 ≤ t) × (t ≤ length letters.now) }
+    ensures { Refreshed sheet.now letters.now (λ q u. u ≡ t) buf.old buf.new result }
 {
-    let n = counts.outputs;
     let mut changed = false;
-    let mut s: usize = 0;
-    while s < n {
-        if refresh(code, len, counts, letters, &mut buf[..], s, t) {
-            changed = true;
-        }
-        s += 1;
+    for s in 0..usize::from(sheet.outputs) {
+        changed |= refresh(sheet, letters, buf, s, t);
     }
     changed
 }
 
 // Refreshes every place once; whether anything changed.
-fn pass(code: &[u8], len: &[usize], counts: Counts, letters: &[u8], buf: &mut [u8]) -> bool
-    requires { Setting counts code.now len.now × RoundBytes counts letters.now buf.old }
-    ensures { Refreshed counts code.now len.now letters.now (λ q u. Unit {0}) buf.old buf.new result }
+fn pass(sheet: &Sheet, letters: &[u8], buf: &mut [u8]) -> bool
+    requires { RoundBytes sheet.now letters.now buf.old }
+    ensures { Refreshed sheet.now letters.now (λ q u. Unit {0}) buf.old buf.new result }
 {
     let mut changed = false;
-    let mut t: usize = 1;
-    while t <= letters.len() {
-        if refresh_round(code, len, counts, letters, &mut buf[..], t) {
-            changed = true;
-        }
-        t += 1;
+    for t in 1..letters.len() + 1 {
+        changed |= refresh_round(sheet, letters, buf, t);
     }
     changed
 }
 
 // Refreshes until a pass changes nothing.
-fn passes(code: &[u8], len: &[usize], counts: Counts, letters: &[u8], buf: &mut [u8])
-    requires { Setting counts code.now len.now × RoundBytes counts letters.now buf.old }
-    ensures { Solved counts.outputs (length letters.now) (sides counts code.now len.now letters.now) buf.old buf.new }
+fn passes(sheet: &Sheet, letters: &[u8], buf: &mut [u8])
+    requires { RoundBytes sheet.now letters.now buf.old }
+    ensures { Solved sheet.now.outputs (length letters.now) (sides sheet.now letters.now) buf.old buf.new }
 {
-    let most = counts.outputs * letters.len();
-    let mut k: usize = 0;
-    while k < most {
-        let changed = pass(code, len, counts, letters, &mut buf[..]);
+    let most = usize::from(sheet.outputs) * letters.len();
+    for _ in 0..most {
+        let changed = pass(sheet, letters, buf);
         let settled = !changed;
         if settled {
             return;
         }
-        k += 1;
     }
 }
 
-// Refreshes a place; none where t is 0.
-fn try_refresh(
-    code: &[u8],
-    len: &[usize],
-    counts: Counts,
-    letters: &[u8],
-    buf: &mut [u8],
-    s: usize,
-    t: usize,
-)
-    requires { Setting counts code.now len.now × RoundBytes counts letters.now buf.old × (s < counts.outputs) × (t ≤ length letters.now) }
-    ensures { (t ≡ 0 → buf.new ≡ buf.old) × (1 ≤ t → Renewed counts.outputs (sides counts code.now len.now letters.now) s t buf.old buf.new) }
-{
-    if t == 0 {
-        return;
-    }
-    refresh(code, len, counts, letters, &mut buf[..], s, t);
-}
-
-// One block of a sweep, up or down, on a sheet with so many inputs and outputs, `count` of which have bounded leads.
-#[derive(Clone, Copy)]
-struct Block {
-    counts: Counts,
-    up: bool,
-    count: usize,
-    number: usize,
-}
-
-// Refreshes the places of a block.
+// Refreshes the places of a block, of the outputs that have bounded leads, in a sweep up or down.
 fn refresh_block(
-    code: &[u8],
-    len: &[usize],
+    sheet: &Sheet,
     letters: &[u8],
     buf: &mut [u8],
     lead: &[u8; 7],
-    outputs: &[usize; 56],
-    block: Block,
+    outputs: &[usize],
+    up: bool,
+    block: usize,
 )
-    requires { Setting block.counts code.now len.now × RoundBytes block.counts letters.now buf.old × Ordered lead.now block.counts.outputs outputs.now block.count }
-    ensures { Sweeps block.counts.outputs (length letters.now) (sides block.counts code.now len.now letters.now) lead.now block.up (Done lead.now block.up (length letters.now) outputs.now block.number 0) (Done lead.now block.up (length letters.now) outputs.now block.number block.count) buf.old buf.new }
+    requires { RoundBytes sheet.now letters.now buf.old × Ordered lead.now sheet.now.outputs outputs.now }
+    ensures { Sweeps sheet.now.outputs (length letters.now) (sides sheet.now letters.now) lead.now up (Done lead.now up (length letters.now) outputs.now block 0) (Done lead.now up (length letters.now) outputs.now block (length outputs.now)) buf.old buf.new }
 {
-    let counts = block.counts;
-    let count = block.count;
-    let mut p: usize = 0;
-    while p < count {
-        let s = outputs[p];
-        let t = round_in(block.number, lead[s], letters.len(), block.up);
-        try_refresh(code, len, counts, letters, &mut buf[..], s, t);
-        p += 1;
+    for s in outputs {
+        if let Some(t) = round_in(block, lead[*s], letters.len(), up) {
+            refresh(sheet, letters, buf, *s, t);
+        }
     }
 }
 
 // Refreshes the places of the outputs with bounded leads in the order of their keys.
-fn sweep(
-    code: &[u8],
-    len: &[usize],
-    counts: Counts,
-    letters: &[u8],
-    buf: &mut [u8],
-    lead: &[u8; 7],
-    up: bool,
-)
-    requires { Setting counts code.now len.now × RoundBytes counts letters.now buf.old }
-    ensures { Sweeps counts.outputs (length letters.now) (sides counts code.now len.now letters.now) lead.now up InSet (Known lead.now) buf.old buf.new }
+fn sweep(sheet: &Sheet, letters: &[u8], buf: &mut [u8], lead: &[u8; 7], up: bool)
+    requires { RoundBytes sheet.now letters.now buf.old }
+    ensures { Sweeps sheet.now.outputs (length letters.now) (sides sheet.now letters.now) lead.now up InSet (Known lead.now) buf.old buf.new }
 {
-    let order = order_of(lead, counts.outputs);
-    let outputs = order.outputs;
-    let count = order.count;
-    if count == 0 {
+    let order = order_of(lead, usize::from(sheet.outputs));
+    if order.is_empty() {
         return;
     }
     let end = letters.len() + 7;
-    let mut number: usize = 1;
-    while number < end {
-        let block = Block {
-            counts,
-            up,
-            count,
-            number,
-        };
-        refresh_block(code, len, letters, &mut buf[..], lead, &outputs, block);
-        number += 1;
+    for block in 1..end {
+        refresh_block(sheet, letters, buf, lead, &order, up, block);
     }
 }
 
 // Sweeps up and down by turns, at most 14, until all outputs are settled; whether they are.
-fn sweeps(
-    code: &[u8],
-    len: &[usize],
-    counts: Counts,
-    letters: &[u8],
-    buf: &mut [u8],
-    masks: &[u8; 49],
-) -> bool
-    requires { Setting counts code.now len.now × RoundBytes counts letters.now buf.old }
-    ensures { Extends counts.outputs (length letters.now) (sides counts code.now len.now letters.now) masks.now (λ q u. ⊥) (λ q u. result ≡ true) buf.old buf.new }
+fn sweeps(sheet: &Sheet, letters: &[u8], buf: &mut [u8], masks: &[[u8; 7]; 7]) -> bool
+    requires { RoundBytes sheet.now letters.now buf.old }
+    ensures { Extends sheet.now.outputs (length letters.now) (sides sheet.now letters.now) masks.now (λ q u. ⊥) (λ q u. result ≡ true) buf.old buf.new }
 {
-    let mut settled: u8 = 0;
-    let mut k: usize = 0;
-    while k < 14 {
+    let mut settled = 0;
+    for k in 0..14 {
         if settled == ALL {
             return true;
         }
         let up = k % 2 == 0;
-        let lead = leads(masks, counts.outputs, up, settled);
-        sweep(code, len, counts, letters, &mut buf[..], &lead, up);
+        let lead = leads(masks, usize::from(sheet.outputs), up, settled);
+        sweep(sheet, letters, buf, &lead, up);
         settled = settle(&lead, settled);
-        k += 1;
     }
     settled == ALL
 }
 
 // Fills the buffer so that it satisfies the equations. That the sweeps settle every sheet that isn't circular is not proved, so passes stand
 // behind them.
-pub fn solve(
-    code: &[u8],
-    len: &[usize],
-    counts: Counts,
-    letters: &[u8],
-    buf: &mut [u8],
-    masks: &[u8; 49],
-)
-    requires { Setting counts code.now len.now × RoundBytes counts letters.now buf.old × Reads counts.outputs (reads_of masks.now) (length letters.now) (sides counts code.now len.now letters.now) }
-    ensures { Solved counts.outputs (length letters.now) (sides counts code.now len.now letters.now) buf.old buf.new }
+pub fn solve(sheet: &Sheet, letters: &[u8], buf: &mut [u8], masks: &[[u8; 7]; 7])
+    requires { RoundBytes sheet.now letters.now buf.old × Reads sheet.now.outputs (reads_of masks.now) (length letters.now) (sides sheet.now letters.now) }
+    ensures { Solved sheet.now.outputs (length letters.now) (sides sheet.now letters.now) buf.old buf.new }
 {
-    if sweeps(code, len, counts, letters, &mut buf[..], masks) {
-        return;
+    if !sweeps(sheet, letters, buf, masks) {
+        passes(sheet, letters, buf);
     }
-    passes(code, len, counts, letters, &mut buf[..]);
 }

@@ -5,73 +5,51 @@
 // line `--`. The first case that is cut short or too long ends the run, and nothing is written for it.
 #![tactic(auto)]
 
-ghost use Rattle.std.specs.Prelude.{◌+◌, ◌≤◌, ◌<◌, length};
-ghost use Rattle.circular.specs.Accepted.{IsAccepted};
+ghost use Rattle.std.specs.Prelude.{◌+◌, ◌≤◌, ◌<◌, IfSome, length};
 ghost use Rattle.pairs.specs.Storage.{storage_words};
-ghost use Rattle.letter_table.specs.Entry.{Sets};
-ghost use Rattle.line_scan.specs.Scan.{InTable};
 
-use outcomes::Outcome;
-use protocol::Progress;
+use letter_table::LetterTable;
+use protocol::Started;
 use record::JournalRecord;
-use sheet::Sheet;
+use std::io;
 use std::io::Read;
-
-// How many bytes a sheet or session has, and whether all of them were read.
-#[derive(Clone, Copy)]
-struct Part {
-    n: usize,
-    whole: bool,
-}
 
 // The number with these two bytes.
 fn number(low: u8, high: u8) -> usize {
-    low as usize + 256 * (high as usize)
+    usize::from(low) + 256 * usize::from(high)
 }
 
-// Fills buf with the next bytes of the input; whether there were so many.
-fn read_full(rt: HostRuntime, buf: &mut [u8]) -> bool {
-    rt.stdin().read_exact(buf).is_ok()
+// Fills buf with the next bytes of the input.
+fn read_full(rt: HostRuntime, buf: &mut [u8]) -> io::Result<()> {
+    rt.stdin().read_exact(buf)
 }
 
-// Writes to standard output; whether all was taken.
-fn write_all(rt: HostRuntime, bytes: &[u8]) -> bool {
-    rt.write_all(bytes).is_ok()
-}
-
-// Reads the next n bytes of the input to the start of buf.
-fn read_part(rt: HostRuntime, n: usize, buf: &mut [u8]) -> Part
-    ensures { result.n ≤ length buf.new }
+// Reads the next n bytes of the input to the start of buf, and answers n.
+fn read_part(rt: HostRuntime, n: usize, buf: &mut [u8]) -> Option<usize>
+    ensures { IfSome result (λ k. k ≤ length buf.new) }
 {
     if n > buf.len() {
-        return Part { n: 0, whole: false };
+        return None;
     }
-    let whole = read_full(rt, &mut buf[..n]);
-    Part { n, whole }
+    read_full(rt, &mut buf[..n]).ok()?;
+    Some(n)
 }
 
-fn read_sheet(rt: HostRuntime, sheet: &mut [u8]) -> Part
-    ensures { result.n ≤ length sheet.new }
+fn read_sheet(rt: HostRuntime, sheet: &mut [u8]) -> Option<usize>
+    ensures { IfSome result (λ k. k ≤ length sheet.new) }
 {
     let mut head = [0u8; 2];
-    if !read_full(rt, &mut head) {
-        return Part { n: 0, whole: false };
-    }
+    read_full(rt, &mut head).ok()?;
     read_part(rt, number(head[0], head[1]), sheet)
 }
 
-fn read_session(rt: HostRuntime, session: &mut [u8]) -> Part
-    ensures { result.n ≤ length session.new }
+fn read_session(rt: HostRuntime, session: &mut [u8]) -> Option<usize>
+    ensures { IfSome result (λ k. k ≤ length session.new) }
 {
     let mut head = [0u8; 4];
-    if !read_full(rt, &mut head) {
-        return Part { n: 0, whole: false };
-    }
-    if head[2] != 0 {
-        return Part { n: 0, whole: false };
-    }
-    if head[3] != 0 {
-        return Part { n: 0, whole: false };
+    read_full(rt, &mut head).ok()?;
+    if head[2] != 0 || head[3] != 0 {
+        return None;
     }
     read_part(rt, number(head[0], head[1]), session)
 }
@@ -81,102 +59,83 @@ fn chunk_size(at: usize, left: usize) -> usize
     requires { 0 < left }
     ensures { (0 < result) × (result ≤ 11) × (result ≤ left) }
 {
-    let size = at % 11 + 1;
-    if size > left {
-        return left;
-    }
-    size
+    (at % 11 + 1).min(left)
 }
 
-// Feeds a session in small chunks. A run that is over is fed on and writes nothing more.
+// Feeds a session in small chunks.
 fn play(
     rt: HostRuntime,
-    x: Sheet,
-    table: &[u64],
-    s: Progress,
+    run: &Started,
+    table: &LetterTable,
     storage: &mut [u64],
     session: &[u8],
     out: &mut [u8],
 )
-    requires { IsAccepted x × (600 ≤ length out.old) × Sets table.now × InTable s.pending }
+    requires { 600 ≤ length out.old }
 {
-    let mut state = s;
+    let mut state = Some(run.state);
     let mut at = 0;
+    // The chunks' sizes differ: they hang on the place.
     while at < session.len() {
         let n = chunk_size(at, session.len() - at);
         let next = at + n;
-        let fed = protocol::feed(x, table, state, storage, &session[at..next], out);
+        let fed = protocol::feed(&run.sheet, table, state, storage, &session[at..next], out);
         let to = fed.at;
-        state = fed.state;
-        write_all(rt, &out[..to]);
+        let _ = rt.write_all(&out[..to]);
+        state = fed.next;
         at = next;
     }
-    let to = protocol::finish(x, table, state, storage, out);
-    write_all(rt, &out[..to]);
+    let to = protocol::finish(&run.sheet, table, state, storage, out);
+    let _ = rt.write_all(&out[..to]);
 }
 
 // What the journal program writes for a sheet's file and a session. The storage is as the case before left it.
 fn answer(
     rt: HostRuntime,
-    table: &[u64],
+    table: &LetterTable,
     sheet: &[u8],
     session: &[u8],
     storage: &mut [u64],
     out: &mut [u8],
 )
-    requires { (storage_words ≤ length storage.old) × (600 ≤ length out.old) × Sets table.now }
+    requires { (storage_words ≤ length storage.old) × (600 ≤ length out.old) }
 {
-    let begun = protocol::start(sheet, storage, out);
-    let outcome = begun.outcome;
-    match outcome {
-        Outcome::Refused(_) => {
-            let to = begun.at;
-            write_all(rt, &out[..to]);
-        }
-        Outcome::Accepted => {
-            let x = begun.sheet;
-            let state = begun.state;
-            play(rt, x, table, state, storage, session, out);
+    match protocol::start(sheet, storage, out) {
+        Ok(run) => play(rt, &run, table, storage, session, out),
+        Err(to) => {
+            let _ = rt.write_all(&out[..to]);
         }
     }
 }
 
-// Reads a case and answers it, or tells that there is none.
+// Reads a case and answers it. There is none if the input or the output is at its end.
 fn case(
     rt: HostRuntime,
-    table: &[u64],
+    table: &LetterTable,
     sheet: &mut [u8],
     session: &mut [u8],
     storage: &mut [u64],
     out: &mut [u8],
-) -> bool
-    requires { (storage_words ≤ length storage.old) × (600 ≤ length out.old) × Sets table.now }
+) -> Option<()>
+    requires { (storage_words ≤ length storage.old) × (600 ≤ length out.old) }
 {
-    let first = read_sheet(rt, sheet);
-    if !first.whole {
-        return false;
-    }
-    let second = read_session(rt, session);
-    if !second.whole {
-        return false;
-    }
-    let m = first.n;
-    let n = second.n;
+    let m = read_sheet(rt, sheet)?;
+    let n = read_session(rt, session)?;
     answer(rt, table, &sheet[..m], &session[..n], storage, out);
-    write_all(rt, b"--\n")
+    rt.write_all(b"--\n").ok()
 }
 
-// All cases. A proved loop has to end, and nothing says that the input does, so the cases are counted down.
+// All cases. A proved loop has to end, and nothing says that the input does, so the cases are counted.
 fn main(rt: HostRuntime) {
-    let table = letter_table::sets();
+    let table = LetterTable::new();
     let mut sheet = [0u8; 464];
     let mut session = [0u8; 65536];
     let mut storage = [0u64; JournalRecord::STORAGE_WORDS];
     let mut out = [0u8; 4096];
-    let mut go = true;
-    let mut cases = u64::MAX;
-    while cases > 0 && go {
-        go = case(rt, &table, &mut sheet, &mut session, &mut storage, &mut out);
-        cases -= 1;
+    for _ in 0..u64::MAX {
+        let done = case(rt, &table, &mut sheet, &mut session, &mut storage, &mut out);
+        if done.is_none() {
+            return;
+        }
     }
 }

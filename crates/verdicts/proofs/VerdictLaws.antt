@@ -1,13 +1,12 @@
 -- Valuations as the bits of words, and the verdicts read off them.
 use mathlib.Core.Path.{◌≡◌, refl, sym, ap, ap₂, ◌∙◌, subst}
 use mathlib.Core.Bool.{Bool, true, false, not, ◌&&◌, ◌||◌, beq, and-true, and-false, or-false, and_assoc, and_comm, true≢false}
-use mathlib.Core.List.{List, [], ◌∷◌}
+use mathlib.Core.List.{List}
 use mathlib.Core.Option.{Option, none, some}
 use Prim.Native.Nat.{ℕ, zero, suc, ◌+◌, ◌-◌, ◌*◌, ◌/◌, ◌%◌, ◌^◌, ◌≤◌, ◌<◌}
 use native.Mathlib.Omega.{arith}
 use native.Mathlib.Decide.{ℕ_discrete, dec_lt}
 use lib.Dec.{eqb, ltb}
-use lib.Count.{count_trailing_zeros}
 use lib.Bits.{bit_and, bit_or, and_lt}
 use lib.ListN.{length, get_or, set, length-set, replicate}
 use lib.Seq.{get_or-set_same, get_or-set_other}
@@ -16,23 +15,22 @@ use borrow.Author.Tests.{le-ltb, lt-ltb, ltb-true, eq-eqb, ne_eqb}
 use Rattle.outcomes.specs.Numbers.{untold, told_at, Verdicts}
 use Rattle.outcomes.specs.declared.Verdict.{Verdict}
 use Rattle.outcomes.specs.declared.Verdict.TheVariants.{False}
-use Rattle.outcomes.specs.declared.Told.{Told}
 use Rattle.words.specs.Bits.{digit, bit}
 use Rattle.words.specs.Sizes.{Wide}
 use Rattle.words.specs.Below.{any_below}
-use Rattle.words.proofs.BitLaws.{bit-and, bit-or, bit-shl, bit-none, Lowest, lowest, without, lane_off, lane_less}
+use Rattle.words.proofs.BitLaws.{bit-and, bit-or, bit-shl, bit-none, without, lane_off, lane_less}
 use Rattle.words.proofs.AnyLaws.{any_cong, any_one, any_add, any_groups, any_word, none_any, some_any, any_some}
 use Rattle.words.proofs.LaneLaws.{beq_true, beq_false}
 use Rattle.words.proofs.Bools.{iff, and_split}
-use Rattle.words.proofs.ListLaws.{set_more}
 use Rattle.completions.specs.Live.{Pairs}
 use Rattle.completions.specs.Together.{named}
 use Rattle.completions.specs.Steps.{any_next, any_pair, verdict_of, pairs_verdict, ends_verdict}
 use Rattle.pairs.specs.Storage.{reached}
-use Rattle.pairs.specs.Changes.{row_bit, EndsWord}
+use Rattle.pairs.specs.Changes.{row_bit, RowOf, EndsWord}
+use Rattle.pairs.proofs.RowWords.{row_lane}
 use Rattle.rounds.specs.Rows.{among}
 use Rattle.rounds.proofs.WordLaws.{heard_lane}
-use Rattle.verdicts.specs.Firsts.{Passing, Words, shows, all_named}
+use Rattle.verdicts.specs.Firsts.{Passing, shows, all_named}
 
 -- ---- whether a row has a member
 
@@ -84,6 +82,7 @@ module _ (s : List ℕ) (v w a x mask : ℕ) (wide : Wide v w) (lx : (i : ℕ) �
 
 -- ---- the lanes of a word, one after the other
 
+-- one lane is looked at: it is set in the word where v is true
 pub lane_set : (k x i : ℕ) (v : Bool) → i < 64 → v ≡ true → bit k (bit_or x (1 * 2 ^ i % 2 ^ 64)) ≡ (bit k x || (eqb k i && v))
 lane_set k x i v h e =
     bit-or k x (1 * 2 ^ i % 2 ^ 64)
@@ -120,9 +119,6 @@ looking_more g all word rest i word' v l o e f p = record {
     at k (no n) = rw (ne_eqb k i n) (left (bit k word) (bit k rest) (g k))
 
 -- the next lane to look at
-pub looking_next : (g : ℕ → Bool) (all word rest : ℕ) → Looking g all word rest → (rest ≡ 0 → ⊥) → Lowest 64 rest (count_trailing_zeros 64 rest)
-looking_next g all word rest p n = lowest 64 rest p.fits n
-
 pub looking_done : (g : ℕ → Bool) (all word rest : ℕ) → rest ≡ 0 → Looking g all word rest → (k : ℕ) → k < 64 → bit k word ≡ (bit k all && g k)
 looking_done g all word rest e p k h =
     sym (ap (λ (u : Bool). bit k word || (u && g k)) (ap (bit k) e ∙ bit-none k) ∙ or-false (bit k word)) ∙ p.lanes k h
@@ -131,109 +127,30 @@ looking_done g all word rest e p k h =
 pub heard-below : (j v letters mask : ℕ) → ((i : ℕ) → i < 64 → bit i mask ≡ ltb (64 * j + i) v) → (i : ℕ) → i < 64 → bit i (bit_and mask letters) ≡ (ltb (64 * j + i) v && among letters (64 * j + i))
 heard-below j v letters mask f i h = bit-and i mask letters ∙ ap₂ ◌&&◌ (f i h) (heard_lane letters j i h)
 
--- all lanes below n, from the lowest on
-pub record Filled (g : ℕ → Bool) (n word i : ℕ) : Type 0 where
-  pub within : i ≤ n
-  pub lanes : (k : ℕ) → k < 64 → bit k word ≡ (ltb k i && g k)
-
-module _ (g : ℕ → Bool) (n : ℕ) where
-  pub filled_none : Filled g n 0 0
-  filled_none = record { within = omega arith; lanes = λ k h. bit-none k ∙ sym (ap (λ (u : Bool). u && g k) (le-ltb k 0 (omega arith))) }
-
-  pub filled_more : (word i word' : ℕ) (v : Bool) → i < n → Filled g n word i → v ≡ g i → ((k : ℕ) → bit k word' ≡ (bit k word || (eqb k i && v))) → Filled g n word' (i + 1)
-  filled_more word i word' v h p e f = record { within = omega arith; lanes = λ k l. f k ∙ ap (λ (u : Bool). u || (eqb k i && v)) (p.lanes k l) ∙ at k (ℕ_discrete k i) (dec_lt k i) }
-    where
-      at : (k : ℕ) → Dec (k ≡ i) → Dec (k < i) → ((ltb k i && g k) || (eqb k i && v)) ≡ (ltb k (i + 1) && g k)
-      at k (yes d) q = rw (eq-eqb k i d, le-ltb k i (omega arith), lt-ltb k (i + 1) (omega arith)) (e ∙ ap g (sym d))
-      at k (no d) (yes l) = rw (ne_eqb k i d, lt-ltb k i l, lt-ltb k (i + 1) (omega arith)) (or-false (g k))
-      at k (no d) (no l) = rw (ne_eqb k i d, le-ltb k i (omega arith), le-ltb k (i + 1) (omega arith))
-
--- with the lanes that the end mark follows they are the first parts
-pub every_lane : (s : List ℕ) (v w j n ends word i : ℕ) → Wide v w → j < w → (n ≤ 64) × (v < 64 → n ≡ v) × (64 ≤ v → n ≡ 64) → n ≤ i
-    → ((k : ℕ) → k < 64 → bit k ends ≡ (ltb (64 * j + k) v && reached s (64 * j + k) none)) → Filled (λ k. any_below v (λ b. reached s (64 * j + k) (some b))) n word i
-    → (k : ℕ) → k < 64 → bit k (bit_or ends word) ≡ (ltb (64 * j + k) v && any_next v (reached s (64 * j + k)))
+-- with the lanes that the end mark follows, those that a valuation follows are the first parts
+pub every_lane : (s : List ℕ) (v j e low word : ℕ) → EndsWord (reached s) j e → ((i : ℕ) → i < 64 → bit i low ≡ ltb (64 * j + i) v)
+    → ((i : ℕ) → i < 64 → bit i word ≡ (bit i low && any_below v (λ b. reached s (64 * j + i) (some b)))) → (i : ℕ) → i < 64
+    → bit i (bit_or (bit_and e low) word) ≡ (ltb (64 * j + i) v && any_next v (reached s (64 * j + i)))
 unfolding any_next
-every_lane s v w j n ends word i wide h e l f p k q =
-    bit-or k ends word
-    ∙ ap₂ ◌||◌ (f k q) (p.lanes k q ∙ ap (λ (u : Bool). u && any_below v (λ b. reached s (64 * j + k) (some b))) (same (dec_lt v 64) (dec_lt 1 w)))
-    ∙ joined (ltb (64 * j + k) v) (reached s (64 * j + k) none) (any_below v (λ b. reached s (64 * j + k) (some b)))
+every_lane s v j e low word f g h i l =
+    let ends = reached s (64 * j + i) none in
+    let some_next = any_below v (λ b. reached s (64 * j + i) (some b)) in
+    bit-or i (bit_and e low) word ∙ ap₂ ◌||◌ (bit-and i e low ∙ ap₂ ◌&&◌ (f i l) (g i l)) (h i l ∙ ap (λ (u : Bool). u && some_next) (g i l))
+    ∙ joined (ltb (64 * j + i) v) ends some_next
   where
-    joined : (a e g : Bool) → ((a && e) || (a && g)) ≡ (a && (e || g))
-    joined true e g = refl
-    joined false e g = refl
+    joined : (a e g : Bool) → ((e && a) || (a && g)) ≡ (a && (e || g))
+    joined true true g = refl
+    joined true false g = refl
+    joined false true g = refl
+    joined false false g = refl
 
-    is-n : i ≡ n
-    is-n = omega (arith, p.within)
-
-    same : Dec (v < 64) → Dec (1 < w) → ltb k i ≡ ltb (64 * j + k) v
-    same (yes a) (yes b) = absurd (omega (arith, wide.full b))
-    same (yes a) (no b) =
-        let i-v : i ≡ v = is-n ∙ e.1 a in
-        let j-0 : 64 * j + k ≡ k = omega arith in
-        ap₂ ltb (sym j-0) i-v
-    same (no a) (yes b) =
-        let z : n ≡ 64 = e.2 (omega arith) in
-        lt-ltb k i (omega (arith, is-n, z)) ∙ sym (lt-ltb (64 * j + k) v (omega (arith, wide.full b)))
-    same (no a) (no b) =
-        let z : n ≡ 64 = e.2 (omega arith) in
-        lt-ltb k i (omega (arith, is-n, z)) ∙ sym (lt-ltb (64 * j + k) v (omega (arith, wide.under)))
-
--- ---- w words, one after the other
-
-pub record Filling (w : ℕ) (g : ℕ → Bool) (f : List ℕ) (j : ℕ) : Type 0 where
-  pub within : j ≤ w
-  pub size : length f ≡ 4
-  pub done : (k i : ℕ) → k < j → i < 64 → bit i (get_or f k 0) ≡ g (64 * k + i)
-
-pub filling_none : (w : ℕ) (g : ℕ → Bool) (f : List ℕ) → length f ≡ 4 → Filling w g f 0
-filling_none w g f l = record { within = omega arith; size = l; done = λ k i h. absurd (omega arith) }
-
-pub filling_more : (w : ℕ) (g : ℕ → Bool) (f : List ℕ) (j x : ℕ) → w ≤ 4 → j < w → Filling w g f j → ((i : ℕ) → i < 64 → bit i x ≡ g (64 * j + i)) → Filling w g (set f j x) (j + 1)
-filling_more w g f j x l h p e = record {
-  within = omega arith;
-  size = length-set f j x ∙ p.size;
-  done = λ k i a. set_more (λ k v. (i : ℕ) → i < 64 → bit i v ≡ g (64 * k + i)) f j x (omega (arith, p.size)) e (λ k a i. p.done k i a) k a i;
-}
-
-pub filling_all : (w : ℕ) (g : ℕ → Bool) (f : List ℕ) (j : ℕ) → w ≤ j → Filling w g f j → Words w f g
-unfolding row_bit
-filling_all w g f j h p = record { size = p.size; bits = λ b l. at b l }
-  where
-    at : (b : ℕ) → b < 64 * w → bit (b % 64) (get_or f (0 + b / 64) 0) ≡ g b
-    at b l =
-        let e : 0 + b / 64 ≡ b / 64 = omega arith in
-        let q : 64 * (b / 64) + b % 64 ≡ b = omega arith in
-        ap (λ (z : ℕ). bit (b % 64) (get_or f z 0)) e ∙ p.done (b / 64) (b % 64) (omega arith) (omega arith) ∙ ap g q
+-- ---- the ends
 
 -- a word of the end row
 pub ends_lane : (s : List ℕ) (j v mask word : ℕ) → EndsWord (reached s) j word → ((i : ℕ) → i < 64 → bit i mask ≡ ltb (64 * j + i) v) → (i : ℕ) → i < 64
     → bit i (bit_and word mask) ≡ (ltb (64 * j + i) v && reached s (64 * j + i) none)
 ends_lane s j v mask word e f i h =
     bit-and i word mask ∙ ap₂ ◌&&◌ (e i h) (f i h) ∙ and_comm (reached s (64 * j + i) none) (ltb (64 * j + i) v)
-
--- ---- the test as a row of words
-
-pub row_lane : (t : List ℕ) (j i : ℕ) → i < 64 → row_bit t 0 (64 * j + i) ≡ bit i (get_or t j 0)
-unfolding row_bit
-row_lane t j i h =
-    let e₁ : (64 * j + i) % 64 ≡ i = omega arith in
-    let e₂ : 0 + (64 * j + i) / 64 ≡ j = omega arith in
-    ap₂ (λ (x y : ℕ). bit x (get_or t y 0)) e₁ e₂
-
--- four words, each with its valuations
-pub four_words : (a b c d : ℕ) (g : ℕ → Bool) → ((i : ℕ) → i < 64 → bit i a ≡ g (64 * 0 + i)) → ((i : ℕ) → i < 64 → bit i b ≡ g (64 * 1 + i))
-    → ((i : ℕ) → i < 64 → bit i c ≡ g (64 * 2 + i)) → ((i : ℕ) → i < 64 → bit i d ≡ g (64 * 3 + i)) → Words 4 (a ∷ (b ∷ (c ∷ (d ∷ [])))) g
-four_words a b c d g ha hb hc hd = filling_all 4 g (a ∷ (b ∷ (c ∷ (d ∷ [])))) 4 (omega arith) (record { within = omega arith; size = refl; done = at })
-  where
-    at : (k i : ℕ) → k < 4 → i < 64 → bit i (get_or (a ∷ (b ∷ (c ∷ (d ∷ [])))) k 0) ≡ g (64 * k + i)
-    at zero i h l = ha i l
-    at (suc zero) i h l = hb i l
-    at (suc (suc zero)) i h l = hc i l
-    at (suc (suc (suc zero))) i h l = hd i l
-    at (suc (suc (suc (suc k)))) i h l = absurd (omega arith)
-
-pub words_less : (w n : ℕ) (t : List ℕ) (g : ℕ → Bool) → w ≤ n → Words n t g → Words w t g
-words_less w n t g h x = record { size = x.size; bits = λ b l. x.bits b (omega arith) }
 
 -- ---- whether the test gives v for some valuation, word by word
 
@@ -255,15 +172,15 @@ module _ (f : List ℕ) (g : ℕ → Bool) (v : Bool) where
       ∙ any_word 64 (bit_and (get_or f j 0) p) (and_lt 64 (get_or f j 0) p hw hp)
 
 -- a row of words stands for every test that it has the valuations of
-pub shows-test : (w : ℕ) (f t : List ℕ) (g : ℕ → Bool) (v : Bool) → Words w t g → shows w f (row_bit t 0) v ≡ shows w f g v
+pub shows-test : (w : ℕ) (f t : List ℕ) (g : ℕ → Bool) (v : Bool) → RowOf w t g → shows w f (row_bit t 0) v ≡ shows w f g v
 unfolding shows
-shows-test w f t g v x = any_cong (64 * w) _ _ (λ b h. ap (λ (u : Bool). row_bit f 0 b && beq u v) (x.bits b h))
+shows-test w f t g v x = any_cong (64 * w) _ _ (λ b h. ap (λ (u : Bool). row_bit f 0 b && beq u v) (x b h))
 
 -- ---- verdicts
 
 -- what was found of the row's test, of every test that it stands for
 pub verdict-of : (w : ℕ) (f t : List ℕ) (y n u v : Bool) → y ≡ shows w f (row_bit t 0) true → n ≡ shows w f (row_bit t 0) false → y ≡ u → n ≡ v
-    → (g : ℕ → Bool) → Words w t g → verdict_of u v ≡ verdict_of (shows w f g true) (shows w f g false)
+    → (g : ℕ → Bool) → RowOf w t g → verdict_of u v ≡ verdict_of (shows w f g true) (shows w f g false)
 verdict-of w f t y n u v a b e₁ e₂ g x = ap₂ verdict_of (sym e₁ ∙ a ∙ shows-test w f t g true x) (sym e₂ ∙ b ∙ shows-test w f t g false x)
 
 -- the numbers below w of a wider search
@@ -274,11 +191,11 @@ any_below_lem w n p h =
     ∙ ap₂ ◌||◌ (none_any (n - w) (λ i. ltb (w + i) w && p (w + i)) (λ i l. ap (λ (u : Bool). u && p (w + i)) (le-ltb (w + i) w (omega arith))))
     (any_cong w (λ b. ltb b w && p b) p (λ b l. ap (λ (u : Bool). u && p b) (lt-ltb b w l)))
 
-module _ (w : ℕ) (f : List ℕ) (v : ℕ) (g P : ℕ → Bool) (hv : v ≤ 64 * w) (words : Words w f (λ b. ltb b v && P b)) where
+module _ (w : ℕ) (f : List ℕ) (v : ℕ) (g P : ℕ → Bool) (hv : v ≤ 64 * w) (words : RowOf w f (λ b. ltb b v && P b)) where
   shows-is : (u : Bool) → shows w f g u ≡ any_below v (λ b. P b && beq (g b) u)
   unfolding shows
   shows-is u =
-      any_cong (64 * w) _ (λ b. ltb b v && (P b && beq (g b) u)) (λ b h. ap (λ (t : Bool). t && beq (g b) u) (words.bits b h) ∙ and_assoc (ltb b v) (P b) (beq (g b) u))
+      any_cong (64 * w) _ (λ b. ltb b v && (P b && beq (g b) u)) (λ b h. ap (λ (t : Bool). t && beq (g b) u) (words b h) ∙ and_assoc (ltb b v) (P b) (beq (g b) u))
       ∙ any_below_lem v (64 * w) (λ b. P b && beq (g b) u) hv
 
   shows-true : shows w f g true ≡ any_below v (λ b. P b && g b)
@@ -297,9 +214,9 @@ next-and w f false =
     ∙ sym (ap₂ ◌||◌ (and-false (f none)) (none_any w _ (λ b h. and-false (f (some b)))))
 
 -- where only what was heard is a first part, nothing else needs to be looked at
-all_firsts : (w : ℕ) (f : List ℕ) (v : ℕ) (r : ℕ → Bool) (S : Pairs) → Passing v r S → Words w f (λ b. (ltb b v && r b) && any_next v (S b)) → Words w f (λ b. ltb b v && any_next v (S b))
+all_firsts : (w : ℕ) (f : List ℕ) (v : ℕ) (r : ℕ → Bool) (S : Pairs) → Passing v r S → RowOf w f (λ b. (ltb b v && r b) && any_next v (S b)) → RowOf w f (λ b. ltb b v && any_next v (S b))
 unfolding any_next
-all_firsts w f v r S p h = record { size = h.size; bits = λ b l. h.bits b l ∙ at b (dec_lt b v) (r b) refl }
+all_firsts w f v r S p h b l = h b l ∙ at b (dec_lt b v) (r b) refl
   where
     none-at : (b : ℕ) → b < v → r b ≡ false → any_next v (S b) ≡ false
     none-at b l e = ap₂ ◌||◌ (p b none l tt e) (none_any v (λ c. S b (some c)) (λ c g. p b (some c) l g e))
@@ -309,7 +226,7 @@ all_firsts w f v r S p h = record { size = h.size; bits = λ b l. h.bits b l ∙
     at b (yes l) false e = ap (λ (u : Bool). (ltb b v && r b) && u) (none-at b l e) ∙ and-false (ltb b v && r b) ∙ sym (ap (λ (u : Bool). ltb b v && u) (none-at b l e) ∙ and-false (ltb b v))
     at b (no n) u e = let g : v ≤ b = omega arith in rw (le-ltb b v g)
 
-pub every_verdict : (w : ℕ) (f : List ℕ) (v v' : ℕ) (g : ℕ → Bool) (S : Pairs) → v ≡ v' → v ≤ 64 * w → Words w f (λ b. ltb b v && any_next v (S b))
+pub every_verdict : (w : ℕ) (f : List ℕ) (v v' : ℕ) (g : ℕ → Bool) (S : Pairs) → v ≡ v' → v ≤ 64 * w → RowOf w f (λ b. ltb b v && any_next v (S b))
     → verdict_of (shows w f g true) (shows w f g false) ≡ pairs_verdict v' S g
 unfolding pairs_verdict any_pair
 every_verdict w f v v' g S e hv h =
@@ -318,11 +235,11 @@ every_verdict w f v v' g S e hv h =
     (shows-false w f v g (λ b. any_next v (S b)) hv h ∙ any_cong v _ _ (λ b l. next-and v (S b) (not (g b))))
     ∙ ap (λ (k : ℕ). pairs_verdict k S g) e
 
-pub firsts_verdict : (w : ℕ) (f : List ℕ) (v v' : ℕ) (g r : ℕ → Bool) (S : Pairs) → v ≡ v' → v ≤ 64 * w → Passing v' r S → Words w f (λ b. (ltb b v && r b) && any_next v (S b))
+pub firsts_verdict : (w : ℕ) (f : List ℕ) (v v' : ℕ) (g r : ℕ → Bool) (S : Pairs) → v ≡ v' → v ≤ 64 * w → Passing v' r S → RowOf w f (λ b. (ltb b v && r b) && any_next v (S b))
     → verdict_of (shows w f g true) (shows w f g false) ≡ pairs_verdict v' S g
 firsts_verdict w f v v' g r S e hv p h = every_verdict w f v v' g S e hv (all_firsts w f v r S (subst (λ (k : ℕ). Passing k r S) (sym e) p) h)
 
-pub ends-verdict : (w : ℕ) (f : List ℕ) (v v' : ℕ) (g : ℕ → Bool) (S : Pairs) → v ≡ v' → v ≤ 64 * w → Words w f (λ b. ltb b v && S b none)
+pub ends-verdict : (w : ℕ) (f : List ℕ) (v v' : ℕ) (g : ℕ → Bool) (S : Pairs) → v ≡ v' → v ≤ 64 * w → RowOf w f (λ b. ltb b v && S b none)
     → verdict_of (shows w f g true) (shows w f g false) ≡ ends_verdict v' S g
 unfolding ends_verdict
 ends-verdict w f v v' g S e hv h =
@@ -336,11 +253,11 @@ pub record Narrowed (m n set j word k : ℕ) : Type 0 where
   pub lanes : (i : ℕ) → i < 64 → bit i word ≡ all_named m k set (64 * j + i)
 
 -- one output more: it has to be true if the set names it
-in_set : (m k set v : ℕ) → set / 2 ^ k % 2 ≡ 1 → (all_named m k set v && bit (m + k) v) ≡ all_named m (k + 1) set v
+in_set : (m k set v : ℕ) → bit k set ≡ true → (all_named m k set v && bit (m + k) v) ≡ all_named m (k + 1) set v
 unfolding all_named bit digit
 in_set m k set v e =
     let f : ℕ → Bool = λ i. named set i && not (bit (m + i) v) in
-    both (named set k) (bit (m + k) v) (any_below k f) (eq-eqb _ _ e) ∙ sym (ap not (any_one k f))
+    both (named set k) (bit (m + k) v) (any_below k f) e ∙ sym (ap not (any_one k f))
   where
     both : (u x r : Bool) → u ≡ true → (not r && x) ≡ not ((u && not x) || r)
     both true true true q = refl
@@ -349,11 +266,11 @@ in_set m k set v e =
     both true false false q = refl
     both false x r q = absurd (true≢false (sym q))
 
-out_of_set : (m k set v : ℕ) → (set / 2 ^ k % 2 ≡ 1 → ⊥) → all_named m k set v ≡ all_named m (k + 1) set v
+out_of_set : (m k set v : ℕ) → bit k set ≡ false → all_named m k set v ≡ all_named m (k + 1) set v
 unfolding all_named bit digit
 out_of_set m k set v e =
     let f : ℕ → Bool = λ i. named set i && not (bit (m + i) v) in
-    sym (ap not (any_one k f ∙ ap (λ (u : Bool). (u && not (bit (m + k) v)) || any_below k f) (ne_eqb _ _ e)))
+    sym (ap not (any_one k f ∙ ap (λ (u : Bool). (u && not (bit (m + k) v)) || any_below k f) e))
 
 module _ (m n set j : ℕ) where
   pub narrowed_none : (word : ℕ) → ((i : ℕ) → i < 64 → bit i word ≡ true) → Narrowed m n set j word 0
@@ -361,13 +278,13 @@ module _ (m n set j : ℕ) where
   narrowed_none word e = record { within = omega arith; lanes = e }
 
   module _ (word word' k : ℕ) (h : k < n) (p : Narrowed m n set j word k) where
-    pub narrowed-more : set / 2 ^ k % 2 ≡ 1 → ((i : ℕ) → i < 64 → bit i word' ≡ (bit i word && bit (m + k) (64 * j + i))) → Narrowed m n set j word' (k + 1)
+    pub narrowed-more : bit k set ≡ true → ((i : ℕ) → i < 64 → bit i word' ≡ (bit i word && bit (m + k) (64 * j + i))) → Narrowed m n set j word' (k + 1)
     narrowed-more e f = record {
       within = omega arith;
       lanes = λ i l. f i l ∙ ap (λ (u : Bool). u && bit (m + k) (64 * j + i)) (p.lanes i l) ∙ in_set m k set (64 * j + i) e;
     }
 
-    pub narrowed-same : (set / 2 ^ k % 2 ≡ 1 → ⊥) → word' ≡ word → Narrowed m n set j word' (k + 1)
+    pub narrowed-same : bit k set ≡ false → word' ≡ word → Narrowed m n set j word' (k + 1)
     narrowed-same e q = record { within = omega arith; lanes = λ i l. ap (bit i) q ∙ p.lanes i l ∙ out_of_set m k set (64 * j + i) e }
 
   pub narrowed-all : (word k : ℕ) → n ≤ k → Narrowed m n set j word k → (i : ℕ) → i < 64 → bit i word ≡ all_named m n set (64 * j + i)
@@ -377,7 +294,7 @@ module _ (m n set j : ℕ) where
 
 -- ---- the outputs, one after the other
 
-pub record Telling (n : ℕ) (f : ℕ → Verdict) (vs : List Told) (k : ℕ) : Type 0 where
+pub record Telling (n : ℕ) (f : ℕ → Verdict) (vs : List Verdict) (k : ℕ) : Type 0 where
   pub within : k ≤ n
   pub size : length vs ≡ 7
   pub each : (j : ℕ) → j < k → told_at vs j ≡ f j
@@ -388,22 +305,22 @@ untold-at zero k = refl
 untold-at (suc n) zero = refl
 untold-at (suc n) (suc k) = untold-at n k
 
-pub telling_none : (n : ℕ) (f : ℕ → Verdict) (vs : List Told) → vs ≡ replicate 7 untold → Telling n f vs 0
+pub telling_none : (n : ℕ) (f : ℕ → Verdict) (vs : List Verdict) → vs ≡ replicate 7 untold → Telling n f vs 0
 telling_none n f vs e = rw e (record { within = omega arith; size = refl; each = λ j h. absurd (omega arith); beyond = λ j h. untold-at 7 j })
 
-pub telling_more : (n : ℕ) (f : ℕ → Verdict) (vs : List Told) (k : ℕ) (t : Told) → k < n → n ≤ 7 → Telling n f vs k → t.verdict ≡ f k → Telling n f (set vs k t) (k + 1)
+pub telling_more : (n : ℕ) (f : ℕ → Verdict) (vs : List Verdict) (k : ℕ) (t : Verdict) → k < n → n ≤ 7 → Telling n f vs k → t ≡ f k → Telling n f (set vs k t) (k + 1)
 telling_more n f vs k t h l p e = record {
   within = omega arith;
   size = length-set vs k t ∙ p.size;
-  each = below_more (λ (j : ℕ). told_at (set vs k t) j ≡ f j) k (λ j g. other j (omega arith) ∙ p.each j g) (ap (λ (u : Told). u.verdict) (get_or-set_same vs k t untold (omega (arith, p.size))) ∙ e);
+  each = below_more (λ (j : ℕ). told_at (set vs k t) j ≡ f j) k (λ j g. other j (omega arith) ∙ p.each j g) (get_or-set_same vs k t untold (omega (arith, p.size)) ∙ e);
   beyond = λ j g. other j (omega arith) ∙ p.beyond j (omega arith);
 }
   where
     other : (j : ℕ) → (j ≡ k → ⊥) → told_at (set vs k t) j ≡ told_at vs j
-    other j q = ap (λ (u : Told). u.verdict) (get_or-set_other vs k j t untold q)
+    other j q = get_or-set_other vs k j t untold q
 
-pub telling_all : (n : ℕ) (f : ℕ → Verdict) (vs : List Told) (k : ℕ) → n ≤ k → Telling n f vs k → Verdicts n f vs
+pub telling_all : (n : ℕ) (f : ℕ → Verdict) (vs : List Verdict) (k : ℕ) → n ≤ k → Telling n f vs k → Verdicts n f vs
 telling_all n f vs k h p = record { size = p.size; each = λ j g. p.each j (omega arith); beyond = λ j g. p.beyond j (omega (arith, p.within)) }
 
-pub verdicts_as : (n : ℕ) (f g : ℕ → Verdict) (vs : List Told) → ((k : ℕ) → k < n → f k ≡ g k) → Verdicts n f vs → Verdicts n g vs
+pub verdicts_as : (n : ℕ) (f g : ℕ → Verdict) (vs : List Verdict) → ((k : ℕ) → k < n → f k ≡ g k) → Verdicts n f vs → Verdicts n g vs
 verdicts_as n f g vs e t = record { size = t.size; each = λ k h. t.each k h ∙ e k h; beyond = t.beyond }

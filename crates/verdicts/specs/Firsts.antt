@@ -1,5 +1,5 @@
 -- For the contracts of inner functions: valuations as the bits of words, and the verdicts read off them.
-use Rattle.std.specs.Prelude.{◌≡◌, Bool, false, not, ◌&&◌, List, ℕ, ◌+◌, ◌*◌, ◌<◌, length}
+use Rattle.std.specs.Prelude.{◌≡◌, Bool, false, not, ◌&&◌, List, ℕ, ◌+◌, ◌*◌, ◌<◌}
 use Rattle.std.specs.Bool.{beq}
 use Rattle.std.proofs.Math.Option.{Option}
 use Rattle.words.specs.Below.{any_below}
@@ -13,10 +13,9 @@ use Rattle.pairs.specs.Changes.{row_bit}
 abbrev pub Passing : ℕ → (ℕ → Bool) → Pairs → Type 0
 Passing w r S = (b : ℕ) (c : Option ℕ) → b < w → Within w c → r b ≡ false → S b c ≡ false
 
--- the first w of four words have the valuations that pass the test
-pub record Words (w : ℕ) (f : List ℕ) (g : ℕ → Bool) : Type 0 where
-  pub size : length f ≡ 4
-  pub bits : (b : ℕ) → b < 64 * w → row_bit f 0 b ≡ g b
+-- what is answered of a lane is whether it passes the test
+abbrev pub Decides : (ℕ → Bool → Type 0) → (ℕ → Bool) → Type 0
+Decides answer g = (i : ℕ) → i < 64 → (v : Bool) → answer i v → v ≡ g i
 
 -- the test g gives v for some valuation of the first w words
 unfoldable pub shows : ℕ → List ℕ → (ℕ → Bool) → Bool → Bool

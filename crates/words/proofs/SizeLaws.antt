@@ -1,11 +1,11 @@
 -- The number of valuations, and the words of a row that they take.
-use mathlib.Core.Path.{◌≡◌, refl, ap}
+use mathlib.Core.Path.{◌≡◌, sym, ap, subst}
 use Prim.Native.Nat.{ℕ, ◌+◌, ◌*◌, ◌/◌, ◌%◌, ◌^◌, ◌≤◌, ◌<◌}
 use native.Mathlib.Omega.{arith}
 use native.Mathlib.Decide.{ℕ_discrete, dec_lt}
 use lib.Pow.{pow_pos, pow_mono}
 use Rattle.words.specs.declared.Size.{Size}
-use Rattle.words.specs.Sizes.{Wide, size_of, Sized}
+use Rattle.words.specs.Sizes.{Wide, SizedBy}
 use Rattle.words.proofs.BitLaws.{one_shl}
 
 pub two_to : (k : ℕ) → k ≤ 8 → (1 * 2 ^ k % 2 ^ 64 ≡ 2 ^ k) × (1 * 2 ^ k % 2 ^ 64 ≤ 256)
@@ -29,12 +29,17 @@ wide k v h e = go (dec_lt k 7) (ℕ_discrete k 7)
     go (no l) (yes d) = two (ap (λ (i : ℕ). 2 ^ i) d)
     go (no l) (no d) = let q : k ≡ 8 = omega arith in four (ap (λ (i : ℕ). 2 ^ i) q)
 
-pub sized : (m n : ℕ) → m + n ≤ 8 → Sized (size_of m n)
-sized m n h = record { streams = h; power = refl; some_valuation = pow_pos (m + n); most_valuations = pow_mono h; wide = wide (m + n) (2 ^ (m + n)) h refl }
+-- the size of a sheet, with the number of valuations as the code has it
+pub sized_by : (m n v w : ℕ) → m + n ≤ 8 → v ≡ 2 ^ (m + n) → w ≡ (v + 63) / 64 → SizedBy m n v w
+sized_by m n v w h e f =
+    let low : 2 ^ (m + n) ≤ 2 ^ 8 = pow_mono h in
+    record {
+      streams = h;
+      power = e;
+      some_valuation = omega (arith, e, pow_pos (m + n));
+      most_valuations = omega (arith, e, low);
+      wide = subst (λ (u : ℕ). Wide v u) (sym f) (subst (λ (k : ℕ). Wide k ((v + 63) / 64)) (sym e) (wide (m + n) v h e));
+    }
 
--- with the number of valuations as the code has it
-pub size_is : (m n v : ℕ) → v ≡ 2 ^ (m + n) → ◌≡◌ {A = Size} (record { inputs = m; outputs = n; valuations = v; words = (v + 63) / 64 }) (size_of m n)
-size_is m n v e = ap (λ (k : ℕ). record { inputs = m; outputs = n; valuations = k; words = (k + 63) / 64 }) e
-
-pub sized-under : (z : Size) → Sized z → 2 ^ (z.inputs + z.outputs) ≤ 64 * z.words
-sized-under z h = omega (arith, h.power, h.wide.under)
+pub sized-under : (z : Size) → 2 ^ (z.inputs + z.outputs) ≤ 64 * z.words
+sized-under z = omega (arith, z.sized.power, z.sized.wide.under)

@@ -1,6 +1,5 @@
 -- For the contracts of inner functions: how many valuations a sheet has, and the words of a row that they take.
 use Rattle.std.specs.Prelude.{◌≡◌, ℕ, ◌+◌, ◌*◌, ◌/◌, ◌^◌, ◌<◌, ◌≤◌}
-use Rattle.words.specs.declared.Size.{Size}
 
 -- w is the number of words that v valuations take: one, two or four
 pub record Wide (v w : ℕ) : Type 0 where
@@ -11,14 +10,10 @@ pub record Wide (v w : ℕ) : Type 0 where
   pub under : v ≤ 64 * w
   pub full : 1 < w → v ≡ 64 * w
 
--- the size of a sheet with m inputs and n outputs
-abbrev pub size_of : ℕ → ℕ → Size
-size_of m n = record { inputs = m; outputs = n; valuations = 2 ^ (m + n); words = (2 ^ (m + n) + 63) / 64 }
-
--- the size of some sheet
-pub record Sized (z : Size) : Type 0 where
-  pub streams : z.inputs + z.outputs ≤ 8
-  pub power : z.valuations ≡ 2 ^ (z.inputs + z.outputs)
-  pub some_valuation : 1 ≤ z.valuations
-  pub most_valuations : z.valuations ≤ 256
-  pub wide : Wide z.valuations z.words
+-- The size of a sheet of m inputs and n outputs: v valuations, w words to a row.
+pub record SizedBy (m n v w : ℕ) : Type 0 where
+  pub streams : m + n ≤ 8
+  pub power : v ≡ 2 ^ (m + n)
+  pub some_valuation : 1 ≤ v
+  pub most_valuations : v ≤ 256
+  pub wide : Wide v w

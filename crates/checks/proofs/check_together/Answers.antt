@@ -1,12 +1,15 @@
 -- `checks::check_together` meets its contract.
+use Rattle.std.proofs.lemmas.Result.{err_from_is_err_and}
 use Rattle.outcomes.proofs.Decisions.{decided-refused, decided-accepted}
 use Rattle.checks.specs.JournalChecks.{journal_rules, named_rules}
 use Rattle.checks.proofs.check_together.Goals as goal
 
-pub returns-in-Refused : goal.returns-in-Refused
-returns-in-Refused c =
-    decided-refused (journal_rules _ _ c.args.r) (named_rules _ c.args.r _) _ (rw c.in-Refused.is at c.check_journal-outcome.ensures)
+pub returns-in_err-check_journal : goal.returns-in_err-check_journal
+returns-in_err-check_journal c =
+    let p = err_from_is_err_and c.from_residual.result c.from_residual.ensures.1 in
+    rw (p.1, p.2)
+    (decided-refused (journal_rules _ _ c.args.r) (named_rules _ c.args.r _) _ (rw c.in_err-check_journal.was at c.check_journal.ensures))
 
-pub returns-in-Accepted : goal.returns-in-Accepted
-returns-in-Accepted c =
-    decided-accepted (journal_rules _ _ c.args.r) (named_rules _ c.args.r _) _ (rw c.in-Accepted.is at c.check_journal-outcome.ensures) c.check_named.ensures
+pub returns : goal.returns
+returns c =
+    decided-accepted (journal_rules _ _ c.args.r) (named_rules _ c.args.r _) _ (rw c.in_ok-check_journal.was at c.check_journal.ensures) c.check_named.ensures

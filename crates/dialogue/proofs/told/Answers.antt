@@ -1,8 +1,6 @@
--- `dialogue::told` meets its contract.
-use mathlib.Core.Path.{refl}
+-- The bytes that a write took have gone out.
 use Rattle.dialogue.proofs.Talking.{told_more}
 use Rattle.dialogue.proofs.told.Goals as goal
 
-pub returns : goal.returns
-returns c =
-    record { told = (λ x t out sheet h talks. told_more sheet x _ t out h _ c.requires talks); left = (refl, refl, refl, refl) }
+pub returns-clause-told : goal.returns-clause-told
+returns-clause-told c = λ t out sheet h talks. told_more sheet _ t out h _ c.requires talks

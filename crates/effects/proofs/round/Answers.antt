@@ -1,13 +1,17 @@
 -- `effects::round` meets its contract.
-use mathlib.Core.Path.{refl}
+use Rattle.std.proofs.Common.{◌≡◌, refl, rules}
 use Rattle.sheet.specs.RuleSheet.{required_of}
-use Rattle.effects.proofs.Done.{heard-firsts, round-done}
+use Rattle.pairs.proofs.Front.{front}
+use Rattle.effects.proofs.Done.{round-front}
 use Rattle.effects.proofs.round.Goals as goal
 
 pub returns : goal.returns
 returns c =
-    let d = c.step.ensures (required_of c.args.x.assumed) in (
+    let x = c.args.x.now in
+    let z = c.of-equations.ensures in
+    let e : c.unwrap-words.result.now ≡ front c.args.storage.now = search rules in (
       refl,
-      round-done c.args.x c.requires.0 c.args.storage.now c.step.new.storage c.args.r c.args.letters c.repeated-heard.result _ c.repeated-heard.ensures d
-          (c.round_verdicts-verdicts.ensures (heard-firsts c.args.x c.requires.0 c.args.storage.now c.step.new.storage c.args.r.rounds c.repeated-heard.result d)) c.with_round-next.ensures.0 c.with_round-next.ensures.1 c.with_round-next.ensures.2,
+      round-front x c.of-equations.result z.size.0 z.size.1 z.code.0 z.code.1 c.args.storage.now c.step.new.words _ c.args.r c.args.letters c.repeated-heard.result _
+          refl c.step.array_long c.requires.0 c.repeated-heard.ensures (rw e at (c.step.ensures (required_of x.assumed))) c.round_verdicts-verdicts.ensures
+          c.with_round.ensures.0 c.with_round.ensures.1 c.with_round.ensures.2,
     )

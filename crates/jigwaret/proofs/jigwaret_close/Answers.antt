@@ -34,18 +34,18 @@ store-requires c =
 
 pub bounds-sheet-6 : goal.bounds-sheet-6
 bounds-sheet-6 c =
-    let long = sheet-long c.args.sheet.now (closing_rules (outputs_of c.args.sheet.now) (length c.args.storage.now) c.load-before.result) (rw c.in-Accepted.is at c.close-a.ensures.decided) in
+    let long = sheet-long c.args.sheet.now (closing_rules (outputs_of c.args.sheet.now) (length c.args.storage.now) c.load-before.result) (rw c.in-Ok.is at c.close-a.ensures.decided) in
     omega (arith, long)
 
 pub overflow_cast-n : goal.overflow_cast-n
 overflow_cast-n c =
-    let few = few-outputs c.args.sheet.now _ (rw c.in-Accepted.is at c.close-a.ensures.result) in
+    let few = few-outputs c.args.sheet.now _ (rw c.in-Ok.is at c.close-a.ensures.result) in
     omega (arith, few)
 
 pub put_verdicts-requires : goal.put_verdicts-requires
 put_verdicts-requires c =
     let fits = sizes_tested c.args.record.now c.args.answer.now c.sized.result c.sized.ensures (ap not c.if-not-sized.false) in
-    let few = few-outputs c.args.sheet.now _ (rw c.in-Accepted.is at c.close-a.ensures.result) in
+    let few = few-outputs c.args.sheet.now _ (rw c.in-Ok.is at c.close-a.ensures.result) in
     (omega (arith, few), omega (arith, few, fits.sixteen))
 
 pub slice_bounds-put_numbers-end : goal.slice_bounds-put_numbers-end
@@ -56,31 +56,31 @@ slice_bounds-put_numbers-end c =
 pub put_numbers-requires : goal.put_numbers-requires
 put_numbers-requires c =
     let fits = sizes_tested c.args.record.now c.args.answer.now c.sized.result c.sized.ensures (ap not c.if-not-sized.false) in
-    let few = few-outputs c.args.sheet.now _ (rw c.in-Accepted.is at c.close-a.ensures.result) in
+    let few = few-outputs c.args.sheet.now _ (rw c.in-Ok.is at c.close-a.ensures.result) in
     let seven-shares : length c.close-a.result.shares ≡ 7 = search rules in
     let n = outputs_of c.args.sheet.now in
-    let same = front_size n c.args.answer.now c.put_verdicts.new.into (verdict_numbers c.close-a.result.verdicts n) (omega (arith, few, fits.sixteen)) (omega (arith, numbers-size c.close-a.result.verdicts n (omega (arith, few, (rw c.in-Accepted.is at c.close-a.ensures.result).2.verdicts.size)))) c.put_verdicts.ensures in
+    let same = front_size n c.args.answer.now c.put_verdicts.new.into (verdict_numbers c.close-a.result.verdicts n) (omega (arith, few, fits.sixteen)) (omega (arith, numbers-size c.close-a.result.verdicts n (omega (arith, few, (rw c.in-Ok.is at c.close-a.ensures.result).2.verdicts.size)))) c.put_verdicts.ensures in
     (omega (arith, few, seven-shares), omega (arith, few, fits.sixteen, same))
 
-pub returns-in-Refused : goal.returns-in-Refused
-returns-in-Refused c =
+pub returns-in-Err : goal.returns-in-Err
+returns-in-Err c =
     let fits = sizes_tested c.args.record.now c.args.answer.now c.sized.result c.sized.ensures (ap not c.if-not-sized.false) in
     let z = slices c.args.record.now c.args.record.now c.args.answer.now c.args.answer.now in
     let n = outputs_of c.args.sheet.now in
-    sizes-right (ByMark (marked c.args.record.now) (ClosingNumbered c.args.sheet.now c.args.storage.now z c.refusal_number.result) (MarkRefused c.args.sheet.now c.args.storage.now c.args.storage.now z c.refusal_number.result)) c.args.storage.now c.args.storage.now z c.refusal_number.result fits
-    (closing-by-mark c.args.sheet.now c.args.storage.now z c.refusal_number.result c.close-a.result
+    sizes-right (ByMark (marked c.args.record.now) (ClosingNumbered c.args.sheet.now c.args.storage.now z c.from.result) (MarkRefused c.args.sheet.now c.args.storage.now c.args.storage.now z c.from.result)) c.args.storage.now c.args.storage.now z c.from.result fits
+    (closing-by-mark c.args.sheet.now c.args.storage.now z c.from.result c.close-a.result
     (subst (λ (q : JournalRecord). CloseCall c.args.sheet.now c.args.storage.now q c.close-a.result) c.load-before.ensures c.close-a.ensures)
-    (number_of c.close-a.result.outcome _ c.refusal_number.result c.in-Refused.is c.refusal_number.ensures)
-    (not_written (numbers_of c.close-a.result.record) (paste (paste c.args.answer.now 0 (verdict_numbers c.close-a.result.verdicts n) n) n c.close-a.result.shares n) z c.close-a.result.outcome _ c.in-Refused.is refl refl))
+    (number_of c.close-a.result.outcome _ c.from.result c.in-Err.is c.from.ensures)
+    (not_written (numbers_of c.close-a.result.record) (paste (paste c.args.answer.now 0 (verdict_numbers c.close-a.result.verdicts n) n) n c.close-a.result.shares n) z c.close-a.result.outcome _ c.in-Err.is refl refl))
 
-pub returns-in-Accepted : goal.returns-in-Accepted
-returns-in-Accepted c =
+pub returns-in-Ok : goal.returns-in-Ok
+returns-in-Ok c =
     let fits = sizes_tested c.args.record.now c.args.answer.now c.sized.result c.sized.ensures (ap not c.if-not-sized.false) in
     let n = outputs_of c.args.sheet.now in
     let z = slices c.args.record.now c.store.new.ns c.args.answer.now c.put_numbers.new.into in
     sizes-right (ByMark (marked c.args.record.now) (ClosingNumbered c.args.sheet.now c.args.storage.now z 0) (MarkRefused c.args.sheet.now c.args.storage.now c.args.storage.now z 0)) c.args.storage.now c.args.storage.now z 0 fits
     (closing-by-mark c.args.sheet.now c.args.storage.now z 0 c.close-a.result
     (subst (λ (q : JournalRecord). CloseCall c.args.sheet.now c.args.storage.now q c.close-a.result) c.load-before.ensures c.close-a.ensures)
-    (sym (ap outcome_no c.in-Accepted.is))
-    (written (numbers_of c.close-a.result.record) (paste (paste c.args.answer.now 0 (verdict_numbers c.close-a.result.verdicts n) n) n c.close-a.result.shares n) z c.close-a.result.outcome c.in-Accepted.is c.store.ensures
+    (sym (ap outcome_no c.in-Ok.is))
+    (written (numbers_of c.close-a.result.record) (paste (paste c.args.answer.now 0 (verdict_numbers c.close-a.result.verdicts n) n) n c.close-a.result.shares n) z c.close-a.result.outcome c.in-Ok.is c.store.ensures
     (put_behind n c.args.answer.now c.put_verdicts.new.into c.put_numbers.new.into (verdict_numbers c.close-a.result.verdicts n) c.close-a.result.shares c.put_verdicts.ensures c.put_numbers.ensures)))

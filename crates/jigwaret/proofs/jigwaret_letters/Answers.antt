@@ -2,8 +2,8 @@
 use Rattle.jigwaret.proofs.JournalLaws.{set-kept, set-written}
 use Rattle.jigwaret.proofs.jigwaret_letters.Goals as goal
 
-pub returns-in-Refused : goal.returns-in-Refused
-returns-in-Refused c = set-kept _ _ _ _ _ c.from_masks-made.ensures _ _ c.in-Refused.is c.refusal_number.ensures
+pub returns-in-Err : goal.returns-in-Err
+returns-in-Err c = set-kept _ _ _ _ _ _ c.in-Err.ensures c.from.ensures
 
-pub returns-in-Accepted : goal.returns-in-Accepted
-returns-in-Accepted c = set-written _ _ _ _ _ c.from_masks-made.ensures c.in-Accepted.is
+pub returns-in-Ok : goal.returns-in-Ok
+returns-in-Ok c = set-written _ _ _ _ _ c.in-Ok.ensures

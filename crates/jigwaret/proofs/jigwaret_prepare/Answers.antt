@@ -33,26 +33,26 @@ bounds-answer-1 c =
     let fits = sizes_tested c.args.record.now c.args.answer.now c.sized.result c.sized.ensures (ap not c.if-not-sized.false) in
     Below-set ℕ c.args.answer.now _ 0 _ (omega (arith, fits.sixteen))
 
-pub returns-in-Refused : goal.returns-in-Refused
-returns-in-Refused c =
+pub returns-in-Err : goal.returns-in-Err
+returns-in-Err c =
     let fits = sizes_tested c.args.record.now c.args.answer.now c.sized.result c.sized.ensures (ap not c.if-not-sized.false) in
     let z = slices c.args.record.now c.args.record.now c.args.answer.now c.args.answer.now in
-    sizes-right (PreparationNumbered c.args.sheet.now c.args.storage.now c.prepare-a.new.storage z c.refusal_number.result) c.args.storage.now c.prepare-a.new.storage z c.refusal_number.result fits
+    sizes-right (PreparationNumbered c.args.sheet.now c.args.storage.now c.prepare-a.new.storage z c.from.result) c.args.storage.now c.prepare-a.new.storage z c.from.result fits
     (record {
       answer = c.prepare-a.result;
       result = c.prepare-a.ensures;
-      number = number_of c.prepare-a.result.outcome _ c.refusal_number.result c.in-Refused.is c.refusal_number.ensures;
-      written = not_written (numbers_of c.prepare-a.result.record) (paste c.args.answer.now 0 (c.prepare-a.result.live ∷ c.prepare-a.result.reach ∷ []) 2) z c.prepare-a.result.outcome _ c.in-Refused.is refl refl;
+      number = number_of c.prepare-a.result.outcome _ c.from.result c.in-Err.is c.from.ensures;
+      written = not_written (numbers_of c.prepare-a.result.record) (paste c.args.answer.now 0 (c.prepare-a.result.live ∷ c.prepare-a.result.reach ∷ []) 2) z c.prepare-a.result.outcome _ c.in-Err.is refl refl;
     })
 
-pub returns-in-Accepted : goal.returns-in-Accepted
-returns-in-Accepted c =
+pub returns-in-Ok : goal.returns-in-Ok
+returns-in-Ok c =
     let fits = sizes_tested c.args.record.now c.args.answer.now c.sized.result c.sized.ensures (ap not c.if-not-sized.false) in
     let z = slices c.args.record.now c.store.new.ns c.args.answer.now (set (set c.args.answer.now 0 c.prepare-a.result.live) 1 c.prepare-a.result.reach) in
     sizes-right (PreparationNumbered c.args.sheet.now c.args.storage.now c.prepare-a.new.storage z 0) c.args.storage.now c.prepare-a.new.storage z 0 fits
     (record {
       answer = c.prepare-a.result;
       result = c.prepare-a.ensures;
-      number = sym (ap outcome_no c.in-Accepted.is);
-      written = written (numbers_of c.prepare-a.result.record) (paste c.args.answer.now 0 (c.prepare-a.result.live ∷ c.prepare-a.result.reach ∷ []) 2) z c.prepare-a.result.outcome c.in-Accepted.is c.store.ensures (set_two c.args.answer.now c.prepare-a.result.live c.prepare-a.result.reach (omega (arith, fits.sixteen)));
+      number = sym (ap outcome_no c.in-Ok.is);
+      written = written (numbers_of c.prepare-a.result.record) (paste c.args.answer.now 0 (c.prepare-a.result.live ∷ c.prepare-a.result.reach ∷ []) 2) z c.prepare-a.result.outcome c.in-Ok.is c.store.ensures (set_two c.args.answer.now c.prepare-a.result.live c.prepare-a.result.reach (omega (arith, fits.sixteen)));
     })

@@ -33,36 +33,36 @@ store-requires c =
 
 pub bounds-sheet-6 : goal.bounds-sheet-6
 bounds-sheet-6 c =
-    let long = sheet-long c.args.sheet.now (round_rules (inputs_of c.args.sheet.now) (outputs_of c.args.sheet.now) (length c.args.storage.now) c.load-before.result c.args.letters) (rw c.in-Accepted.is at c.round-a.ensures.decided) in
+    let long = sheet-long c.args.sheet.now (round_rules (inputs_of c.args.sheet.now) (outputs_of c.args.sheet.now) (length c.args.storage.now) c.load-before.result c.args.letters) (rw c.in-Ok.is at c.round-a.ensures.decided) in
     omega (arith, long)
 
 pub overflow_cast-sheet : goal.overflow_cast-sheet
 overflow_cast-sheet c =
-    let few = few-outputs c.args.sheet.now _ (rw c.in-Accepted.is at c.round-a.ensures.result) in
+    let few = few-outputs c.args.sheet.now _ (rw c.in-Ok.is at c.round-a.ensures.result) in
     omega (arith, few)
 
 pub put_verdicts-requires : goal.put_verdicts-requires
 put_verdicts-requires c =
     let fits = sizes_tested c.args.record.now c.args.answer.now c.sized.result c.sized.ensures (ap not c.if-not-sized.false) in
-    let few = few-outputs c.args.sheet.now _ (rw c.in-Accepted.is at c.round-a.ensures.result) in
+    let few = few-outputs c.args.sheet.now _ (rw c.in-Ok.is at c.round-a.ensures.result) in
     (omega (arith, few), omega (arith, few, fits.sixteen))
 
-pub returns-in-Refused : goal.returns-in-Refused
-returns-in-Refused c =
+pub returns-in-Err : goal.returns-in-Err
+returns-in-Err c =
     let fits = sizes_tested c.args.record.now c.args.answer.now c.sized.result c.sized.ensures (ap not c.if-not-sized.false) in
     let z = slices c.args.record.now c.args.record.now c.args.answer.now c.args.answer.now in
-    sizes-right (ByMark (marked c.args.record.now) (RoundNumbered c.args.sheet.now c.args.storage.now c.round-a.new.storage c.args.letters z c.refusal_number.result) (MarkRefused c.args.sheet.now c.args.storage.now c.round-a.new.storage z c.refusal_number.result)) c.args.storage.now c.round-a.new.storage z c.refusal_number.result fits
-    (round-by-mark c.args.sheet.now c.args.storage.now c.round-a.new.storage z c.refusal_number.result c.args.letters c.round-a.result
+    sizes-right (ByMark (marked c.args.record.now) (RoundNumbered c.args.sheet.now c.args.storage.now c.round-a.new.storage c.args.letters z c.from.result) (MarkRefused c.args.sheet.now c.args.storage.now c.round-a.new.storage z c.from.result)) c.args.storage.now c.round-a.new.storage z c.from.result fits
+    (round-by-mark c.args.sheet.now c.args.storage.now c.round-a.new.storage z c.from.result c.args.letters c.round-a.result
     (subst (λ (q : JournalRecord). RoundCall c.args.sheet.now c.args.storage.now c.round-a.new.storage q c.args.letters c.round-a.result) c.load-before.ensures c.round-a.ensures)
-    (number_of c.round-a.result.outcome _ c.refusal_number.result c.in-Refused.is c.refusal_number.ensures)
-    (not_written (numbers_of c.round-a.result.record) (paste c.args.answer.now 0 (verdict_numbers c.round-a.result.verdicts (outputs_of c.args.sheet.now)) (outputs_of c.args.sheet.now)) z c.round-a.result.outcome _ c.in-Refused.is refl refl))
+    (number_of c.round-a.result.outcome _ c.from.result c.in-Err.is c.from.ensures)
+    (not_written (numbers_of c.round-a.result.record) (paste c.args.answer.now 0 (verdict_numbers c.round-a.result.verdicts (outputs_of c.args.sheet.now)) (outputs_of c.args.sheet.now)) z c.round-a.result.outcome _ c.in-Err.is refl refl))
 
-pub returns-in-Accepted : goal.returns-in-Accepted
-returns-in-Accepted c =
+pub returns-in-Ok : goal.returns-in-Ok
+returns-in-Ok c =
     let fits = sizes_tested c.args.record.now c.args.answer.now c.sized.result c.sized.ensures (ap not c.if-not-sized.false) in
     let z = slices c.args.record.now c.store.new.ns c.args.answer.now c.put_verdicts.new.into in
     sizes-right (ByMark (marked c.args.record.now) (RoundNumbered c.args.sheet.now c.args.storage.now c.round-a.new.storage c.args.letters z 0) (MarkRefused c.args.sheet.now c.args.storage.now c.round-a.new.storage z 0)) c.args.storage.now c.round-a.new.storage z 0 fits
     (round-by-mark c.args.sheet.now c.args.storage.now c.round-a.new.storage z 0 c.args.letters c.round-a.result
     (subst (λ (q : JournalRecord). RoundCall c.args.sheet.now c.args.storage.now c.round-a.new.storage q c.args.letters c.round-a.result) c.load-before.ensures c.round-a.ensures)
-    (sym (ap outcome_no c.in-Accepted.is))
-    (written (numbers_of c.round-a.result.record) (paste c.args.answer.now 0 (verdict_numbers c.round-a.result.verdicts (outputs_of c.args.sheet.now)) (outputs_of c.args.sheet.now)) z c.round-a.result.outcome c.in-Accepted.is c.store.ensures c.put_verdicts.ensures))
+    (sym (ap outcome_no c.in-Ok.is))
+    (written (numbers_of c.round-a.result.record) (paste c.args.answer.now 0 (verdict_numbers c.round-a.result.verdicts (outputs_of c.args.sheet.now)) (outputs_of c.args.sheet.now)) z c.round-a.result.outcome c.in-Ok.is c.store.ensures c.put_verdicts.ensures))

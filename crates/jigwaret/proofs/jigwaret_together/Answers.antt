@@ -31,23 +31,23 @@ bounds-answer-0 c =
     let fits = sizes_tested c.args.record.now c.args.answer.now c.sized.result c.sized.ensures (ap not c.if-not-sized.false) in
     omega (arith, fits.sixteen)
 
-pub returns-in-Refused : goal.returns-in-Refused
-returns-in-Refused c =
+pub returns-in-Err : goal.returns-in-Err
+returns-in-Err c =
     let fits = sizes_tested c.args.record.now c.args.answer.now c.sized.result c.sized.ensures (ap not c.if-not-sized.false) in
     let z = slices c.args.record.now c.args.record.now c.args.answer.now c.args.answer.now in
-    sizes-right (ByMark (marked c.args.record.now) (TogetherNumbered c.args.sheet.now c.args.storage.now c.args.outputs z c.refusal_number.result) (MarkRefused c.args.sheet.now c.args.storage.now c.args.storage.now z c.refusal_number.result)) c.args.storage.now c.args.storage.now z c.refusal_number.result fits
-    (together-by-mark c.args.sheet.now c.args.storage.now z c.refusal_number.result c.args.outputs c.together-a.result
+    sizes-right (ByMark (marked c.args.record.now) (TogetherNumbered c.args.sheet.now c.args.storage.now c.args.outputs z c.from-in-Err.result) (MarkRefused c.args.sheet.now c.args.storage.now c.args.storage.now z c.from-in-Err.result)) c.args.storage.now c.args.storage.now z c.from-in-Err.result fits
+    (together-by-mark c.args.sheet.now c.args.storage.now z c.from-in-Err.result c.args.outputs c.together-a.result
     (subst (λ (q : JournalRecord). TogetherCall c.args.sheet.now c.args.storage.now q c.args.outputs c.together-a.result) c.load-before.ensures c.together-a.ensures)
-    (number_of c.together-a.result.outcome _ c.refusal_number.result c.in-Refused.is c.refusal_number.ensures)
-    (not_written c.args.record.now (paste c.args.answer.now 0 (verdict_no c.together-a.result.verdict ∷ []) 1) z c.together-a.result.outcome _ c.in-Refused.is refl refl))
+    (number_of c.together-a.result.outcome _ c.from-in-Err.result c.in-Err.is c.from-in-Err.ensures)
+    (not_written c.args.record.now (paste c.args.answer.now 0 (verdict_no c.together-a.result.verdict ∷ []) 1) z c.together-a.result.outcome _ c.in-Err.is refl refl))
 
-pub returns-in-Accepted : goal.returns-in-Accepted
-returns-in-Accepted c =
+pub returns-in-Ok : goal.returns-in-Ok
+returns-in-Ok c =
     let fits = sizes_tested c.args.record.now c.args.answer.now c.sized.result c.sized.ensures (ap not c.if-not-sized.false) in
-    let z = slices c.args.record.now c.args.record.now c.args.answer.now (set c.args.answer.now 0 c.verdict_number.result) in
+    let z = slices c.args.record.now c.args.record.now c.args.answer.now (set c.args.answer.now 0 c.from.result) in
     sizes-right (ByMark (marked c.args.record.now) (TogetherNumbered c.args.sheet.now c.args.storage.now c.args.outputs z 0) (MarkRefused c.args.sheet.now c.args.storage.now c.args.storage.now z 0)) c.args.storage.now c.args.storage.now z 0 fits
     (together-by-mark c.args.sheet.now c.args.storage.now z 0 c.args.outputs c.together-a.result
     (subst (λ (q : JournalRecord). TogetherCall c.args.sheet.now c.args.storage.now q c.args.outputs c.together-a.result) c.load-before.ensures c.together-a.ensures)
-    (sym (ap outcome_no c.in-Accepted.is))
-    (written c.args.record.now (paste c.args.answer.now 0 (verdict_no c.together-a.result.verdict ∷ []) 1) z c.together-a.result.outcome c.in-Accepted.is refl
-    (ap (λ (n : ℕ). set c.args.answer.now 0 n) c.verdict_number.ensures ∙ set-one c.args.answer.now (verdict_no c.together-a.result.verdict) (omega (arith, fits.sixteen)))))
+    (sym (ap outcome_no c.in-Ok.is))
+    (written c.args.record.now (paste c.args.answer.now 0 (verdict_no c.together-a.result.verdict ∷ []) 1) z c.together-a.result.outcome c.in-Ok.is refl
+    (ap (λ (n : ℕ). set c.args.answer.now 0 n) c.from.ensures ∙ set-one c.args.answer.now (verdict_no c.together-a.result.verdict) (omega (arith, fits.sixteen)))))

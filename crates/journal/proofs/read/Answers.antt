@@ -1,7 +1,13 @@
--- `journal::read` meets its contract.
+-- What a read brought is heard, and a call that moved nothing is made again.
 use Rattle.journal.proofs.Turning.{unmoved-read}
 use Rattle.journal.proofs.read.Goals as goal
 
+pub returns-in-Moved-clause-read : goal.returns-in-Moved-clause-read
+returns-in-Moved-clause-read c = c.heard-heard.ensures.steps c.args.d c.requires.2 c.requires.3
+
 pub returns-in_default : goal.returns-in_default
 returns-in_default c =
-    record { read = unmoved-read c.args.x c.args.d c.args.storage.now c.args.out.now _ c.read-reply.result c.in_default.not-Moved; within = (c.requires.2, c.requires.0.1) }
+    record {
+      read = unmoved-read c.args.d c.args.storage.now c.args.out.now _ c.read-reply.result c.in_default.not-Moved;
+      within = c.requires.1;
+    }

@@ -2,8 +2,8 @@
 use Rattle.lanes.proofs.AroundLaws.{absent_beside, there-beside}
 use Rattle.lanes.proofs.beside.Goals as goal
 
-pub returns-then-absent : goal.returns-then-absent
-returns-then-absent c = absent_beside _ _ c.if-absent.true
+pub returns-in-Some : goal.returns-in-Some
+returns-in-Some c = rw c.in-Some.is (there-beside _ (rw c.in-Some.is at c.requires))
 
-pub returns : goal.returns
-returns c = there-beside _ _ c.if-absent.false c.requires
+pub returns-in-None : goal.returns-in-None
+returns-in-None c = rw c.in-None.is absent_beside

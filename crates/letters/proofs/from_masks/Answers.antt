@@ -1,7 +1,7 @@
 -- `letters::from_masks` meets its contract.
 use mathlib.Core.Path.{sym, ◌∙◌}
 use native.Mathlib.Omega.{arith}
-use Rattle.letters.proofs.SetLaws.{masks-refused, masks-taken, made_none, mask-set}
+use Rattle.letters.proofs.SetLaws.{masks-refused, masks-taken, mask-set}
 use Rattle.letters.proofs.from_masks.Goals as goal
 
 pub bad_masks-requires : goal.bad_masks-requires
@@ -9,8 +9,10 @@ bad_masks-requires c = c.if-m-gt6.false
 
 pub returns-then-bad_masks : goal.returns-then-bad_masks
 returns-then-bad_masks c =
-    made_none _ _ _ _ _ c.refused-then-bad_masks.ensures
-    (masks-refused _ _ _ (omega arith) (c.if-m-gt6.false) (sym c.bad_masks.ensures ∙ c.if-bad_masks.true))
+    record {
+      decided = masks-refused _ _ _ (omega arith) (c.if-m-gt6.false) (sym c.bad_masks.ensures ∙ c.if-bad_masks.true);
+      result = tt;
+    }
 
 pub letters_of-requires : goal.letters_of-requires
 letters_of-requires c = c.if-m-gt6.false

@@ -1,9 +1,6 @@
 -- `lola::step_bit` meets its contract.
-use mathlib.Core.Path.{◌≡◌, ap}
-use Prim.Native.Nat.{ℕ, ◌+◌, ◌-◌, ◌*◌, ◌/◌, ◌%◌, ◌^◌}
-use native.Mathlib.Omega.{arith}
+use Rattle.std.proofs.Common.{◌≡◌, ℕ, ◌+◌, ◌-◌, ◌*◌, ◌/◌, ◌%◌, ◌^◌, ap, arith}
 use Rattle.words.specs.Bits.{digit}
-use Rattle.lola.proofs.Stack.{xor-one}
 use Rattle.lola.proofs.step_bit.Goals as goal
 
 pub returns-then-byte-ge64 : goal.returns-then-byte-ge64
@@ -16,15 +13,4 @@ returns-then-byte-ge64 c = record {
   or = λ h. omega arith;
   equal = λ h. omega arith;
   read = λ h k. let e : c.args.byte % 64 ≡ c.args.byte - 0x40 = omega arith in ap (λ (i : ℕ). c.args.stack * 2 + c.args.env / 2 ^ i % 2) e;
-}
-
-pub returns-then-byte-eq2 : goal.returns-then-byte-eq2
-returns-then-byte-eq2 c = record {
-  small = omega (arith, xor-one c.args.stack);
-  const = λ h. omega arith;
-  not = λ h. xor-one c.args.stack;
-  and = λ h. omega arith;
-  or = λ h. omega arith;
-  equal = λ h. omega arith;
-  read = λ h k. omega arith;
 }

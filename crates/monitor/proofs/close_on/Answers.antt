@@ -6,15 +6,15 @@ use Rattle.monitor.proofs.close_on.Goals as goal
 
 pub closing-requires : goal.closing-requires
 closing-requires c =
-    let y = closing_ready c.args.x.outputs (length c.args.storage.now) c.args.r (rw c.in-Accepted.is at c.check_closing-outcome.ensures) in
-    (c.requires.1.usable, y.long, y.right, y.some)
+    let y = closing_ready c.args.x.now.outputs (length c.args.storage.now) c.args.r (rw c.in-Ok.is at c.check_closing-outcome.ensures) in
+    (y.long, y.right, y.some)
 
-pub returns-in-Refused : goal.returns-in-Refused
-returns-in-Refused c =
-    let d = rw c.in-Refused.is at c.check_closing-outcome.ensures in
-    λ bs ok. closing-turned-down bs c.args.x ok c.args.r c.args.storage.now _ _ c.refused_closing.ensures d
+pub returns-in-Err : goal.returns-in-Err
+returns-in-Err c =
+    let d = rw c.in-Err.is at c.check_closing-outcome.ensures in
+    λ bs ok. closing-turned-down bs c.args.x.now ok c.args.r c.args.storage.now _ _ c.refused_closing.ensures d
 
-pub returns-in-Accepted : goal.returns-in-Accepted
-returns-in-Accepted c =
-    let d = rw c.in-Accepted.is at c.check_closing-outcome.ensures in
-    λ bs ok. closing-done bs c.args.x ok c.args.r c.args.storage.now c.closing.result c.closing.ensures.0 d c.closing.ensures.1
+pub returns-in-Ok : goal.returns-in-Ok
+returns-in-Ok c =
+    let d = rw c.in-Ok.is at c.check_closing-outcome.ensures in
+    λ bs ok. closing-done bs c.args.x.now ok c.args.r c.args.storage.now c.closing.result c.closing.ensures.0 d c.closing.ensures.1

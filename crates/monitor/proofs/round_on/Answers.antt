@@ -6,16 +6,16 @@ use Rattle.monitor.proofs.round_on.Goals as goal
 
 pub round-requires : goal.round-requires
 round-requires c =
-    let d = rw c.in-Accepted.is at c.check_round-outcome.ensures in
-    let y = round_ready c.args.x.inputs c.args.x.outputs (length c.args.storage.now) c.args.r c.args.letters d in
-    (c.requires.1.usable, y.long, y.right, y.rounds-left)
+    let d = rw c.in-Ok.is at c.check_round-outcome.ensures in
+    let y = round_ready c.args.x.now.inputs c.args.x.now.outputs (length c.args.storage.now) c.args.r c.args.letters d in
+    (y.long, y.right, y.rounds-left)
 
-pub returns-in-Refused : goal.returns-in-Refused
-returns-in-Refused c =
-    let d = rw c.in-Refused.is at c.check_round-outcome.ensures in
-    λ bs ok. round-turned-down bs c.args.x ok c.args.r c.args.letters c.args.storage.now _ _ c.refused_round.ensures d
+pub returns-in-Err : goal.returns-in-Err
+returns-in-Err c =
+    let d = rw c.in-Err.is at c.check_round-outcome.ensures in
+    λ bs ok. round-turned-down bs c.args.x.now ok c.args.r c.args.letters c.args.storage.now _ _ c.refused_round.ensures d
 
-pub returns-in-Accepted : goal.returns-in-Accepted
-returns-in-Accepted c =
-    let d = rw c.in-Accepted.is at c.check_round-outcome.ensures in
-    λ bs ok. round-done bs c.args.x ok c.args.r c.args.letters c.args.storage.now c.round.new.storage c.round.result c.round.ensures.0 d c.round.ensures.1
+pub returns-in-Ok : goal.returns-in-Ok
+returns-in-Ok c =
+    let d = rw c.in-Ok.is at c.check_round-outcome.ensures in
+    λ bs ok. round-done bs c.args.x.now ok c.args.r c.args.letters c.args.storage.now c.round.new.storage c.round.result c.round.ensures.0 d c.round.ensures.1

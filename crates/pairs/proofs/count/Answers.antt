@@ -1,34 +1,23 @@
 -- `pairs::count` meets its contract.
-use mathlib.Core.Path.{◌≡◌, refl, ap, ◌∙◌}
-use Prim.Native.Nat.{ℕ}
-use native.Mathlib.Omega.{arith}
-use lib.ListN.{get_or}
-use lib.Count.{ones, ones-le}
-use Rattle.words.specs.Below.{sum_below}
-use Rattle.words.proofs.CountLaws.{sum_one}
+use Rattle.std.proofs.Common.{◌≡◌, ◌*◌, ℕ, ◌∙◌, ap, arith, get_or-take, length-take-le, length, take}
+use Rattle.words.specs.Below.{count_below}
 use Rattle.completions.specs.Live.{count_pairs}
 use Rattle.pairs.specs.Storage.{live, set_words}
+use Rattle.pairs.specs.Changes.{row_bit}
 use Rattle.pairs.proofs.PairCount.{pair-count}
 use Rattle.pairs.proofs.count.Goals as goal
 
-pub loop-i-init : goal.loop-i-init
-unfolding sum_below
-loop-i-init c = (omega arith, omega arith, refl, λ k h. absurd (omega arith))
+pub slice_bounds-ones-end : goal.slice_bounds-ones-end
+slice_bounds-ones-end c = omega (arith, length-take-le 1028 c.args.s.now (omega (arith, c.requires)))
 
-pub overflow_cast-n : goal.overflow_cast-n
-overflow_cast-n c = omega (arith, ones-le 64 (get_or c.args.s.now c.loop-i.i 0) (c.type_inv.s c.loop-i.i).fits)
-
-pub overflow_add-n : goal.overflow_add-n
-overflow_add-n c = omega (arith, ones-le 64 (get_or c.args.s.now c.loop-i.i 0) (c.type_inv.s c.loop-i.i).fits)
-
-pub loop-i-preserved : goal.loop-i-preserved
-loop-i-preserved c = (omega arith, omega (arith, ones-le 64 (get_or c.args.s.now c.loop-i.i 0) (c.type_inv.s c.loop-i.i).fits), omega (arith, sum_one c.loop-i.i (λ j. ones (get_or c.args.s.now j 0))), λ k h. (c.type_inv.s k).fits)
+pub ones-requires : goal.ones-requires
+ones-requires c = omega (arith, length-take-le 1028 c.args.s.now (omega (arith, c.requires)))
 
 pub returns : goal.returns
 returns c =
-    let e : c.loop-i.i ≡ set_words = omega arith in
-    let r : c.loop-i.n ≡ count_pairs 256 (live c.args.s.now) =
-    c.loop-i.invariant.2 ∙ ap (λ (k : ℕ). sum_below k (λ j. ones (get_or c.args.s.now j 0))) e
-    ∙ pair-count c.args.s.now (λ k h. c.loop-i.invariant.3 k (omega arith))
+    let t = take 1028 c.args.s.now in
+    let l : length t ≡ set_words = length-take-le 1028 c.args.s.now (omega (arith, c.requires)) in
+    let r : c.ones.result ≡ count_pairs 256 (live c.args.s.now) =
+    c.ones.ensures.sum ∙ ap (λ (n : ℕ). count_below (64 * n) (row_bit t 0)) l ∙ pair-count c.args.s.now t (λ k h. get_or-take 1028 c.args.s.now k 0 h)
     in
-    (r, omega arith)
+    record { counted = r; most = omega (arith, c.ones.ensures.most); words = λ k. (c.type_inv.s k).fits }

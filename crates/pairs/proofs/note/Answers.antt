@@ -1,7 +1,7 @@
 -- `pairs::note` meets its contract.
-use native.Mathlib.Omega.{arith}
+use Rattle.std.proofs.Common.{arith}
 use Rattle.pairs.proofs.Sets.{noted}
 use Rattle.pairs.proofs.note.Goals as goal
 
 pub returns : goal.returns
-returns c = noted _ _ (omega arith) (omega arith)
+returns c = noted _ _ c.requires (omega arith)

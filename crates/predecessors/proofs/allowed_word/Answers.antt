@@ -1,22 +1,17 @@
 -- `predecessors::allowed_word` meets its contract.
-use mathlib.Core.Path.{ap₂, ◌∙◌}
-use mathlib.Core.Bool.{◌&&◌}
-use native.Mathlib.Omega.{arith}
+use Rattle.std.proofs.Common.{◌&&◌, ap₂, ◌∙◌}
 use Rattle.words.proofs.BitLaws.{bit-and}
-use Rattle.predecessors.proofs.Rows.{allowed-nothing, allowed-by, below-output}
+use Rattle.predecessors.proofs.Rows.{allowed-nothing, allowed-by}
 use Rattle.predecessors.proofs.allowed_word.Goals as goal
 
-pub stream_of-q-requires : goal.stream_of-q-requires
-stream_of-q-requires c = omega (arith, below-output _ _ _ c.in-Output.is c.requires.below)
+pub returns-in-None : goal.returns-in-None
+returns-in-None c =
+    let e = c.args.equations.now in
+    λ i h. c.lanes_below-low.ensures i h ∙ allowed-nothing _ _ e.code.now e.len.now _ _ _ c.in-None.is e.size.sized.power
 
-pub stream_word-requires : goal.stream_word-requires
-stream_word-requires c = omega (arith, below-output _ _ _ c.in-Output.is c.requires.below, c.stream_of-q.ensures)
-
-pub returns-in-Nothing : goal.returns-in-Nothing
-returns-in-Nothing c = λ code len i h. c.lanes_below-low.ensures i h ∙ allowed-nothing _ _ code len _ _ _ c.in-Nothing.is c.requires.sized.0.power
-
-pub returns-in-Output : goal.returns-in-Output
-returns-in-Output c =
-    λ code len i h.
+pub returns-in-Some : goal.returns-in-Some
+returns-in-Some c =
+    let e = c.args.equations.now in
+    λ i h.
     bit-and i _ _ ∙ ap₂ ◌&&◌ (c.lanes_below-low.ensures i h) (c.stream_word.ensures i h)
-    ∙ allowed-by _ _ code len _ _ _ _ _ c.in-Output.is c.requires.sized.0.power c.stream_of-q.ensures
+    ∙ allowed-by _ _ e.code.now e.len.now _ _ _ _ _ c.in-Some.is e.size.sized.power (c.from.ensures ∙ c.stream_of-stream.ensures)

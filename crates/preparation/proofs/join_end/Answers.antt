@@ -1,6 +1,5 @@
 -- `preparation::join_end` meets its contract.
-use mathlib.Core.Path.{refl}
-use native.Mathlib.Omega.{arith}
+use Rattle.std.proofs.Common.{refl, arith}
 use Rattle.preparation.proofs.Joining.{joins_both}
 use Rattle.preparation.proofs.join_end.Goals as goal
 

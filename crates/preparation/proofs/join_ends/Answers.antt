@@ -1,18 +1,15 @@
 -- `preparation::join_ends` meets its contract.
-use mathlib.Core.Path.{refl}
-use native.Mathlib.Omega.{arith}
-use Rattle.preparation.proofs.Joining.{ends-first, ends_more, ends-all}
+use Rattle.std.proofs.Common.{arith}
+use Rattle.preparation.proofs.Joining.{ends-none, ends_skip, ends_more}
 use Rattle.preparation.proofs.join_ends.Goals as goal
 
 pub loop-a-init : goal.loop-a-init
-loop-a-init c = (refl, ends-first _ _ _ _ _ c.next_bit-a.ensures)
-
-pub loop-a-smaller : goal.loop-a-smaller
-loop-a-smaller c = omega (arith, c.next_bit-a-in-loop-a.ensures.onward)
+loop-a-init c = (omega arith, ends-none _ _ _)
 
 pub loop-a-preserved : goal.loop-a-preserved
 loop-a-preserved c =
-    (omega arith, ends_more _ _ _ _ _ _ _ _ c.loop-a-test.true c.loop-a.invariant.1 c.join_end.ensures c.next_bit-a-in-loop-a.ensures)
+    let n = c.in-Some.ensures in
+    (omega (arith, n.1), ends_more _ _ _ _ _ _ n.3 (ends_skip _ _ _ _ _ _ n.0 n.2 c.loop-a.invariant.1) c.join_end.ensures)
 
 pub returns : goal.returns
-returns c = ends-all _ _ _ _ _ _ c.loop-a-test.false c.loop-a.invariant.1
+returns c = ends_skip _ _ _ _ _ _ c.loop-a.invariant.0 c.in_default.ensures c.loop-a.invariant.1

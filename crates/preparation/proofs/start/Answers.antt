@@ -3,5 +3,4 @@ use Rattle.preparation.proofs.Searching.{started}
 use Rattle.preparation.proofs.start.Goals as goal
 
 pub returns : goal.returns
-returns c =
-    started _ _ _ _ _ _ _ c.clear.ensures c.clear-2.ensures c.clear-3.ensures c.join_ends.ensures
+returns c = started _ _ _ _ _ c.clear.ensures c.join_ends.ensures

@@ -3,6 +3,7 @@ use mathlib.Core.Path.{sym, ap, ◌∙◌}
 use native.Mathlib.Omega.{arith}
 use lib.ListN.{length}
 use borrow.Author.Tests.{lt-ltb, le-ltb}
+use Rattle.std.proofs.lemmas.Result.{err_from_is_err_and}
 use Rattle.sheet.specs.Header.{header_of, version_ok}
 use Rattle.reader.proofs.read_header.Goals as goal
 
@@ -37,24 +38,26 @@ returns-then-not-counts_fit c =
       sym c.counts_fit.ensures ∙ c.if-not-counts_fit.true,
     )
 
-pub returns-in-Is : goal.returns-in-Is
+pub returns-in_err-assumed : goal.returns-in_err-assumed
 unfolding header_of
-returns-in-Is c =
-    simp (
+returns-in_err-assumed c =
+    let p = err_from_is_err_and c.from_residual.result c.from_residual.ensures.1 in
+    rw (p.1, p.2)
+    (simp (
       le-ltb (length c.args.s.now) 8 (omega arith),
       sym c.has_mark.ensures ∙ c.if-not-has_mark.false,
       ap version_ok (sym c.version.ensures) ∙ sym c.version_fits.ensures ∙ c.if-not-version_fits.false,
       sym c.counts_fit.ensures ∙ c.if-not-counts_fit.false,
-      sym c.read_assumed-a.ensures ∙ c.in-Is.is,
-    )
+      sym c.read_assumed.ensures ∙ c.in_err-assumed.was,
+    ))
 
-pub returns-in-Refused : goal.returns-in-Refused
+pub returns : goal.returns
 unfolding header_of
-returns-in-Refused c =
+returns c =
     simp (
       le-ltb (length c.args.s.now) 8 (omega arith),
       sym c.has_mark.ensures ∙ c.if-not-has_mark.false,
       ap version_ok (sym c.version.ensures) ∙ sym c.version_fits.ensures ∙ c.if-not-version_fits.false,
       sym c.counts_fit.ensures ∙ c.if-not-counts_fit.false,
-      sym c.read_assumed-a.ensures ∙ c.in-Refused.is,
+      sym c.read_assumed.ensures ∙ c.in_ok-assumed.was,
     )

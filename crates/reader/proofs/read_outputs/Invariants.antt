@@ -1,10 +1,6 @@
 -- The loops of `reader::read_outputs`.
-use Prim.Native.Nat.{◌-◌}
 use Rattle.reader.proofs.AllOutputs.{OutputsTo}
 use Rattle.reader.proofs.read_outputs.Given as goal
 
 abbrev pub invariant-loop-k : goal.invariant-loop-k
 invariant-loop-k l = OutputsTo l.s l.grammar l.n l.len l.code l.at l.k
-
-abbrev pub decreases-loop-k : goal.decreases-loop-k
-decreases-loop-k l = l.n - l.k

@@ -1,38 +1,53 @@
 -- `reader::read_sheet` meets its contract.
-use mathlib.Core.Path.{refl, sym, ◌∙◌}
-use Prim.Native.Nat.{◌+◌}
-use native.Mathlib.Omega.{arith}
-use Rattle.sheet.specs.RuleSheet.{read_sheet}
-use Rattle.sheet.specs.Reading.{trees_of}
+use Rattle.std.proofs.Common.{sym, ap, ◌∙◌, arith}
+use Rattle.std.proofs.lemmas.Result.{err_from_is_err_and}
+use Rattle.sheet.specs.RuleSheet.{with_outputs, read_sheet}
 use Rattle.sheet.proofs.Headers.{fields}
-use Rattle.reader.proofs.AllOutputs.{reading_by_lem}
-use Rattle.reader.proofs.Packing.{usable}
+use Rattle.sheet.proofs.Sheets.{of-parses}
+use Rattle.reader.proofs.AllOutputs.{all-trees, all-broken}
 use Rattle.reader.proofs.read_sheet.Goals as goal
 
-pub overflow_add-streams : goal.overflow_add-streams
-overflow_add-streams c = omega (arith, (fields _ _ _ _ (sym c.read_header-h.ensures ∙ c.in-Fields.is)).1.streams)
+pub overflow_add-grammar : goal.overflow_add-grammar
+overflow_add-grammar c = omega (arith, (fields _ _ _ _ (sym c.read_header.ensures ∙ c.in_ok-header.was)).1.streams)
 
 pub version-requires : goal.version-requires
-version-requires c = (fields _ _ _ _ (sym c.read_header-h.ensures ∙ c.in-Fields.is)).0
+version-requires c = (fields _ _ _ _ (sym c.read_header.ensures ∙ c.in_ok-header.was)).0
 
-pub read_outputs-outcome-requires : goal.read_outputs-outcome-requires
-read_outputs-outcome-requires c = let f = fields _ _ _ _ (sym c.read_header-h.ensures ∙ c.in-Fields.is) in (f.0, f.1.outputs, refl, refl)
+pub read_outputs-requires : goal.read_outputs-requires
+read_outputs-requires c = let f = fields _ _ _ _ (sym c.read_header.ensures ∙ c.in_ok-header.was) in (f.0, f.1.outputs)
 
-pub returns-in-Accepted : goal.returns-in-Accepted
+pub returns-in_err-header : goal.returns-in_err-header
 unfolding read_sheet
-returns-in-Accepted c =
-    let e = sym c.read_header-h.ensures ∙ c.in-Fields.is in
-    let f = fields _ _ _ _ e in
-    record { reading = rw e (rw c.in-Accepted.is at (reading_by_lem c.in-Fields.m c.in-Fields.n c.in-Fields.a c.read_outputs-outcome.result (trees_of (c.in-Fields.m + c.in-Fields.n) c.read_outputs-outcome.new.code c.read_outputs-outcome.new.len c.in-Fields.n) _ (rw c.version.ensures at c.read_outputs-outcome.ensures.reading))); usable = usable c.in-Fields.m c.in-Fields.n c.in-Fields.a _ _ f.1 f.2 (rw c.in-Accepted.is at c.read_outputs-outcome.ensures.held); refused = tt }
+returns-in_err-header c =
+    let p = err_from_is_err_and c.from_residual.result c.from_residual.ensures.1 in
+    rw (p.1, p.2, sym c.read_header.ensures ∙ c.in_err-header.was)
 
-pub returns-in-Refused-outcome : goal.returns-in-Refused-outcome
+pub returns-in_err-read_outputs : goal.returns-in_err-read_outputs
 unfolding read_sheet
-returns-in-Refused-outcome c =
-    let e = sym c.read_header-h.ensures ∙ c.in-Fields.is in
-    record { reading = rw (c.refused_sheet.ensures.0, e) (rw c.in-Refused-outcome.is at (reading_by_lem c.in-Fields.m c.in-Fields.n c.in-Fields.a c.read_outputs-outcome.result (trees_of (c.in-Fields.m + c.in-Fields.n) c.read_outputs-outcome.new.code c.read_outputs-outcome.new.len c.in-Fields.n) _ (rw c.version.ensures at c.read_outputs-outcome.ensures.reading))); usable = rw c.refused_sheet.ensures.0 tt; refused = rw c.refused_sheet.ensures.0 c.refused_sheet.ensures.1 }
+returns-in_err-read_outputs c =
+    let e = sym c.read_header.ensures ∙ c.in_ok-header.was in
+    let h = c.in_ok-header.header in
+    let o = all-broken _ _ _ _ (rw c.version.ensures at c.read_outputs.ensures.reading) c.in_err-read_outputs.was in
+    let p = err_from_is_err_and c.from_residual-in_err-read_outputs.result c.from_residual-in_err-read_outputs.ensures.1 in
+    rw (p.1, p.2, e) (sym (ap (with_outputs h.inputs h.outputs h.assumed) o))
 
-pub returns-in-Refused : goal.returns-in-Refused
+pub invariant_of-result : goal.invariant_of-result
+invariant_of-result c =
+    let f = fields _ _ _ _ (sym c.read_header.ensures ∙ c.in_ok-header.was) in
+    let x = rw c.in_ok-read_outputs.was at c.read_outputs.ensures.held in
+    record {
+      ranges = f.1;
+      code_size = x.code_size;
+      sizes = x.sizes;
+      below = f.2;
+      small = x.small;
+      parts = λ k l. of-parses _ _ (x.parts k l);
+    }
+
+pub returns : goal.returns
 unfolding read_sheet
-returns-in-Refused c =
-    let e = sym c.read_header-h.ensures ∙ c.in-Refused.is in
-    record { reading = rw (c.refused_sheet-in-Refused.ensures.0, e); usable = rw c.refused_sheet-in-Refused.ensures.0 tt; refused = rw c.refused_sheet-in-Refused.ensures.0 c.refused_sheet-in-Refused.ensures.1 }
+returns c =
+    let e = sym c.read_header.ensures ∙ c.in_ok-header.was in
+    let h = c.in_ok-header.header in
+    let o = all-trees _ _ _ (rw c.version.ensures at c.read_outputs.ensures.reading) c.in_ok-read_outputs.was in
+    rw e (sym (ap (with_outputs h.inputs h.outputs h.assumed) o))

@@ -2,7 +2,6 @@
 use mathlib.Core.Path.{◌≡◌, refl, sym, ◌∙◌, ap}
 use mathlib.Core.Bool.{true, false}
 use native.Mathlib.Omega.{arith}
-use borrow.Author.Rules.{rules}
 use Rattle.record.specs.Record.{add_up}
 use Rattle.record.proofs.Tallies.{add_up-more, add_up-not, too_many, by_counts}
 use Rattle.record.proofs.record_ok.Goals as goal
@@ -13,9 +12,6 @@ returns-then-r-gt-MAX_ROUNDS c = sym (too_many c.args.n c.args.r c.if-r-gt-MAX_R
 pub loop-k-init : goal.loop-k-init
 unfolding add_up
 loop-k-init c = (omega arith, refl)
-
-pub sum_at-requires : goal.sum_at-requires
-sum_at-requires c = (omega arith, search rules)
 
 pub returns-then-sum_at-t : goal.returns-then-sum_at-t
 returns-then-sum_at-t c =

@@ -1,10 +1,7 @@
 -- The loops of `record::with_round`.
-use Prim.Native.Nat.{◌-◌, ◌≤◌}
+use Prim.Native.Nat.{◌≤◌}
 use Rattle.record.proofs.Tallies.{CountedTo}
 use Rattle.record.proofs.with_round.Given as goal
 
 abbrev pub invariant-loop-k : goal.invariant-loop-k
 invariant-loop-k l = (l.k ≤ l.n) × CountedTo l.k l.verdicts l.r.counts l.counts
-
-abbrev pub decreases-loop-k : goal.decreases-loop-k
-decreases-loop-k l = l.n - l.k

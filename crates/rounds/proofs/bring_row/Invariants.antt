@@ -1,20 +1,15 @@
--- The loops of `rounds::bring_row`.
-use mathlib.Core.Path.{◌≡◌}
-use mathlib.Core.List.{List}
-use mathlib.Core.Option.{Option}
-use Prim.Native.Nat.{ℕ, ◌-◌, ◌*◌, ◌≤◌}
-use lib.ListN.{length}
+-- The loop of `rounds::bring_row`.
+use Rattle.std.proofs.Common.{List, ℕ, ◌-◌, ◌≤◌}
+use Rattle.std.proofs.Math.Option.{Option}
 use Rattle.lanes.specs.Around.{Before}
-use Rattle.lanes.specs.Coded.{sheet_of}
-use Rattle.rounds.proofs.RowLaws.{Bringing}
+use Rattle.lanes.specs.Sheets.{sheet_by}
+use Rattle.rounds.proofs.RowLaws.{Brought}
 use Rattle.rounds.proofs.bring_row.Given as goal
 
 abbrev pub invariant-loop-b : goal.invariant-loop-b
 invariant-loop-b l =
-    (l.b ≤ 64 * l.w)
-    × (length l.s ≡ length l.initial.s)
-    × (length l.st ≡ length l.initial.st)
-    × ((p : Option ℕ) → Before l.before p → (ks : List ℕ) → Bringing (sheet_of l.size.inputs l.size.outputs l.code l.len ks) l.initial.s l.s l.size.valuations l.g p l.b)
+    (l.from ≤ l.equations.size.valuations)
+    × ((p : Option ℕ) → Before l.before p → (ks : List ℕ) → Brought (sheet_by l.equations ks) l.initial.s l.equations.size.valuations l.g p l.s l.from)
 
 abbrev pub decreases-loop-b : goal.decreases-loop-b
-decreases-loop-b l = l.v - l.b
+decreases-loop-b l = l.equations.size.valuations - l.from

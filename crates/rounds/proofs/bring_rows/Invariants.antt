@@ -1,20 +1,16 @@
--- The loops of `rounds::bring_rows`.
-use mathlib.Core.Path.{◌≡◌}
-use mathlib.Core.List.{List}
-use Prim.Native.Nat.{ℕ, ◌-◌, ◌*◌, ◌≤◌, min}
-use lib.ListN.{length}
+-- The loop of `rounds::bring_rows`.
+use Rattle.std.proofs.Common.{◌≡◌, List, length, ℕ, ◌-◌, ◌≤◌}
 use Rattle.pairs.specs.Storage.{live, scratch, reached_at}
 use Rattle.pairs.specs.Changes.{Adds}
-use Rattle.lanes.specs.Coded.{sheet_of}
+use Rattle.lanes.specs.Sheets.{sheet_by}
 use Rattle.rounds.specs.Rows.{brought}
 use Rattle.rounds.proofs.bring_rows.Given as goal
 
 abbrev pub invariant-loop-g : goal.invariant-loop-g
-invariant-loop-g l =
-    (l.g ≤ 64 * l.w)
-    × (length l.s ≡ length l.initial.s)
-    × (length l.st ≡ length l.initial.st)
-    × ((ks : List ℕ) → Adds reached_at l.initial.s l.s (brought (sheet_of l.size.inputs l.size.outputs l.code l.len ks) (scratch l.initial.s) l.size.valuations (live l.initial.s) (min l.g l.size.valuations)))
+invariant-loop-g g l =
+    (l.from ≤ l.equations.size.valuations)
+    × (length l.st ≡ g.row.ROOM)
+    × ((ks : List ℕ) → Adds reached_at l.initial.s l.s (brought (sheet_by l.equations ks) (scratch l.initial.s) l.equations.size.valuations (live l.initial.s) l.from))
 
 abbrev pub decreases-loop-g : goal.decreases-loop-g
-decreases-loop-g l = 64 * l.w - l.g
+decreases-loop-g g l = l.equations.size.valuations - l.from

@@ -1,16 +1,9 @@
 -- `rounds::row_lanes` meets its contract.
-use native.Mathlib.Omega.{arith}
-use Rattle.pairs.specs.Storage.{stored}
-use Rattle.rounds.proofs.WordLaws.{row_one, row-two, row-four}
+use Rattle.rounds.proofs.WordLaws.{lanes_none, lanes_more}
 use Rattle.rounds.proofs.row_lanes.Goals as goal
 
-pub returns-then-w-eq1 : goal.returns-then-w-eq1
-returns-then-w-eq1 c = λ i h. row_one (stored c.args.s.now c.args.base) c.args.a i h _ _ c.if-w-eq1.true c.row_word-first.ensures
+pub loop-j-init : goal.loop-j-init
+loop-j-init c = lanes_none _ _
 
-pub returns-then-w-eq2 : goal.returns-then-w-eq2
-returns-then-w-eq2 c = λ i h. row-two (stored c.args.s.now c.args.base) c.args.a i h _ _ _ c.if-w-eq2.true c.row_word-first.ensures c.row_word.ensures
-
-pub returns : goal.returns
-returns c =
-    λ i h.
-    row-four (stored c.args.s.now c.args.base) c.args.a i h _ _ _ _ _ (omega arith) c.row_word-first.ensures c.row_word.ensures c.row_word-2.ensures c.row_word-3.ensures
+pub loop-j-preserved : goal.loop-j-preserved
+loop-j-preserved c = lanes_more _ _ _ _ _ c.loop-j.invariant c.row_word-lanes.ensures

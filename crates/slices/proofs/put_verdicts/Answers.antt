@@ -19,8 +19,8 @@ loop-i-preserved c =
     let xs = verdict_numbers c.args.verdicts c.args.n in
     let e : length xs ≡ c.args.n = numbers-size c.args.verdicts c.args.n (omega (arith, f)) in (
       omega arith,
-      put-more c.loop-i.i c.args.at xs c.args.into.now c.loop-i.into c.verdict_number.result (omega arith) (omega (arith, e))
-          (c.verdict_number.ensures ∙ sym (numbers-at c.args.verdicts c.args.n c.loop-i.i (omega arith))) c.loop-i.invariant.1,
+      put-more c.loop-i.i c.args.at xs c.args.into.now c.loop-i.into c.from.result (omega arith) (omega (arith, e))
+          (c.from.ensures ∙ sym (numbers-at c.args.verdicts c.args.n c.loop-i.i (omega arith))) c.loop-i.invariant.1,
     )
 
 pub shape_of-into : goal.shape_of-into

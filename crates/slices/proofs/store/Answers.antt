@@ -15,11 +15,11 @@ put_numbers-requires c =
 pub shape_of-ns : goal.shape_of-ns
 shape_of-ns c =
     let f : length c.args.r.counts ≡ 28 = search rules in
-    let d = set (set c.args.ns.now 0 c.args.r.rounds) 1 c.mark_of.result in
+    let d = set (set c.args.ns.now 0 c.args.r.rounds) 1 c.from.result in
     let e : length d ≡ length c.args.ns.now = simp length-set (omega arith) in
     ap length c.put_numbers.ensures ∙ length-paste d 2 c.args.r.counts 28 (omega (arith, e, c.requires)) (omega (arith, f)) ∙ e
 
 pub returns : goal.returns
 returns c =
     let f : length c.args.r.counts ≡ 28 = search rules in
-    rw (sym c.mark_of.ensures) (stored-numbers c.args.r.rounds c.mark_of.result c.args.ns.now c.args.r.counts c.put_numbers.new.into c.requires f c.put_numbers.ensures)
+    rw (sym c.from.ensures) (stored-numbers c.args.r.rounds c.from.result c.args.ns.now c.args.r.counts c.put_numbers.new.into c.requires f c.put_numbers.ensures)

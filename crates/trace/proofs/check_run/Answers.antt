@@ -1,25 +1,10 @@
 -- `trace::check_run` meets its contract.
-use mathlib.Core.Logic.{inl, inr}
-use native.Mathlib.Omega.{arith}
-use Rattle.trace.proofs.Decided.{extent-broken, letter-broken, run-accepted}
+use Rattle.std.proofs.Common.{arith}
+use Rattle.trace.proofs.Decided.{letter-broken, run-accepted, none-bad}
 use Rattle.trace.proofs.check_run.Goals as goal
 
-pub returns-then-rounds-eq0 : goal.returns-then-rounds-eq0
-returns-then-rounds-eq0 c =
-    record { decided = extent-broken _ _ _ (inl c.if-rounds-eq0.true); ready = tt }
+pub returns-then-has_bad_letter-clause-decided : goal.returns-then-has_bad_letter-clause-decided
+returns-then-has_bad_letter-clause-decided c = letter-broken _ _ _ (omega arith) (omega arith) (omega arith) (c.has_bad_letter.ensures.0 c.if-has_bad_letter.true)
 
-pub returns-then-most-rounds : goal.returns-then-most-rounds
-returns-then-most-rounds c =
-    record { decided = extent-broken _ _ _ (inr (inl c.if-most-rounds.true)); ready = tt }
-
-pub returns-then-room-rounds : goal.returns-then-room-rounds
-returns-then-room-rounds c =
-    record { decided = extent-broken _ _ _ (inr (inr c.if-room-rounds.true)); ready = tt }
-
-pub returns-then-first_bad-rounds : goal.returns-then-first_bad-rounds
-returns-then-first_bad-rounds c =
-    record { decided = letter-broken _ _ _ _ (omega arith) (omega arith) (omega arith) c.first_bad.ensures c.if-first_bad-rounds.true; ready = tt }
-
-pub returns : goal.returns
-returns c =
-    record { decided = run-accepted _ _ _ _ (omega arith) (omega arith) (omega arith) c.first_bad.ensures c.if-first_bad-rounds.false; ready = record { some = omega arith; few = omega arith; fits = omega arith; below = λ i h. c.first_bad.ensures.before i (omega arith) } }
+pub returns-clause-decided : goal.returns-clause-decided
+returns-clause-decided c = run-accepted _ _ _ (omega arith) (omega arith) (omega arith) (none-bad _ _ _ c.has_bad_letter.ensures.1 c.if-has_bad_letter.false)

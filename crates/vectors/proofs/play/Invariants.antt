@@ -1,12 +1,9 @@
--- The loops of `vectors::play`.
-use mathlib.Core.Path.{◌≡◌}
-use Prim.Native.Nat.{◌≤◌, ◌-◌}
-use lib.ListN.{length}
-use Rattle.line_scan.specs.Scan.{InTable}
+-- The loop of `vectors::play`.
+use Rattle.std.proofs.Common.{◌≤◌, ◌-◌, length}
 use Rattle.vectors.proofs.play.Given as goal
 
 abbrev pub invariant-loop-at : goal.invariant-loop-at
-invariant-loop-at l = (l.at ≤ length l.session) × (length l.storage ≡ length l.initial.storage) × (length l.out ≡ length l.initial.out) × InTable l.state.pending
+invariant-loop-at l = l.at ≤ length l.session
 
 abbrev pub decreases-loop-at : goal.decreases-loop-at
 decreases-loop-at l = length l.session - l.at

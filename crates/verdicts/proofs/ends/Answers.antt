@@ -1,13 +1,7 @@
 -- `verdicts::ends` meets its contract.
-use mathlib.Core.Path.{refl}
-use Rattle.verdicts.proofs.VerdictLaws.{filling_none, filling_more, filling_all, ends_lane}
+use Rattle.std.proofs.Common.{rules}
+use Rattle.verdicts.proofs.VerdictLaws.{ends_lane}
 use Rattle.verdicts.proofs.ends.Goals as goal
 
-pub loop-j-init : goal.loop-j-init
-loop-j-init c = filling_none _ _ _ refl
-
-pub loop-j-preserved : goal.loop-j-preserved
-loop-j-preserved c = filling_more _ _ _ _ _ c.requires.1 c.loop-j-test.true c.loop-j.invariant (ends_lane _ _ _ _ _ c.ends_word.ensures c.lanes_below.ensures)
-
 pub returns : goal.returns
-returns c = filling_all _ _ _ _ c.loop-j-test.false c.loop-j.invariant
+returns c = c.row_by.ensures _ (λ j h x p i l. search (rules, ends_lane))

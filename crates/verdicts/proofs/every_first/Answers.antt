@@ -1,16 +1,6 @@
 -- `verdicts::every_first` meets its contract.
-use mathlib.Core.Path.{refl}
-use Rattle.verdicts.proofs.VerdictLaws.{filling_none, filling_more, filling_all}
+use Rattle.std.proofs.Common.{rules}
 use Rattle.verdicts.proofs.every_first.Goals as goal
 
-pub loop-j-init : goal.loop-j-init
-loop-j-init c = filling_none _ _ _ refl
-
-pub every_first_word-requires : goal.every_first_word-requires
-every_first_word-requires c = (c.requires.0, c.loop-j-test.true, c.requires.1)
-
-pub loop-j-preserved : goal.loop-j-preserved
-loop-j-preserved c = filling_more _ _ _ _ _ c.requires.0.most c.loop-j-test.true c.loop-j.invariant c.every_first_word.ensures
-
 pub returns : goal.returns
-returns c = filling_all _ _ _ _ c.loop-j-test.false c.loop-j.invariant
+returns c = c.row_by.ensures _ (λ j h x p. search rules)

@@ -1,15 +1,16 @@
 -- `verdicts::verdict` meets its contract.
+use Rattle.std.proofs.Common.{refl}
 use Rattle.verdicts.proofs.VerdictLaws.{verdict-of}
 use Rattle.verdicts.proofs.verdict.Goals as goal
 
-pub returns-then-shown-2 : goal.returns-then-shown-2
-returns-then-shown-2 c = verdict-of _ _ _ _ _ _ _ c.shown.ensures c.shown-then-shown.ensures c.if-shown.true c.if-shown-2.true
+pub returns-in-true-true : goal.returns-in-true-true
+returns-in-true-true c = verdict-of _ _ _ _ _ _ _ c.in-true-true.ensures c.in-true-true.ensures' refl refl
 
-pub returns-then-shown : goal.returns-then-shown
-returns-then-shown c = verdict-of _ _ _ _ _ _ _ c.shown.ensures c.shown-then-shown.ensures c.if-shown.true c.if-shown-2.false
+pub returns-in-true-false : goal.returns-in-true-false
+returns-in-true-false c = verdict-of _ _ _ _ _ _ _ c.in-true-false.ensures c.in-true-false.ensures' refl refl
 
-pub returns-then-shown-3 : goal.returns-then-shown-3
-returns-then-shown-3 c = verdict-of _ _ _ _ _ _ _ c.shown.ensures c.shown-2.ensures c.if-shown.false c.if-shown-3.true
+pub returns-in-false-true : goal.returns-in-false-true
+returns-in-false-true c = verdict-of _ _ _ _ _ _ _ c.in-false-true.ensures c.in-false-true.ensures' refl refl
 
-pub returns : goal.returns
-returns c = verdict-of _ _ _ _ _ _ _ c.shown.ensures c.shown-2.ensures c.if-shown.false c.if-shown-3.false
+pub returns-in-false-false : goal.returns-in-false-false
+returns-in-false-false c = verdict-of _ _ _ _ _ _ _ c.in-false-false.ensures c.in-false-false.ensures' refl refl

@@ -1,18 +1,13 @@
 -- `circular::table::based` meets its contract.
-use native.Mathlib.Omega.{arith}
-use Rattle.circular.proofs.Rows.{rows_none, rows_more, small_zeros}
+use Rattle.std.proofs.Common.{arith}
+use Rattle.circular.proofs.Rows.{small_set, rows_none, rows_more, eight-rows}
 use Rattle.circular.proofs.table.based.Goals as goal
 
 pub loop-s-init : goal.loop-s-init
-loop-s-init c = (omega arith, small_zeros, rows_none _ _ _)
-
-pub base_row-requires : goal.base_row-requires
-base_row-requires c = (omega arith, omega arith, omega arith, c.loop-s.invariant.1)
+loop-s-init c = (eight-rows, rows_none _ _ _)
 
 pub loop-s-preserved : goal.loop-s-preserved
-loop-s-preserved c =
-    (omega arith, c.base_row.ensures.0, rows_more _ _ _ _ _ _ (omega arith) c.loop-s.invariant.2 c.base_row.ensures.1)
-
-pub returns : goal.returns
-returns c =
-    (c.loop-s.invariant.1, record { cells = λ i j h b. c.loop-s.invariant.2.done i j (omega arith) b })
+loop-s-preserved c = (
+  small_set _ c.loop-s.s _ (omega arith) c.base_row.ensures.small c.loop-s.invariant.0,
+  rows_more _ _ _ c.loop-s.s _ _ (omega (arith, c.loop-s.invariant.0.size)) c.base_row.ensures.cells c.loop-s.invariant.1,
+)

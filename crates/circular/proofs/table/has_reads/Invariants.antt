@@ -1,10 +1,6 @@
--- The loops of `circular::table::has_reads`.
-use Prim.Native.Nat.{◌-◌, ◌≤◌}
+-- The loop of `circular::table::has_reads`.
 use Rattle.circular.proofs.Masks.{Lacks}
 use Rattle.circular.proofs.table.has_reads.Given as goal
 
-abbrev pub invariant-loop-s : goal.invariant-loop-s
-invariant-loop-s l = (l.s ≤ l.n) × Lacks l.words l.all l.s
-
-abbrev pub decreases-loop-s : goal.decreases-loop-s
-decreases-loop-s l = l.n - l.s
+abbrev pub invariant-loop-word : goal.invariant-loop-word
+invariant-loop-word l = Lacks l.words l.all l.word-index

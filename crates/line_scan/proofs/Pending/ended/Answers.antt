@@ -1,15 +1,9 @@
--- `line_scan::Pending::ended` meets its contract.
+-- What stands for each kind of line.
 use Rattle.line_scan.proofs.Standing.{empty-blank, dot-closing, spoiled-malformed}
 use Rattle.line_scan.proofs.Pending.ended.Goals as goal
 
-pub ended-requires : goal.ended-requires
-ended-requires c = (c.requires.0, rw c.in-Marks.is at c.requires.1, c.requires.2)
-
 pub returns-in-Blank : goal.returns-in-Blank
 returns-in-Blank c = λ part h. empty-blank _ part (rw c.in-Blank.is at h)
-
-pub returns-in-Marks : goal.returns-in-Marks
-returns-in-Marks c = λ part h. c.ended.ensures part (rw c.in-Marks.is at h)
 
 pub returns-in-Dot : goal.returns-in-Dot
 returns-in-Dot c = λ part h. dot-closing _ part (rw c.in-Dot.is at h)

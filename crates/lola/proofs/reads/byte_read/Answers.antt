@@ -3,4 +3,4 @@ use Rattle.lola.proofs.TreeReads.{bit_of_byte}
 use Rattle.lola.proofs.reads.byte_read.Goals as goal
 
 pub returns : goal.returns
-returns c = bit_of_byte _
+returns c = rw c.from-b.ensures (bit_of_byte _)

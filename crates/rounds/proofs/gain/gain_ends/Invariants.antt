@@ -1,10 +1,6 @@
--- The loops of `rounds::gain::gain_ends`.
-use mathlib.Core.Path.{◌≡◌}
-use mathlib.Core.Bool.{◌&&◌}
-use mathlib.Core.Option.{Option, none}
-use Prim.Native.Nat.{ℕ, ◌+◌, ◌-◌, ◌*◌, ◌≤◌, ◌<◌}
-use lib.Dec.{ltb}
-use lib.ListN.{length, get_or}
+-- The loop of `rounds::gain::gain_ends`.
+use Rattle.std.proofs.Common.{◌≡◌, ◌&&◌, ltb, get_or, ℕ, ◌+◌, ◌*◌, ◌<◌}
+use Rattle.std.proofs.Math.Option.{Option, none}
 use Rattle.words.specs.Bits.{bit}
 use Rattle.sheet.specs.RuleSheet.{RuleSheet}
 use Rattle.lola.specs.Equations.{holds}
@@ -15,10 +11,5 @@ use Rattle.rounds.proofs.gain.gain_ends.Given as goal
 
 abbrev pub invariant-loop-j : goal.invariant-loop-j
 invariant-loop-j l =
-    (l.j ≤ l.w)
-    × (length l.s ≡ length l.initial.s)
-    × ((y : RuleSheet) (p : Option ℕ) → ((k i : ℕ) → k < l.w → i < 64 → bit i (get_or l.x k 0) ≡ holds y p (64 * k + i) none)
-    → Adds reached_at l.initial.s l.s (gains y (λ b. ltb b (64 * l.j) && in_row (scratch l.initial.s) l.v l.g b) (λ c. eq_next c none) (live l.initial.s) p))
-
-abbrev pub decreases-loop-j : goal.decreases-loop-j
-decreases-loop-j l = l.w - l.j
+    (y : RuleSheet) (p : Option ℕ) → ((k i : ℕ) → k < l.w → i < 64 → bit i (get_or l.x k 0) ≡ holds y p (64 * k + i) none)
+    → Adds reached_at l.initial.s l.s (gains y (λ b. ltb b (64 * l.j) && in_row (scratch l.initial.s) l.equations.size.valuations l.g b) (λ c. eq_next c none) (live l.initial.s) p)

@@ -1,14 +1,10 @@
--- The loops of `rounds::group::clear_groups`.
-use mathlib.Core.Path.{◌≡◌}
-use mathlib.Core.Bool.{true}
-use Prim.Native.Nat.{◌-◌, ◌*◌, ◌≤◌, ◌<◌}
-use lib.ListN.{length}
-use Rattle.pairs.specs.Changes.{row_bit}
+-- The loop of `rounds::group::clear_groups`.
+use Rattle.std.proofs.Common.{◌-◌, ◌≤◌}
 use Rattle.rounds.proofs.GroupLaws.{Emptying}
 use Rattle.rounds.proofs.group.clear_groups.Given as goal
 
 abbrev pub invariant-loop-g : goal.invariant-loop-g
-invariant-loop-g l = (l.g ≤ 64 * l.w) × (length l.s ≡ length l.initial.s) × (l.g < 64 * l.w → row_bit l.groups 0 l.g ≡ true) × Emptying l.groups l.v l.initial.s l.s l.g
+invariant-loop-g l = (l.from ≤ l.size.valuations) × Emptying l.groups l.initial.s l.s l.from
 
 abbrev pub decreases-loop-g : goal.decreases-loop-g
-decreases-loop-g l = 64 * l.w - l.g
+decreases-loop-g l = l.size.valuations - l.from

@@ -1,14 +1,8 @@
 -- `trace::order::settle` meets its contract.
-use native.Mathlib.Omega.{arith}
-use Rattle.trace.proofs.Leads.{settled_none, settled_more}
+use Rattle.std.proofs.Common.{arith}
+use Rattle.trace.proofs.Leads.{settled_more}
 use Rattle.trace.proofs.order.settle.Goals as goal
 use Rattle.trace.proofs.order.settle.Goals.{then-lead-s-le-LONGEST, else-lead-s-le-LONGEST}
 
-pub loop-s-init : goal.loop-s-init
-loop-s-init c = (omega arith, settled_none _ _)
-
-pub returns : goal.returns
-returns c = c.loop-s.invariant.1
-
 pub loop-s-preserved : goal.loop-s-preserved
-loop-s-preserved c = (omega arith, elim c.if-lead-s-le-LONGEST.branch [ then-lead-s-le-LONGEST w ↦ rw w.set-is (settled_more _ _ _ _ c.loop-s.invariant.1 (omega arith) w.if-lead-s-le-LONGEST.true) | else-lead-s-le-LONGEST w ↦ rw w.set-is c.loop-s.invariant.1 ])
+loop-s-preserved c = elim c.if-lead-s-le-LONGEST.branch [ then-lead-s-le-LONGEST w ↦ rw w.set-is (settled_more _ _ _ _ c.loop-s.invariant (omega arith) w.if-lead-s-le-LONGEST.true) | else-lead-s-le-LONGEST w ↦ rw w.set-is c.loop-s.invariant ]

@@ -1,0 +1,12 @@
+-- `lanes::Equations::predecessors` meets its contract.
+use mathlib.Core.Path.{◌∙◌}
+use Prim.Native.Nat.{◌+◌, ◌*◌}
+use Rattle.words.specs.Bits.{bit, digit}
+use Rattle.lanes.proofs.AroundLaws.{ahead_look}
+use Rattle.lanes.proofs.CodeLaws.{look-holds}
+use Rattle.lanes.proofs.Equations.predecessors.Goals as goal
+
+pub returns : goal.returns
+unfolding bit digit
+returns c =
+    λ x ahead ks j i g h. c.row.ensures.lanes j i g h ∙ look-holds _ _ _ _ c.args.self.now.coded _ _ _ _ (ahead_look _ _ x ahead (64 * j + i)) ks

@@ -1,9 +1,0 @@
--- The loops of `trace::order::leads`.
-use Prim.Native.Nat.{◌-◌, ◌≤◌}
-use Rattle.trace.proofs.order.leads.Given as goal
-
-abbrev pub invariant-loop-k : goal.invariant-loop-k
-invariant-loop-k l = l.k ≤ 64
-
-abbrev pub decreases-loop-k : goal.decreases-loop-k
-decreases-loop-k l = 64 - l.k

@@ -1,1 +1,0 @@
--- `trace::order::start` meets its contract.

@@ -87,7 +87,7 @@ lacks_more ws w s k =
           (λ q o e. (or-none (read_in w q o) _ (sym (read-or w (get_or ws s 0) q o) ∙ e)).1);
     }
 
-module _ (x : Sheet) (ws : List ℕ) (r : OutputWords x ws) where
+module _ (x : Sheet) (ws : List ℕ) (r : OutputWords x.code x.len x.outputs ws) where
   word-edges : (s q o : ℕ) → s < 7 → reads_of_words ws x.inputs s q o ≡ edges (rule_sheet x) s q o
   unfolding edges has_read
   word-edges s q o l = go (dec_lt s x.outputs)

@@ -2,20 +2,19 @@
 use Rattle.std.specs.Prelude.{◌≡◌, List, ℕ, ◌+◌, ◌≤◌, ◌<◌, get_or}
 use Rattle.words.specs.Bits.{bit}
 use Rattle.sheet.specs.RuleSheet.{RuleSheet}
-use Rattle.sheet.specs.declared.Sheet.{Sheet}
 use Rattle.sheet.specs.Parts.{code_at}
 use Rattle.lola.specs.ByteReads.{read_in, ReadsOf}
 use Rattle.circular.specs.Circular.{edges}
 use Rattle.circular.specs.Table.{reads_of}
 
 -- the word of output s: it has no reads where there is no such output
-pub record OutputWord (x : Sheet) (s w : ℕ) : Type 0 where
-  pub there : s < x.outputs → ReadsOf (code_at x.code x.len s) w
-  pub absent : x.outputs ≤ s → w ≡ 0
+pub record OutputWord (code len : List ℕ) (n s w : ℕ) : Type 0 where
+  pub there : s < n → ReadsOf (code_at code len s) w
+  pub absent : n ≤ s → w ≡ 0
 
 -- the words of the outputs
-pub record OutputWords (x : Sheet) (ws : List ℕ) : Type 0 where
-  pub rows : (s : ℕ) → s < 7 → OutputWord x s (get_or ws s 0)
+pub record OutputWords (code len : List ℕ) (n : ℕ) (ws : List ℕ) : Type 0 where
+  pub rows : (s : ℕ) → s < 7 → OutputWord code len n s (get_or ws s 0)
 
 -- the mask of the word's reads of stream q: bit o for the offset number o
 pub record Mask (w q x : ℕ) : Type 0 where

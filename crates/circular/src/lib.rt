@@ -18,8 +18,8 @@ pub fn accept_sheet(s: &[u8]) -> Result<Sheet, Refusal>
     ensures sheet { IfOk result (AcceptedSheet s.now) }
 {
     let sheet = reader::read_sheet(s)?;
-    let words = reads::all_reads(&sheet);
-    let outputs = usize::from(sheet.outputs);
+    let outputs = sheet.outputs as usize;
+    let words = reads::all_reads(&sheet.code, &sheet.len, outputs);
     let circular = table::circular(&words, sheet.inputs, outputs);
     let level = !circular;
     if level {

@@ -1,5 +1,5 @@
 // The reads between the outputs of a sheet, from the bytes of its expressions.
-ghost use Rattle.std.specs.Prelude.{◌≡◌, ◌<◌, ◌≤◌};
+ghost use Rattle.std.specs.Prelude.{◌≡◌, ℕ, ◌<◌, ◌≤◌, length, get_or};
 ghost use Rattle.sheet.specs.Parts.{code_at};
 ghost use Rattle.sheet.specs.Reading.{rule_sheet};
 ghost use Rattle.circular.specs.Masks.{OutputWords, Mask, MaskRow, Tells};
@@ -18,13 +18,16 @@ pub fn expression(sheet: &Sheet, k: usize) -> &[u8]
     &sheet.code[from..to]
 }
 
-// The reads of each output in a word; none where there is no such output.
-pub fn all_reads(sheet: &Sheet) -> [u64; 7]
-    ensures { OutputWords sheet.now result }
+// The reads of each output in a word; none where there is no such output. It takes the parts of a sheet: nothing else is asked of one.
+pub fn all_reads(code: &[u8], len: &[usize], n: usize) -> [u64; 7]
+    requires { (n ≤ 7) × (length code.now ≡ 448) × (length len.now ≡ 7) × ((k : ℕ) → k < n → get_or len.now k 0 ≤ 64) }
+    ensures { OutputWords code.now len.now n result }
 {
     let mut words = [0; 7];
-    for s in 0..usize::from(sheet.outputs) {
-        words[s] = expression_reads(expression(sheet, s));
+    for s in 0..n {
+        let from = 64 * s;
+        let to = from + len[s];
+        words[s] = expression_reads(&code[from..to]);
     }
     words
 }
@@ -58,7 +61,7 @@ fn masks_of(word: u64, m: u8) -> [u8; 7]
 pub fn sheet_masks(sheet: &Sheet) -> [[u8; 7]; 7]
     ensures { Tells (rule_sheet sheet.now) result }
 {
-    let words = all_reads(sheet);
+    let words = all_reads(&sheet.code, &sheet.len, sheet.outputs as usize);
     let mut masks = [[0; 7]; 7];
     for s in 0..7 {
         masks[s] = masks_of(words[s], sheet.inputs);

@@ -24,6 +24,8 @@ const UNBOUNDED: u16 = 4096;
 // A sum of two entries from here on would be UNBOUNDED or more.
 const BEYOND: u16 = 5120;
 
+// That entries are small (`Small`) stays in the contracts of the few functions on a bare row, for the same reason.
+
 // A sum of two entries, as an entry.
 #[tactic(auto, unfolding(crate::specs::Table::clip_n))]
 fn clip(s: u16) -> u16

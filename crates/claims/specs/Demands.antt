@@ -26,7 +26,7 @@ pub record OneOutcome (cs : List Check) : Type 0 where
   pub only : (o : Outcome) → Decided cs o → o ≡ outcome
 
 -- The first demand (01, "What is turned down"; 02, W4 and W8), for each entry on structs and all that it can be handed: one outcome is decided, no other,
--- and with a refusal everything lent or handed in is what it was; a set from masks, which is lent nothing, then has no letter, and a question about a set
+-- and with a refusal everything lent or handed in is what it was; masks, which lend nothing, then make no set, and a question about a set
 -- of outputs only reads. What an accepted call gives is in the definitions of the calls.
 pub record FirstDemand : Type 0 where
   pub check : (bs : List ℕ) → OneOutcome (sheet_checks bs)

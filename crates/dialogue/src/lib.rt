@@ -43,7 +43,7 @@ pub struct Dialogue {
 }
 
 impl Reply {
-    // What a read or a write returned, and the error's number, which counts where it returned less than 0.
+    // What a read or a write returned, and the error's number, which counts where it returned less than 0. No From: these are two.
     pub fn of(got: isize, error: i32) -> Reply
         ensures { result ≡ replied got error }
     {

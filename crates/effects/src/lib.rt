@@ -20,8 +20,8 @@ use record::JournalRecord;
 use sheet::Sheet;
 use words::Size;
 
-// The answers have an outcome beside what comes with it and are no Results: what comes with a refusal is promised too, and
-// `claims::specs::FirstDemand` names it.
+// The answers have an outcome beside what comes with it and are no Results: what comes with a refusal is promised too
+// (`monitor/specs/Entries.antt`), and the first demand speaks of it. What is lent may have any length from 3,084 numbers on, as callers have it.
 
 // What preparation answers: a fresh record, the number of live pairs and their exact reach; where it is refused, 0 and 0.
 #[derive(Clone, Copy)]

@@ -1,4 +1,5 @@
-// The functions that programs in C and Rust call, as `jigwaret_c` exports them: 0 for accepted, or the number of the refusal.
+// The functions that programs in C and Rust call, as `jigwaret_c` exports them: 0 for accepted, or the number of the refusal,
+// as C has no Result.
 #![tactic(auto)]
 
 ghost use Rattle.jigwaret.specs.Numbered.{Checked, EvaluatedAs, LettersAs};

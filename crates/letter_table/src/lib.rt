@@ -11,7 +11,7 @@ mod table; // table.rt: the numbers
 
 pub use table::sets;
 
-// The table. A constant array is built anew wherever it is indexed: a program makes the table once and passes it by reference.
+// The table, an array: marks make an index, so nothing is searched. A constant array is built anew wherever it is indexed: a program makes the table once and passes it by reference.
 #[derive(Drop)]
 pub struct LetterTable {
     pub entries: [u64; 729],

@@ -181,7 +181,7 @@ fn clear_words(s: &mut Storage, at: usize, n: usize)
 }
 
 // Empties the three sets.
-pub fn clear(s: &mut Storage)
+pub fn clear_all(s: &mut Storage)
     ensures { Zeroed live_at storage_words s.old s.new }
 {
     s.fill(0);

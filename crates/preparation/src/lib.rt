@@ -137,7 +137,7 @@ fn start(s: &mut Storage, row: &Row, w: usize)
     requires { w ≤ 4 }
     ensures { Started w row.now s.old s.new }
 {
-    pairs::clear(s);
+    pairs::clear_all(s);
     join_ends(s, row, w);
 }
 
@@ -161,6 +161,7 @@ fn search(s: &mut Storage, equations: &Equations, assumed: Option<OutputNo>) -> 
     let mut occupied = ok;
     let mut stage = Stage::first();
     let mut layers = 0;
+    // Until a layer has no row with a pair.
     while pairs::next_bit(&occupied, w, 0).is_some() {
         occupied = sweep(s, &mut st, &occupied, &ok, equations, stage);
         stage = stage.turned();

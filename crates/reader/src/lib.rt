@@ -97,7 +97,8 @@ fn put(buffer: &mut [u8], from: usize, e: &[u8])
     buffer[from..to].copy_from_slice(e);
 }
 
-// Reads the outputs, from byte 8 on, and what is left after them. Output k's expression goes to the code from 64 k on.
+// Reads the outputs, from byte 8 on, and what is left after them. Output k's expression goes to the code from 64 k on: memory is fixed, so a sheet has
+// room for the longest of all.
 fn read_outputs(
     s: &[u8],
     grammar: Grammar,

@@ -16,18 +16,18 @@ returns-in_err-sheet c =
 pub circular-circular-requires : goal.circular-circular-requires
 circular-circular-requires c =
     let x = c.in_ok-sheet.sheet in
-    (x.ranges.inputs, rw c.from-outputs.ensures x.ranges.outputs)
+    (x.ranges.inputs, x.ranges.outputs)
 
 pub returns : goal.returns
 returns c =
     let x = c.in_ok-sheet.sheet in
-    let told = sheet-circular x _ c.all_reads-words.ensures ((rw c.from-outputs.ensures at c.circular-circular.ensures.yes) c.if-level.false) in
+    let told = sheet-circular x _ c.all_reads-words.ensures (c.circular-circular.ensures.yes c.if-level.false) in
     record { decided = round _ (rule_sheet x) (sym (rw c.in_ok-sheet.was at c.read_sheet.ensures)) told; sheet = tt }
 
 pub returns-then-level : goal.returns-then-level
 returns-then-level c =
     let x = c.in_ok-sheet.sheet in
     let e = sym (rw c.in_ok-sheet.was at c.read_sheet.ensures) in
-    let n : CircularSheet (rule_sheet x) → ⊥ = λ k. (rw c.from-outputs.ensures at c.circular-circular.ensures.no) c.if-level.true (circular-sheet x _ c.all_reads-words.ensures k) in
+    let n : CircularSheet (rule_sheet x) → ⊥ = λ k. c.circular-circular.ensures.no c.if-level.true (circular-sheet x _ c.all_reads-words.ensures k) in
     let d = level _ (rule_sheet x) e n in
     record { decided = d; sheet = record { decided = d; reads = e; usable = usable x; level = n } }

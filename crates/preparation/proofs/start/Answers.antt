@@ -3,4 +3,4 @@ use Rattle.preparation.proofs.Searching.{started}
 use Rattle.preparation.proofs.start.Goals as goal
 
 pub returns : goal.returns
-returns c = started _ _ _ _ _ c.clear.ensures c.join_ends.ensures
+returns c = started _ _ _ _ _ c.clear_all.ensures c.join_ends.ensures

@@ -7,5 +7,5 @@ use Rattle.circular.proofs.reads.all_reads.Given as goal
 abbrev pub invariant-loop-s : goal.invariant-loop-s
 invariant-loop-s l =
     (length l.words ≡ 7)
-    × ((j : ℕ) → j < l.s → ReadsOf (code_at l.sheet.code l.sheet.len j) (get_or l.words j 0))
+    × ((j : ℕ) → j < l.s → ReadsOf (code_at l.code l.len j) (get_or l.words j 0))
     × ((j : ℕ) → l.s ≤ j → get_or l.words j 0 ≡ 0)

@@ -22,16 +22,31 @@ use words::Size;
 mod gain; // gain.rt: what one valuation, and the ends of a row, bring to the reached set
 mod group; // group.rt: rows of the reached set joined by the streams that are read one round earlier
 
-// The valuations of row a of the set, its first w words joined: in each lane whether some word has it.
+// The first W words of row a of the set, joined.
+fn joined<const W: usize>(s: &Storage, set: PairSet, a: usize) -> u64
+    requires { (W ≤ 4) × (a < 256) }
+    ensures { (i : ℕ) → i < 64 → bit i result ≡ any_below W (λ j. stored s.now (base_of set) a (some (64 * j + i))) }
+{
+    let mut lanes = 0;
+    for j in 0..W {
+        lanes |= pairs::row_word(s, set, a, j);
+    }
+    lanes
+}
+
+// The valuations of row a of the set, its first w words joined: in each lane whether some word has it. Rows are asked for one after the other with
+// the same w, so the compiler takes the choice out of the caller's loop, which it can't with one loop up to w.
 pub fn row_lanes(s: &Storage, set: PairSet, w: usize, a: usize) -> u64
     requires { (w ≤ 4) × (a < 256) }
     ensures { (i : ℕ) → i < 64 → bit i result ≡ any_below w (λ j. stored s.now (base_of set) a (some (64 * j + i))) }
 {
-    let mut lanes = 0;
-    for j in 0..w {
-        lanes |= pairs::row_word(s, set, a, j);
+    match w {
+        0 => 0,
+        1 => joined::<1>(s, set, a),
+        2 => joined::<2>(s, set, a),
+        3 => joined::<3>(s, set, a),
+        _ => joined::<4>(s, set, a),
     }
-    lanes
 }
 
 // ---- The pairs that one round brings

@@ -1,9 +1,8 @@
 -- `rounds::row_lanes` meets its contract.
-use Rattle.rounds.proofs.WordLaws.{lanes_none, lanes_more}
+use Rattle.pairs.specs.Storage.{stored}
+use Rattle.pairs.specs.Changes.{base_of}
+use Rattle.rounds.proofs.WordLaws.{lanes_none}
 use Rattle.rounds.proofs.row_lanes.Goals as goal
 
-pub loop-j-init : goal.loop-j-init
-loop-j-init c = lanes_none _ _
-
-pub loop-j-preserved : goal.loop-j-preserved
-loop-j-preserved c = lanes_more _ _ _ _ _ c.loop-j.invariant c.row_word-lanes.ensures
+pub returns-in-0 : goal.returns-in-0
+returns-in-0 c = rw c.in-0.is ((lanes_none (stored c.args.s.now (base_of c.args.set)) c.args.a).joined)

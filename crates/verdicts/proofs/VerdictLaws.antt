@@ -3,7 +3,7 @@ use mathlib.Core.Path.{◌≡◌, refl, sym, ap, ap₂, ◌∙◌, subst}
 use mathlib.Core.Bool.{Bool, true, false, not, ◌&&◌, ◌||◌, beq, and-true, and-false, or-false, and_assoc, and_comm, true≢false}
 use mathlib.Core.List.{List}
 use mathlib.Core.Option.{Option, none, some}
-use Prim.Native.Nat.{ℕ, zero, suc, ◌+◌, ◌-◌, ◌*◌, ◌/◌, ◌%◌, ◌^◌, ◌≤◌, ◌<◌}
+use Prim.Native.Nat.{ℕ, zero, suc, ◌+◌, ◌-◌, ◌*◌, ◌/◌, ◌%◌, ◌^◌, ◌≤◌, ◌<◌, min}
 use native.Mathlib.Omega.{arith}
 use native.Mathlib.Decide.{ℕ_discrete, dec_lt}
 use lib.Dec.{eqb, ltb}
@@ -20,6 +20,7 @@ use Rattle.words.specs.Sizes.{Wide}
 use Rattle.words.specs.Below.{any_below}
 use Rattle.words.proofs.BitLaws.{bit-and, bit-or, bit-shl, bit-none, without, lane_off, lane_less}
 use Rattle.words.proofs.AnyLaws.{any_cong, any_one, any_add, any_groups, any_word, none_any, some_any, any_some}
+use Rattle.words.proofs.BelowLaws.{below_none, below_more as one_more_below}
 use Rattle.words.proofs.LaneLaws.{beq_true, beq_false}
 use Rattle.words.proofs.Bools.{iff, and_split}
 use Rattle.completions.specs.Live.{Pairs}
@@ -126,6 +127,28 @@ looking_done g all word rest e p k h =
 -- the lanes that stand for valuations below v and were heard
 pub heard-below : (j v letters mask : ℕ) → ((i : ℕ) → i < 64 → bit i mask ≡ ltb (64 * j + i) v) → (i : ℕ) → i < 64 → bit i (bit_and mask letters) ≡ (ltb (64 * j + i) v && among letters (64 * j + i))
 heard-below j v letters mask f i h = bit-and i mask letters ∙ ap₂ ◌&&◌ (f i h) (heard_lane letters j i h)
+
+-- the lanes below i have g, and no others are set
+pub record Counted (g : ℕ → Bool) (word i : ℕ) : Type 0 where
+  pub lanes : (k : ℕ) → k < 64 → bit k word ≡ (ltb k i && g k)
+
+module _ (g : ℕ → Bool) where
+  pub counted_none : Counted g 0 0
+  counted_none = record { lanes = λ k h. bit-none k ∙ sym (below_none k (g k)) }
+
+  pub counted_more : (word i word' : ℕ) (v : Bool) → v ≡ g i → ((k : ℕ) → bit k word' ≡ (bit k word || (eqb k i && v))) → Counted g word i → Counted g word' (i + 1)
+  counted_more word i word' v e f p = record {
+    lanes = λ k h. f k ∙ ap (λ (u : Bool). u || (eqb k i && v)) (p.lanes k h) ∙ one_more_below k i (g k) v (λ d. e ∙ ap g (sym d));
+  }
+
+-- lanes of valuations below v lie among the first n
+pub first_lane : (g : ℕ → Bool) (v n j low word : ℕ) → n ≡ min v 64 → ((i : ℕ) → i < 64 → bit i low ≡ ltb (64 * j + i) v) → ((i : ℕ) → i < 64 → bit i word ≡ (ltb i n && g i)) → (i : ℕ) → i < 64
+    → bit i (bit_and low word) ≡ (bit i low && g i)
+first_lane g v n j low word e f h i l = bit-and i low word ∙ rw (f i l, h i l) (at (dec_lt (64 * j + i) v))
+  where
+    at : Dec (64 * j + i < v) → (ltb (64 * j + i) v && (ltb i n && g i)) ≡ (ltb (64 * j + i) v && g i)
+    at (yes d) = rw (lt-ltb i n (omega (arith, d, l, e))) refl
+    at (no d) = rw (le-ltb (64 * j + i) v (omega arith)) refl
 
 -- with the lanes that the end mark follows, those that a valuation follows are the first parts
 pub every_lane : (s : List ℕ) (v j e low word : ℕ) → EndsWord (reached s) j e → ((i : ℕ) → i < 64 → bit i low ≡ ltb (64 * j + i) v)

@@ -70,6 +70,20 @@ fn firsts(s: &Storage, size: Size, letters: u64) -> Row
     pairs::row_by(size.words, |j| firsts_word(s, size, letters, j))
 }
 
+// The lanes below n that pass the test. They are looked at one after the other: no turn waits for what the one before has found.
+fn first_lanes_where<F: Fn(usize) -> bool>(n: usize, test: F) -> u64
+    requires { (n ≤ 64) × ((i : ℕ) → i < 64 → F.pre test i) }
+    ensures { (g : ℕ → Bool) → Decides (F.post test) g → (i : ℕ) → i < 64 → bit i result ≡ (ltb i n && g i) }
+{
+    let mut word = 0;
+    for i in 0..n {
+        if test(i) {
+            word |= 1 << i;
+        }
+    }
+    word
+}
+
 // The lanes i for which 64 * j + i is a first part of the reached set. All of them are looked at: nothing is known of the last round.
 fn every_first_word(s: &Storage, size: Size, j: usize) -> u64
     requires { j < 4 }
@@ -77,7 +91,10 @@ fn every_first_word(s: &Storage, size: Size, j: usize) -> u64
 {
     let low = words::lanes_below(size.valuations, j);
     let ends = pairs::ends_word(s, PairSet::Reached, j) & low;
-    ends | lanes_where(low, |i| is_followed(s, size, 64 * j + i))
+    let followed = first_lanes_where(size.valuations.min(64), |i| {
+        is_followed(s, size, 64 * j + i)
+    });
+    ends | low & followed
 }
 
 // The first parts of the reached set.
@@ -132,12 +149,12 @@ fn where_true(m: usize, k: OutputNo, j: usize) -> u64
     words::stream_word(usize::from(stream.0), j)
 }
 
-// The test that an output is: the valuations in which it is true.
+// The test that an output is: the valuations in which it is true. All four words are filled: a loop with a constant end is none.
 fn output_test(size: Size, k: OutputNo) -> Row
     requires { k.0 < size.outputs }
     ensures { RowOf size.words result (bit (size.inputs + k.0)) }
 {
-    pairs::row_by(size.words, |j| where_true(size.inputs, k, j))
+    pairs::row_by(4, |j| where_true(size.inputs, k, j))
 }
 
 // The lanes i for which all outputs of the set, bit k being output k, are true in the valuation 64 * j + i.

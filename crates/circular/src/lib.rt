@@ -17,15 +17,17 @@ pub fn accept_sheet(s: &[u8]) -> Result<Sheet, Refusal>
     ensures decided { Decided (sheet_checks s.now) (as_outcome result) }
     ensures sheet { IfOk result (AcceptedSheet s.now) }
 {
-    let sheet = reader::read_sheet(s)?;
-    let outputs = sheet.outputs as usize;
-    let words = reads::all_reads(&sheet.code, &sheet.len, outputs);
-    let circular = table::circular(&words, sheet.inputs, outputs);
-    let level = !circular;
-    if level {
-        return Ok(sheet);
+    let read = reader::read_sheet(s);
+    if let Ok(sheet) = &read {
+        let outputs = sheet.outputs as usize;
+        let words = reads::all_reads(&sheet.code, &sheet.len, outputs);
+        let circular = table::circular(&words, sheet.inputs, outputs);
+        let level = !circular;
+        if !level {
+            return Err(Refusal::Circular);
+        }
     }
-    Err(Refusal::Circular)
+    read
 }
 
 // Whether a sheet is accepted, or the first rule that it breaks.

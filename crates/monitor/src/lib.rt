@@ -61,9 +61,9 @@ pub fn prepare_on(x: &Sheet, storage: &mut [u64]) -> PrepareAnswer
 pub fn prepare(sheet: &[u8], storage: &mut [u64]) -> PrepareAnswer
     ensures { PrepareCall sheet.now storage.old storage.new result }
 {
-    match circular::accept_sheet(sheet) {
-        Ok(x) => prepare_on(&x, storage),
-        Err(e) => refused_preparation(e),
+    match &circular::accept_sheet(sheet) {
+        Ok(x) => prepare_on(x, storage),
+        Err(e) => refused_preparation(*e),
     }
 }
 
@@ -83,9 +83,9 @@ pub fn round_on(x: &Sheet, storage: &mut [u64], r: JournalRecord, letters: u64) 
 pub fn round(sheet: &[u8], storage: &mut [u64], before: JournalRecord, letters: u64) -> RoundAnswer
     ensures { RoundCall sheet.now storage.old storage.new before letters result }
 {
-    match circular::accept_sheet(sheet) {
-        Ok(x) => round_on(&x, storage, before, letters),
-        Err(e) => refused_round(e, before),
+    match &circular::accept_sheet(sheet) {
+        Ok(x) => round_on(x, storage, before, letters),
+        Err(e) => refused_round(*e, before),
     }
 }
 
@@ -105,8 +105,8 @@ pub fn close_on(x: &Sheet, storage: &[u64], r: JournalRecord) -> ClosingAnswer
 pub fn close(sheet: &[u8], storage: &[u64], before: JournalRecord) -> ClosingAnswer
     ensures { CloseCall sheet.now storage.now before result }
 {
-    match circular::accept_sheet(sheet) {
-        Ok(x) => close_on(&x, storage, before),
-        Err(e) => refused_closing(e, before),
+    match &circular::accept_sheet(sheet) {
+        Ok(x) => close_on(x, storage, before),
+        Err(e) => refused_closing(*e, before),
     }
 }

@@ -47,8 +47,8 @@ fn together_on(x: &Sheet, storage: &[u64], r: JournalRecord, outputs: u8) -> Tog
 pub fn together(sheet: &[u8], storage: &[u64], before: JournalRecord, outputs: u8) -> TogetherAnswer
     ensures { TogetherCall sheet.now storage.now before outputs result }
 {
-    match circular::accept_sheet(sheet) {
-        Ok(x) => together_on(&x, storage, before, outputs),
-        Err(e) => refused(e),
+    match &circular::accept_sheet(sheet) {
+        Ok(x) => together_on(x, storage, before, outputs),
+        Err(e) => refused(*e),
     }
 }

@@ -32,27 +32,23 @@ fn clip(s: u16) -> u16
     ensures { result ≡ clip_n s }
 {
     if s < LEVEL {
-        NO_WALK
-    } else if BEYOND <= s {
-        UNBOUNDED
-    } else {
-        s - LEVEL
+        return NO_WALK;
     }
+    let weight = s - LEVEL;
+    if BEYOND <= s { UNBOUNDED } else { weight }
 }
 
-// One walk after the other.
+// One walk after the other. This and `top` work out all that they choose between: so the compiler chooses for the eight entries of a row at once.
 #[tactic(auto, unfolding(crate::specs::Table::plus_n, crate::specs::Table::clip_n))]
 fn plus(x: u16, y: u16) -> u16
     requires { (x ≤ 4096) × (y ≤ 4096) }
     ensures { result ≡ plus_n x y }
 {
-    if x == NO_WALK || y == NO_WALK {
-        NO_WALK
-    } else if x == UNBOUNDED || y == UNBOUNDED {
-        UNBOUNDED
-    } else {
-        clip(x + y)
-    }
+    let sum = clip(x + y);
+    let bounded = if y == UNBOUNDED { UNBOUNDED } else { sum };
+    let walk = if x == UNBOUNDED { UNBOUNDED } else { bounded };
+    let on = if y == NO_WALK { NO_WALK } else { walk };
+    if x == NO_WALK { NO_WALK } else { on }
 }
 
 // Any number of rounds of a closed walk of weight c, and then x.
@@ -120,15 +116,9 @@ fn stage(t: &mut Table, k: usize, n: usize)
 fn top(earlier: bool, now: bool, later: bool) -> u16
     ensures { result ≡ top_n earlier now later }
 {
-    if later {
-        HIGHER
-    } else if now {
-        LEVEL
-    } else if earlier {
-        LOWER
-    } else {
-        NO_WALK
-    }
+    let lowest = if earlier { LOWER } else { NO_WALK };
+    let lower = if now { LEVEL } else { lowest };
+    if later { HIGHER } else { lower }
 }
 
 // The heaviest of the reads of a mask; the lightest, with its sign turned, where it is not `up`.

@@ -208,7 +208,8 @@ fn run(system: &mut System, start: Dialogue, storage: &mut [u64], out: &mut [u8]
     requires { (64470 ≤ length out.old) × Within start out.old }
     ensures { Serves start storage.old out.old result storage.new out.new }
 {
-    let table = LetterTable::new();
+    let sets = letter_table::sets();
+    let table = LetterTable { entries: &sets };
     let mut buf = [0u8; 8000];
     let mut d = start;
     for calls in 0..u64::MAX {

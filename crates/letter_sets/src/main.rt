@@ -4,7 +4,8 @@
 use letter_table::LetterTable;
 
 fn main(rt: HostRuntime) {
-    let table = LetterTable::new();
+    let sets = letter_table::sets();
+    let table = LetterTable { entries: &sets };
     let mut out = [0; 65536];
     let to = table.table_text(&mut out);
     if let Err(error) = rt.write_all(&out[..to]) {

@@ -11,18 +11,15 @@ mod table; // table.rt: the numbers
 
 pub use table::sets;
 
-// The table, an array: marks make an index, so nothing is searched. A constant array is built anew wherever it is indexed: a program makes the table once and passes it by reference.
-#[derive(Drop)]
-pub struct LetterTable {
-    pub entries: [u64; 729],
-    pub ghost sets: { Sets entries },
+// The table, where some numbers are it: marks make an index, so nothing is searched. It borrows them, wherever they lie. A constant array is built
+// anew wherever it is indexed: a program makes the numbers once and lends them.
+#[derive(Clone, Copy)]
+pub struct LetterTable<'a> {
+    pub entries: &'a [u64],
+    pub ghost sets: { Sets entries.now },
 }
 
-impl LetterTable {
-    pub fn new() -> LetterTable {
-        LetterTable { entries: sets() }
-    }
-
+impl<'a> LetterTable<'a> {
     // The entry of an index.
     pub fn entry(&self, e: usize) -> u64
         requires { e < 729 }

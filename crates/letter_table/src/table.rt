@@ -734,7 +734,7 @@ const SETS: [u64; 729] = [
     18446744073709551615,
 ];
 
-// The numbers, for `LetterTable::new`.
+// The numbers, for a `LetterTable`.
 pub fn sets() -> [u64; 729]
     ensures { Sets result }
 {

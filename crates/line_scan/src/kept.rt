@@ -6,7 +6,7 @@ use letter_table::LetterTable;
 // What a line is read by: the table of letter sets, and how many inputs there are, each with a mark in every alternative.
 #[derive(Clone, Copy)]
 pub struct Lookup<'a> {
-    pub table: &'a LetterTable,
+    pub table: LetterTable<'a>,
     pub inputs: u8,
     pub ghost few: { inputs ≤ 6 },
 }

@@ -69,7 +69,7 @@ fn feed_running(
     ensures bound { result.at ≤ length out.new }
 {
     let by = Lookup {
-        table,
+        table: *table,
         inputs: x.sheet.inputs,
     };
     let mut place = s.place;
@@ -131,7 +131,7 @@ fn finish_running(
         return 0;
     }
     let by = Lookup {
-        table,
+        table: *table,
         inputs: x.sheet.inputs,
     };
     let meaning = s.pending.asked(by, s.place.record.closed);

@@ -127,7 +127,8 @@ fn case(
 
 // All cases. A proved loop has to end, and nothing says that the input does, so the cases are counted.
 fn main(rt: HostRuntime) {
-    let table = LetterTable::new();
+    let sets = letter_table::sets();
+    let table = LetterTable { entries: &sets };
     let mut sheet = [0u8; 464];
     let mut session = [0u8; 65536];
     let mut storage = [0u64; JournalRecord::STORAGE_WORDS];

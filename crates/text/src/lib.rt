@@ -59,14 +59,8 @@ fn output_number(out: &mut [u8], at: usize, k: OutputNo) -> usize
 }
 
 // The tally line of output k: at most 3 + 5 * 11 + 1 bytes.
-fn tally_line(
-    out: &mut [u8],
-    at: usize,
-    counts: &[u32; 28],
-    shares: &[u32; 7],
-    k: OutputNo,
-) -> usize
-    requires { (k.0 < 7) × (at + 59 ≤ length out.old) }
+fn tally_line(out: &mut [u8], at: usize, counts: &[u32], shares: &[u32], k: OutputNo) -> usize
+    requires { (k.0 < 7) × (length counts.now ≡ 28) × (length shares.now ≡ 7) × (at + 59 ≤ length out.old) }
     ensures placed { Placed out.old at (tally_line (count_at counts.now) shares.now k.0) out.new result }
     ensures upper_bound { result ≤ at + 59 }
 {
@@ -82,8 +76,8 @@ fn tally_line(
 }
 
 // The tally lines of the first n outputs.
-fn tally_lines(out: &mut [u8], at: usize, counts: &[u32; 28], shares: &[u32; 7], n: usize) -> usize
-    requires { (n ≤ 7) × (at + 59 * n ≤ length out.old) }
+fn tally_lines(out: &mut [u8], at: usize, counts: &[u32], shares: &[u32], n: usize) -> usize
+    requires { (n ≤ 7) × (length counts.now ≡ 28) × (length shares.now ≡ 7) × (at + 59 * n ≤ length out.old) }
     ensures placed { Placed out.old at (tally_lines (count_at counts.now) shares.now 0 n) out.new result }
     ensures upper_bound { result ≤ at + 59 * n }
 {
@@ -99,10 +93,10 @@ pub fn closing(
     out: &mut [u8],
     at: usize,
     verdicts: &[Verdict],
-    counts: &[u32; 28],
-    shares: &[u32; 7],
+    counts: &[u32],
+    shares: &[u32],
 ) -> usize
-    requires { (length verdicts.now ≤ 7) × (at + 422 ≤ length out.old) }
+    requires { (length verdicts.now ≤ 7) × (length counts.now ≡ 28) × (length shares.now ≡ 7) × (at + 422 ≤ length out.old) }
     ensures placed { Placed out.old at (closing_text (length verdicts.now) verdicts.now (count_at counts.now) shares.now) out.new result }
     ensures upper_bound { result ≤ at + 422 }
 {

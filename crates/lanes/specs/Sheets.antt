@@ -1,4 +1,4 @@
--- The rule sheet that equations stand for.
+-- For the contracts of inner functions: the rule sheet that equations stand for.
 use Rattle.std.specs.Prelude.{List, ℕ}
 use Rattle.sheet.specs.RuleSheet.{RuleSheet}
 use Rattle.lanes.specs.declared.Equations.{Equations}

@@ -120,6 +120,13 @@ told_more sheet d t out h n le talks = record { prompt = writes talks.prompt; st
     go (Some r) l = record { unended = l.unended; stands = rw (went-all d n out h le) l.stands }
     go None s = record { whole = rw (went-all d n out h le) s.whole; whatever = λ rest e. rw (went-all d n out h le) (s.whatever rest e) }
 
+-- the same, where what is pending is said to begin there
+pub told_from : (sheet : List ℕ) (d : Dialogue) (t out : List ℕ) (h : List Event) (from n : ℕ) → d.from ≡ from → from + n ≤ d.to → Talks sheet d t out h
+    → Talks sheet (record { run = d.run; from = from + n; to = d.to }) t out (went (take n (drop d.from out)) ∷ h)
+told_from sheet d t out h from n e le talks =
+    subst (λ (k : ℕ). Talks sheet (record { run = d.run; from = k + n; to = d.to }) t out (went (take n (drop d.from out)) ∷ h)) e
+    (told_more sheet d t out h n (rw e le) talks)
+
 -- ---- a call that is made again
 
 pub asked-again : (sheet : List ℕ) (d : Dialogue) (t out : List ℕ) (h : List Event) → Talks sheet d t out h → Talks sheet d t out (again ∷ h)

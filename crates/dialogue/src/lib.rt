@@ -1,11 +1,12 @@
 // The program's talk with the system: which call is due, and what its answer makes of the run. Nothing here calls the system.
 #![tactic(auto)]
 
-ghost use Rattle.std.specs.Prelude.{◌+◌, ◌*◌, ◌≤◌, ◌≡◌, Some, [], length};
+ghost use Rattle.std.specs.Prelude.{◌+◌, ◌*◌, ◌≤◌, ◌≡◌, ◌<◌, ◌^◌, None, Some, [], length};
 ghost use Rattle.pairs.specs.Storage.{storage_words};
 ghost use Rattle.dialogue.specs.History.{replied, came};
 ghost use Rattle.dialogue.specs.Talks.{Talks, Steps, Told, Within};
 ghost use Rattle.dialogue.specs.declared.Dialogue.{Dialogue};
+ghost use Rattle.protocol.specs.declared.Started.{Started};
 
 use letter_table::LetterTable;
 use protocol::Started;
@@ -78,51 +79,42 @@ pub fn open(sheet: &[u8], storage: &mut [u64], out: &mut [u8]) -> Dialogue
     }
 }
 
-// A read brought these bytes, none at the end of the input: what they earn is in `out`, to be written.
+// A read brought these bytes, none at the end of the input: what they earn is in `out`, to be written. Nothing is earned where the run is over.
 pub fn heard(
-    run: &Started,
+    d: &mut Dialogue,
     table: &LetterTable,
     storage: &mut [u64],
     chunk: &[u8],
     out: &mut [u8],
-) -> Dialogue
+)
     requires { 8 * length chunk.now + 470 ≤ length out.old }
-    ensures steps { (d : Dialogue) → d.run ≡ Some run.now → d.to ≤ d.from → Steps d storage.old out.old (came chunk.now) result storage.new out.new }
-    ensures within { Within result out.new }
+    ensures steps { (r : Started) → d.old.run ≡ Some r → d.old.to ≤ d.old.from → Steps d.old storage.old out.old (came chunk.now) d.new storage.new out.new }
+    ensures over { d.old.run ≡ None → (d.new.run ≡ None) × (d.new.to ≡ d.new.from) × (storage.new ≡ storage.old) }
+    ensures within { Within d.new out.new }
 {
+    d.from = 0;
+    d.to = 0;
     let at_end = chunk.len() == 0;
-    if at_end {
-        let to = protocol::finish(&run.sheet, table, Some(run.state), storage, out);
-        return Dialogue {
-            run: None,
-            from: 0,
-            to,
-        };
-    }
-    let fed = protocol::feed(&run.sheet, table, Some(run.state), storage, chunk, out);
-    let next = match fed.next {
-        Some(state) => Some(Started {
-            sheet: run.sheet,
-            state,
-        }),
-        None => None,
-    };
-    Dialogue {
-        run: next,
-        from: 0,
-        to: fed.at,
+    if let Some(run) = &mut d.run {
+        if at_end {
+            d.to = protocol::finish(&run.sheet, table, Some(run.state), storage, out);
+            d.run = None;
+            return;
+        }
+        let fed = protocol::feed(&run.sheet, table, Some(run.state), storage, chunk, out);
+        d.to = fed.at;
+        match fed.next {
+            Some(state) => run.state = state,
+            None => d.run = None,
+        }
     }
 }
 
-// A write took the next n bytes.
-pub fn told(d: Dialogue, n: usize) -> Dialogue
-    requires { d.from + n ≤ d.to }
-    ensures told { Told d n result }
-    ensures left { (result.run ≡ d.run) × (result.from ≡ d.from + n) × (result.to ≡ d.to) }
+// A write took the next n bytes of what was pending from `from` on: where what is pending begins now.
+pub fn told(from: usize, n: usize) -> usize
+    requires { from + n < 2 ^ 64 }
+    ensures told { (d : Dialogue) → d.from ≡ from → from + n ≤ d.to → Told d n (record { run = d.run; from = result; to = d.to }) }
+    ensures left { result ≡ from + n }
 {
-    Dialogue {
-        run: d.run,
-        from: d.from + n,
-        to: d.to,
-    }
+    from + n
 }

@@ -40,14 +40,14 @@ room n buf most out e h = omega (arith, length-take n buf)
 -- ---- a turn
 
 pub write_turn : (d d₁ : Dialogue) (t out buf : List ℕ) (r : Reply) (o : Option End) → d.from < d.to → Wrote d out r d₁
-    → Goes d t out buf (record { reply = r; dialogue = d₁; end = o }) t out (end_of (goes_on r) OutputFailed)
+    → Goes d t out buf (record { reply = r; end = o }) d₁ t out (end_of (goes_on r) OutputFailed)
 write_turn d d₁ t out buf (Moved n) o p w = rw (lt-ltb d.from d.to p) (w t)
 write_turn d d₁ t out buf Interrupted o p w = w t
 write_turn d d₁ t out buf NotReady o p w = w t
 write_turn d d₁ t out buf Failed o p w = λ sheet h talks. (w t sheet h talks, ends-unwritten sheet d t out h talks)
 
 pub read_turn : (d d₁ : Dialogue) (t out t₁ out₁ buf : List ℕ) (r : Reply) (o : Option End) (run : Started) → d.run ≡ Some run → d.to ≤ d.from → Read d t out buf r d₁ t₁ out₁
-    → Goes d t out buf (record { reply = r; dialogue = d₁; end = o }) t₁ out₁ (end_of (goes_on r) InputFailed)
+    → Goes d t out buf (record { reply = r; end = o }) d₁ t₁ out₁ (end_of (goes_on r) InputFailed)
 read_turn d d₁ t out t₁ out₁ buf (Moved n) o run m s w = rw (le-ltb d.from d.to s) w
 read_turn d d₁ t out t₁ out₁ buf Interrupted o run m s w = w
 read_turn d d₁ t out t₁ out₁ buf NotReady o run m s w = w
@@ -56,9 +56,9 @@ read_turn d d₁ t out t₁ out₁ buf Failed o run m s w = λ sheet h talks. (w
 -- ---- the same, where the end is said by an equation
 
 pub wrote_turn : (d d₁ : Dialogue) (t out buf : List ℕ) (r : Reply) (o : Option End) → o ≡ end_of (goes_on r) OutputFailed → d.from < d.to → Wrote d out r d₁
-    → Goes d t out buf (record { reply = r; dialogue = d₁; end = o }) t out o
+    → Goes d t out buf (record { reply = r; end = o }) d₁ t out o
 wrote_turn d d₁ t out buf r o e p w = rw e (write_turn d d₁ t out buf r (end_of (goes_on r) OutputFailed) p w)
 
 pub heard_turn : (d d₁ : Dialogue) (t out t₁ out₁ buf : List ℕ) (r : Reply) (o : Option End) → o ≡ end_of (goes_on r) InputFailed → (run : Started) → d.run ≡ Some run → d.to ≤ d.from
-    → Read d t out buf r d₁ t₁ out₁ → Goes d t out buf (record { reply = r; dialogue = d₁; end = o }) t₁ out₁ o
+    → Read d t out buf r d₁ t₁ out₁ → Goes d t out buf (record { reply = r; end = o }) d₁ t₁ out₁ o
 heard_turn d d₁ t out t₁ out₁ buf r o e run m s w = rw e (read_turn d d₁ t out t₁ out₁ buf r (end_of (goes_on r) InputFailed) run m s w)

@@ -66,9 +66,9 @@ end_of true end = None
 end_of false end = Some end
 
 -- a turn, and how it ends, unless it goes on: by its event, or to the end
-abbrev pub Goes : Dialogue → List ℕ → List ℕ → List ℕ → Turned → List ℕ → List ℕ → Option End → Type 0
-Goes d t out buf r t₁ out₁ None = Steps d t out (event_of d out buf r.reply) r.dialogue t₁ out₁
-Goes d t out buf r t₁ out₁ (Some end) = (sheet : List ℕ) (h : List Event) → Talks sheet d t out h → Talks sheet r.dialogue t₁ out₁ h × Ends sheet h end
+abbrev pub Goes : Dialogue → List ℕ → List ℕ → List ℕ → Turned → Dialogue → List ℕ → List ℕ → Option End → Type 0
+Goes d t out buf r d₁ t₁ out₁ None = Steps d t out (event_of d out buf r.reply) d₁ t₁ out₁
+Goes d t out buf r d₁ t₁ out₁ (Some end) = (sheet : List ℕ) (h : List Event) → Talks sheet d t out h → Talks sheet d₁ t₁ out₁ h × Ends sheet h end
 
 -- from the first call to the end: as many events as calls, which lead to where the talk, the storage and the buffer stand at the end
 abbrev pub Serves : Dialogue → List ℕ → List ℕ → Ended → List ℕ → List ℕ → Type 0

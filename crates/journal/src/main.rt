@@ -4,11 +4,11 @@
 ghost use Rattle.std.specs.Prelude.{◌+◌, ◌*◌, ◌≤◌, ◌≡◌, Some, length};
 ghost use Rattle.dialogue.specs.History.{Served};
 ghost use Rattle.dialogue.specs.Talks.{Within};
+ghost use Rattle.protocol.specs.declared.Started.{Started};
 ghost use Rattle.journal.specs.Turns.{MovesAtMost, Answers, Wrote, Read, goes_on, end_of, Goes, Serves, Added, Gave};
 
 use dialogue::{Dialogue, End, Reply};
 use letter_table::LetterTable;
-use protocol::Started;
 use record::JournalRecord;
 use std::fs::File;
 use std::io;
@@ -21,18 +21,10 @@ struct System {
     error: io::Error,
 }
 
-// What the system said to a call, and where the talk stands after it.
-#[derive(Clone, Copy)]
-struct Called {
-    reply: Reply,
-    dialogue: Dialogue,
-}
-
-// What the system said to the call of a turn, where the talk stands after it, and how it ends, unless it goes on.
+// What the system said to the call of a turn, and how it ends, unless it goes on.
 #[derive(Clone, Copy)]
 struct Turned {
     reply: Reply,
-    dialogue: Dialogue,
     end: Option<End>,
 }
 
@@ -92,54 +84,44 @@ impl System {
 }
 
 // Writes what is pending, or a part of it. A write that took nothing was not ready.
-fn write(system: &mut System, d: Dialogue, out: &[u8]) -> Called
-    requires { Within d out.now }
-    ensures wrote { Wrote d out.now result.reply result.dialogue }
-    ensures within { Within result.dialogue out.now }
+fn write(system: &mut System, d: &mut Dialogue, out: &[u8]) -> Reply
+    requires { Within d.old out.now }
+    ensures wrote { Wrote d.old out.now result d.new }
+    ensures within { Within d.new out.now }
 {
     let reply = system.write(&out[d.from..d.to]);
     match reply {
         Reply::Moved(n) => {
             if n == 0 {
-                return Called {
-                    reply: Reply::NotReady,
-                    dialogue: d,
-                };
+                return Reply::NotReady;
             }
-            let told = dialogue::told(d, n);
-            Called {
-                reply,
-                dialogue: told,
-            }
+            d.from = dialogue::told(d.from, n);
+            reply
         }
-        _ => Called { reply, dialogue: d },
+        _ => reply,
     }
 }
 
 // Reads once, and has what came answered in `out`.
 fn read(
     system: &mut System,
-    run: &Started,
     table: &LetterTable,
-    d: Dialogue,
+    d: &mut Dialogue,
     storage: &mut [u64],
     buf: &mut [u8],
     out: &mut [u8],
-) -> Called
-    requires { (8 * length buf.old + 470 ≤ length out.old) × Within d out.old × (d.run ≡ Some run.now) × (d.to ≤ d.from) }
-    ensures read { Read d storage.old out.old buf.new result.reply result.dialogue storage.new out.new }
-    ensures within { Within result.dialogue out.new }
+) -> Reply
+    requires { (8 * length buf.old + 470 ≤ length out.old) × Within d.old out.old × (d.old.to ≤ d.old.from) }
+    ensures read { (run : Started) → d.old.run ≡ Some run → Read d.old storage.old out.old buf.new result d.new storage.new out.new }
+    ensures within { Within d.new out.new }
 {
     let reply = system.read(buf);
     match reply {
         Reply::Moved(n) => {
-            let heard = dialogue::heard(run, table, storage, &buf[..n], out);
-            Called {
-                reply,
-                dialogue: heard,
-            }
+            dialogue::heard(d, table, storage, &buf[..n], out);
+            reply
         }
-        _ => Called { reply, dialogue: d },
+        _ => reply,
     }
 }
 
@@ -169,36 +151,33 @@ fn end_of(going: bool, end: End) -> Option<End>
 fn turn(
     system: &mut System,
     table: &LetterTable,
-    d: Dialogue,
+    d: &mut Dialogue,
     storage: &mut [u64],
     buf: &mut [u8],
     out: &mut [u8],
 ) -> Turned
-    requires { (8 * length buf.old + 470 ≤ length out.old) × Within d out.old }
-    ensures turned { Goes d storage.old out.old buf.new result storage.new out.new result.end }
-    ensures within { Within result.dialogue out.new }
+    requires { (8 * length buf.old + 470 ≤ length out.old) × Within d.old out.old }
+    ensures turned { Goes d.old storage.old out.old buf.new result d.new storage.new out.new result.end }
+    ensures within { Within d.new out.new }
 {
     if d.from < d.to {
-        let called = write(system, d, out);
-        let going = wait(system, called.reply);
+        let reply = write(system, d, out);
+        let going = wait(system, reply);
         return Turned {
-            reply: called.reply,
-            dialogue: called.dialogue,
+            reply,
             end: end_of(going, End::OutputFailed),
         };
     }
-    if let Some(run) = d.run {
-        let called = read(system, &run, table, d, storage, buf, out);
-        let going = wait(system, called.reply);
+    if let Some(_) = &d.run {
+        let reply = read(system, table, d, storage, buf, out);
+        let going = wait(system, reply);
         return Turned {
-            reply: called.reply,
-            dialogue: called.dialogue,
+            reply,
             end: end_of(going, End::InputFailed),
         };
     }
     Turned {
         reply: Reply::Moved(0),
-        dialogue: d,
         end: Some(End::Whole),
     }
 }
@@ -213,8 +192,7 @@ fn run(system: &mut System, start: Dialogue, storage: &mut [u64], out: &mut [u8]
     let mut buf = [0u8; 8000];
     let mut d = start;
     for calls in 0..u64::MAX {
-        let turned = turn(system, &table, d, storage, &mut buf, out);
-        d = turned.dialogue;
+        let turned = turn(system, &table, &mut d, storage, &mut buf, out);
         if let Some(end) = turned.end {
             return Ended {
                 end,

@@ -3,11 +3,11 @@ use Rattle.journal.proofs.Turning.{unmoved-read}
 use Rattle.journal.proofs.read.Goals as goal
 
 pub returns-in-Moved-clause-read : goal.returns-in-Moved-clause-read
-returns-in-Moved-clause-read c = c.heard-heard.ensures.steps c.args.d c.requires.2 c.requires.3
+returns-in-Moved-clause-read c = λ run wants. c.heard.ensures.steps run wants c.requires.2
 
 pub returns-in_default : goal.returns-in_default
 returns-in_default c =
     record {
-      read = unmoved-read c.args.d c.args.storage.now c.args.out.now _ c.read-reply.result c.in_default.not-Moved;
+      read = λ run wants. unmoved-read c.args.d.now c.args.storage.now c.args.out.now _ c.read-reply.result c.in_default.not-Moved;
       within = c.requires.1;
     }

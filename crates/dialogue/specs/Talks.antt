@@ -1,5 +1,6 @@
 -- For the contracts of inner functions: where the program's talk with the system stands.
-use Rattle.std.specs.Prelude.{◌≡◌, Option, None, Some, true, false, List, [], ◌∷◌, ◌++◌, ℕ, ◌-◌, ◌≤◌, length, take, drop}
+use Rattle.std.specs.Prelude.{◌≡◌, Option, None, Some, IfSome, true, false, List, [], ◌∷◌, ◌++◌, ℕ, ◌-◌, ◌≤◌, length, take, drop}
+use Rattle.line_scan.specs.Scan.{InTable}
 use Rattle.line_end.specs.Printed.{Printed}
 use Rattle.protocol.specs.Machine.{Stands}
 use Rattle.protocol.specs.declared.Started.{Started}
@@ -35,6 +36,10 @@ Steps d t out e d₁ t₁ out₁ = (sheet : List ℕ) (h : List Event) → Talks
 -- a write took the next n bytes, of whatever the buffer holds
 abbrev pub Told : Dialogue → ℕ → Dialogue → Type 0
 Told d n d₁ = (t out : List ℕ) → Steps d t out (went (take n (drop d.from out))) d₁ t out
+
+-- what is kept of the line of a talk that wants more lies in the table
+abbrev pub Wants : Dialogue → Type 0
+Wants d = IfSome d.run (λ r. InTable r.state.pending)
 
 -- what is pending lies in the buffer
 abbrev pub Within : Dialogue → List ℕ → Type 0

@@ -4,7 +4,7 @@
 ghost use Rattle.std.specs.Prelude.{◌+◌, ◌*◌, ◌≤◌, ◌≡◌, ◌<◌, ◌^◌, None, Some, [], length};
 ghost use Rattle.pairs.specs.Storage.{storage_words};
 ghost use Rattle.dialogue.specs.History.{replied, came};
-ghost use Rattle.dialogue.specs.Talks.{Talks, Steps, Told, Within};
+ghost use Rattle.dialogue.specs.Talks.{Talks, Steps, Told, Wants, Within};
 ghost use Rattle.dialogue.specs.declared.Dialogue.{Dialogue};
 ghost use Rattle.protocol.specs.declared.Started.{Started};
 
@@ -64,6 +64,7 @@ pub fn open(sheet: &[u8], storage: &mut [u64], out: &mut [u8]) -> Dialogue
     requires { (storage_words ≤ length storage.old) × (40 ≤ length out.old) }
     ensures talks { Talks sheet.now result storage.new out.new [] }
     ensures within { Within result out.new }
+    ensures wants { Wants result }
 {
     match protocol::start(sheet, storage, out) {
         Ok(run) => Dialogue {
@@ -87,10 +88,11 @@ pub fn heard(
     chunk: &[u8],
     out: &mut [u8],
 )
-    requires { 8 * length chunk.now + 470 ≤ length out.old }
+    requires { (8 * length chunk.now + 470 ≤ length out.old) × Wants d.old }
     ensures steps { (r : Started) → d.old.run ≡ Some r → d.old.to ≤ d.old.from → Steps d.old storage.old out.old (came chunk.now) d.new storage.new out.new }
     ensures over { d.old.run ≡ None → (d.new.run ≡ None) × (d.new.to ≡ d.new.from) × (storage.new ≡ storage.old) }
     ensures within { Within d.new out.new }
+    ensures wants { Wants d.new }
 {
     d.from = 0;
     d.to = 0;

@@ -3,7 +3,7 @@
 
 ghost use Rattle.std.specs.Prelude.{◌+◌, ◌*◌, ◌≤◌, ◌≡◌, Some, length};
 ghost use Rattle.dialogue.specs.History.{Served};
-ghost use Rattle.dialogue.specs.Talks.{Within};
+ghost use Rattle.dialogue.specs.Talks.{Wants, Within};
 ghost use Rattle.protocol.specs.declared.Started.{Started};
 ghost use Rattle.journal.specs.Turns.{MovesAtMost, Answers, Wrote, Read, goes_on, end_of, Goes, Serves, Added, Gave};
 
@@ -87,7 +87,7 @@ impl System {
 fn write(system: &mut System, d: &mut Dialogue, out: &[u8]) -> Reply
     requires { Within d.old out.now }
     ensures wrote { Wrote d.old out.now result d.new }
-    ensures within { Within d.new out.now }
+    ensures within { Within d.new out.now × (d.new.run ≡ d.old.run) }
 {
     let reply = system.write(&out[d.from..d.to]);
     match reply {
@@ -111,9 +111,10 @@ fn read(
     buf: &mut [u8],
     out: &mut [u8],
 ) -> Reply
-    requires { (8 * length buf.old + 470 ≤ length out.old) × Within d.old out.old × (d.old.to ≤ d.old.from) }
+    requires { (8 * length buf.old + 470 ≤ length out.old) × Within d.old out.old × Wants d.old × (d.old.to ≤ d.old.from) }
     ensures read { (run : Started) → d.old.run ≡ Some run → Read d.old storage.old out.old buf.new result d.new storage.new out.new }
     ensures within { Within d.new out.new }
+    ensures wants { Wants d.new }
 {
     let reply = system.read(buf);
     match reply {
@@ -156,9 +157,10 @@ fn turn(
     buf: &mut [u8],
     out: &mut [u8],
 ) -> Turned
-    requires { (8 * length buf.old + 470 ≤ length out.old) × Within d.old out.old }
+    requires { (8 * length buf.old + 470 ≤ length out.old) × Within d.old out.old × Wants d.old }
     ensures turned { Goes d.old storage.old out.old buf.new result d.new storage.new out.new result.end }
     ensures within { Within d.new out.new }
+    ensures wants { Wants d.new }
 {
     if d.from < d.to {
         let reply = write(system, d, out);
@@ -184,7 +186,7 @@ fn turn(
 
 // All turns. A proved loop has to end, and nothing says that the input does, so the calls are counted.
 fn run(system: &mut System, start: Dialogue, storage: &mut [u64], out: &mut [u8]) -> Ended
-    requires { (64470 ≤ length out.old) × Within start out.old }
+    requires { (64470 ≤ length out.old) × Within start out.old × Wants start }
     ensures { Serves start storage.old out.old result storage.new out.new }
 {
     let sets = letter_table::sets();

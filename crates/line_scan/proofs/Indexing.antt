@@ -17,6 +17,7 @@ use Rattle.words.proofs.FromBits.{from-bit, from_lt, from_word}
 use Rattle.letter_table.specs.Entry.{matches_digits, entry_of}
 use Rattle.line_scan.specs.Lines.{is_mark, all_marks, fits}
 use Rattle.line_scan.specs.Index.{mark_digit, index_of, EntryOfMarks}
+use Rattle.line_scan.specs.Scan.{Indexed}
 use Rattle.line_scan.specs.declared.kept.Alternatives.{Alternatives}
 use Rattle.line_scan.proofs.Fitting.{suits, mark_cases}
 
@@ -104,19 +105,20 @@ power_le zero (suc n) h = omega (arith, power_le zero n (omega arith), pow-suc 3
 power_le (suc k) zero h = absurd (omega arith)
 power_le (suc k) (suc n) h = omega (arith, power_le k n (omega arith), pow-suc 3 k, pow-suc 3 n)
 
-pub in_table : (q : Alternatives) → q.index < 729
-in_table q = omega (arith, power_le q.count 6 q.few, q.power, q.below)
+pub in_table : (q : Alternatives) → Indexed q → q.index < 729
+in_table q h = omega (arith, power_le q.count 6 h.few, h.place, h.below)
 
 -- a mark more
-module _ (q : Alternatives) (few : q.count < 6) (b : ℕ) where
-  pub place_le : q.place ≤ 243
-  place_le = omega (arith, power_le q.count 5 (omega arith), q.power)
+module _ (q : Alternatives) (h : Indexed q) (few : q.count < 6) (b : ℕ) where
+  pub place-le : q.place ≤ 243
+  place-le = omega (arith, power_le q.count 5 (omega arith), h.place)
 
-  pub digit_place : mark_digit b * q.place ≤ 2 * q.place
-  digit_place = mul-le-mul_right q.place (digit_le b)
+  pub digit-place : mark_digit b * q.place ≤ 2 * q.place
+  digit-place = mul-le-mul_right q.place (digit_le b)
 
-  pub next_power : 3 * q.place ≡ 3 ^ (q.count + 1)
-  next_power = ap (λ (z : ℕ). 3 * z) q.power ∙ mul_comm 3 (3 ^ q.count) ∙ sym (pow-suc 3 q.count) ∙ ap (λ (k : ℕ). 3 ^ k) (sym (add-one q.count))
-
-  pub still_below : q.index + mark_digit b * q.place < 3 * q.place
-  still_below = omega (arith, digit_place, q.below)
+  pub still-indexed : (r : Alternatives) → r.count ≡ q.count + 1 → r.index ≡ q.index + mark_digit b * q.place → r.place ≡ 3 * q.place → Indexed r
+  still-indexed r c i p = record {
+    few = omega arith;
+    place = p ∙ ap (λ (z : ℕ). 3 * z) h.place ∙ mul_comm 3 (3 ^ q.count) ∙ sym (pow-suc 3 q.count) ∙ ap (λ (k : ℕ). 3 ^ k) (sym (add-one q.count) ∙ sym c);
+    below = omega (arith, digit-place, h.below);
+  }

@@ -17,7 +17,7 @@ use Rattle.words.proofs.FromBits.{from_or, from_word}
 use Rattle.letter_table.specs.Entry.{entry_of}
 use Rattle.line_scan.specs.Lines.{is_mark, all_marks, alternatives_from, alternatives, whole, all_whole, fits, fits_one, is_dot, malformed, read_line}
 use Rattle.line_scan.specs.Index.{mark_digit, index_of}
-use Rattle.line_scan.specs.Scan.{IsFresh, joined, Parted, Marked, Spoiled}
+use Rattle.line_scan.specs.Scan.{no_marks, joined, Parted, Marked, Spoiled}
 use Rattle.line_scan.specs.declared.kept.Alternatives.{Alternatives}
 use Rattle.line_scan.proofs.Fitting.{one-more-fits}
 use Rattle.line_scan.proofs.Indexing.{index-more, entry_of-marks}
@@ -122,18 +122,18 @@ none-marked : all_marks [] ≡ true
 unfolding all_marks
 none-marked = refl
 
-pub none_parted : (m : ℕ) (r : Alternatives) → IsFresh 0 r → Parted m [] r
+pub none-parted : (m : ℕ) → Parted m [] (no_marks 0)
 unfolding all_whole fits_one index_of
-none_parted m r f = record {
+none-parted m = record {
   done = [];
   last = [];
   splits = λ rest. refl;
   whole = refl;
   marks = none-marked;
   few = omega arith;
-  set = f.set ∙ no_letters m;
-  count = f.count;
-  index = f.index;
+  set = no_letters m;
+  count = refl;
+  index = refl;
 }
 
 -- the set of all of them, if the last is whole too
@@ -175,9 +175,9 @@ module _ (m : ℕ) (part : List ℕ) (b : ℕ) where
     marked r p = record { some = omega (arith, long part b []); no_dot = not_dot part b [] dot; parted = p }
 
     -- a bar behind m marks
-    pub bar : (r : Alternatives) → m ≤ 6 → b ≡ 124 → q.count ≡ m → IsFresh (joined q) r → Marked m (part ++ b ∷ []) r
+    pub bar : m ≤ 6 → b ≡ 124 → q.count ≡ m → Marked m (part ++ b ∷ []) (no_marks (joined q))
     unfolding index_of
-    bar r low e n f = marked r (record {
+    bar low e n = marked _ (record {
       done = h.done ++ h.last ∷ [];
       last = [];
       splits = λ rest.
@@ -186,9 +186,9 @@ module _ (m : ℕ) (part : List ℕ) (b : ℕ) where
       whole = all_whole_lem m h.done h.last h.whole (sym h.count ∙ n) h.marks;
       marks = none-marked;
       few = omega arith;
-      set = f.set ∙ joined-set m part q h low n;
-      count = f.count;
-      index = f.index;
+      set = joined-set m part q h low n;
+      count = refl;
+      index = refl;
     })
 
     -- a mark

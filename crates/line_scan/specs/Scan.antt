@@ -9,11 +9,21 @@ use Rattle.line_scan.specs.declared.kept.Alternatives.{Alternatives}
 use Rattle.line_scan.specs.declared.Pending.{Pending}
 use Rattle.line_scan.specs.declared.Pending.TheVariants.{Blank, Marks, Dot, Malformed}
 
+-- the alternative at hand has at most six marks, a digit of the next one counts `place`, and the index is smaller: it lies in the table
+pub record Indexed (q : Alternatives) : Type 0 where
+  pub few : q.count ≤ 6
+  pub place : q.place ≡ 3 ^ q.count
+  pub below : q.index < q.place
+
+abbrev pub InTable : Pending → Type 0
+InTable Blank = Unit {0}
+InTable (Marks q) = Indexed q
+InTable Dot = Unit {0}
+InTable Malformed = Unit {0}
+
 -- no mark of an alternative has come, behind alternatives with this set
-pub record IsFresh (letters : ℕ) (q : Alternatives) : Type 0 where
-  pub set : q.set ≡ letters
-  pub count : q.count ≡ 0
-  pub index : q.index ≡ 0
+abbrev pub no_marks : ℕ → Alternatives
+no_marks set = record { set = set; count = 0; index = 0; place = 1 }
 
 -- the set of the alternatives that a bar ended, joined with the entry of the one at hand
 abbrev pub joined : Alternatives → ℕ

@@ -1,5 +1,5 @@
-// What the marks and bars of a line come to. The types stand apart from the functions, since the definitions that these cite name them.
-ghost use Rattle.std.specs.Prelude.{◌≡◌, ◌^◌, ◌≤◌, ◌<◌};
+// What the marks and bars of a line come to, and what a line is read by.
+ghost use Rattle.std.specs.Prelude.{◌≤◌};
 
 use letter_table::LetterTable;
 
@@ -12,14 +12,11 @@ pub struct Lookup<'a> {
 }
 
 // The letters that fit one of the alternatives that a bar ended. Of the one at hand: how many marks it has, their index in the table of letter
-// sets, and what a digit of the next mark counts there.
+// sets, and what a digit of the next mark counts there, 3 to the number of marks.
 #[derive(Clone, Copy)]
 pub struct Alternatives {
     pub set: u64,
     pub count: u8,
     pub index: u16,
     pub place: u16,
-    pub ghost few: { count ≤ 6 },
-    pub ghost power: { place ≡ 3 ^ count },
-    pub ghost below: { index < place },
 }

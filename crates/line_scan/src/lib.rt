@@ -4,7 +4,7 @@
 ghost use Rattle.std.specs.Prelude.{◌≡◌, true, false, List, [], ◌∷◌, ◌++◌, ℕ, ◌≤◌, ◌<◌, length};
 ghost use Rattle.line_scan.specs.Lines.{is_mark, read_line, all_letters, asked};
 ghost use Rattle.line_scan.specs.Index.{mark_digit};
-ghost use Rattle.line_scan.specs.Scan.{IsFresh, joined, Parted, Marked, Scanned};
+ghost use Rattle.line_scan.specs.Scan.{Indexed, InTable, no_marks, joined, Parted, Marked, Scanned};
 ghost use Rattle.line_scan.specs.Meaning.{line_of};
 
 mod kept; // kept.rt: what is kept of a line's alternatives
@@ -49,7 +49,8 @@ fn mark_digit(b: u8) -> u16
 impl Alternatives {
     // No byte of an alternative has come; of the alternatives before it, this is the set.
     fn after(set: u64) -> Alternatives
-        ensures { IsFresh set result }
+        ensures fields { result ≡ no_marks set }
+        ensures indexed { Indexed result }
     {
         Alternatives {
             set,
@@ -61,8 +62,9 @@ impl Alternatives {
 
     // One mark more.
     fn mark(self, b: u8) -> Pending
-        requires { self.count < 6 }
-        ensures { (m : ℕ) (part : List ℕ) → self.count < m → (b ≡ 124 → ⊥) → (length part ≡ 0 → b ≡ 46 → ⊥) → Parted m part self → Scanned m (part ++ b ∷ []) result }
+        requires { Indexed self × (self.count < 6) }
+        ensures scanned { (m : ℕ) (part : List ℕ) → self.count < m → (b ≡ 124 → ⊥) → (length part ≡ 0 → b ≡ 46 → ⊥) → Parted m part self → Scanned m (part ++ b ∷ []) result }
+        ensures in_table { InTable result }
     {
         if !is_mark(b) {
             return Pending::Malformed;
@@ -78,7 +80,9 @@ impl Alternatives {
 
     // One byte more.
     fn byte(self, by: Lookup, b: u8) -> Pending
-        ensures { (part : List ℕ) → (length part ≡ 0 → b ≡ 46 → ⊥) → Parted by.entry.inputs part self → Scanned by.entry.inputs (part ++ b ∷ []) result }
+        requires { Indexed self }
+        ensures scanned { (part : List ℕ) → (length part ≡ 0 → b ≡ 46 → ⊥) → Parted by.entry.inputs part self → Scanned by.entry.inputs (part ++ b ∷ []) result }
+        ensures in_table { InTable result }
     {
         if b == b'|' {
             if self.count != by.inputs {
@@ -94,6 +98,7 @@ impl Alternatives {
 
     // The set of all alternatives so far, that of the one at hand being looked up.
     fn line_set(self, by: Lookup) -> u64
+        requires { Indexed self }
         ensures { result ≡ joined self }
     {
         self.set | by.table.entry(usize::from(self.index))
@@ -101,6 +106,7 @@ impl Alternatives {
 
     // The line ends here: it stands for a round, or is too short for one behind its last bar.
     fn ended(self, by: Lookup) -> Meaning
+        requires { Indexed self }
         ensures { (part : List ℕ) → Marked by.entry.inputs part self → read_line by.entry.inputs part ≡ line_of result }
     {
         if self.count != by.inputs {
@@ -133,7 +139,8 @@ impl Meaning {
 
 impl Pending {
     pub fn empty() -> Pending
-        ensures { (m : ℕ) → Scanned m [] result }
+        ensures scanned { (m : ℕ) → Scanned m [] result }
+        ensures in_table { InTable result }
     {
         Pending::Blank
     }
@@ -148,7 +155,9 @@ impl Pending {
 
     // One byte more.
     pub fn scan(self, by: Lookup, b: u8) -> Pending
-        ensures { (part : List ℕ) → Scanned by.entry.inputs part self → Scanned by.entry.inputs (part ++ b ∷ []) result }
+        requires { InTable self }
+        ensures scanned { (part : List ℕ) → Scanned by.entry.inputs part self → Scanned by.entry.inputs (part ++ b ∷ []) result }
+        ensures in_table { InTable result }
     {
         match self {
             Pending::Blank if b == b'.' => Pending::Dot,
@@ -161,6 +170,7 @@ impl Pending {
 
     // The line ends here.
     fn ended(self, by: Lookup) -> Meaning
+        requires { InTable self }
         ensures { (part : List ℕ) → Scanned by.entry.inputs part self → read_line by.entry.inputs part ≡ line_of result }
     {
         match self {
@@ -173,6 +183,7 @@ impl Pending {
 
     // What the line asks of a journal that is closed or not if it ends here.
     pub fn asked(self, by: Lookup, closed: bool) -> Meaning
+        requires { InTable self }
         ensures { (part : List ℕ) → Scanned by.entry.inputs part self → asked by.entry.inputs closed (read_line by.entry.inputs part) ≡ line_of result }
     {
         self.ended(by).asked(by.inputs, closed)

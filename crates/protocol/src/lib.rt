@@ -1,8 +1,9 @@
 // The line protocol of the journal program.
 #![tactic(auto)]
 
-ghost use Rattle.std.specs.Prelude.{◌+◌, ◌*◌, ◌≤◌, IfErr, Some, length, take};
+ghost use Rattle.std.specs.Prelude.{◌+◌, ◌*◌, ◌≤◌, IfErr, IfOk, IfSome, Some, length, take};
 ghost use Rattle.pairs.specs.Storage.{storage_words};
+ghost use Rattle.line_scan.specs.Scan.{InTable};
 ghost use Rattle.protocol.specs.Machine.{Begun, Goes, Finishes};
 
 use letter_table::LetterTable;
@@ -35,6 +36,7 @@ pub fn start(sheet: &[u8], storage: &mut [u64], out: &mut [u8]) -> Result<Starte
     requires { (storage_words ≤ length storage.old) × (40 ≤ length out.old) }
     ensures begun { Begun sheet.now result storage.new out.new }
     ensures bound { IfErr result (λ at. at ≤ length out.new) }
+    ensures in_table { IfOk result (λ started. InTable started.state.pending) }
 {
     match circular::accept_sheet(sheet) {
         Err(e) => Err(text::sheet_refusal(out, 0, e)),
@@ -64,9 +66,10 @@ fn feed_running(
     chunk: &[u8],
     out: &mut [u8],
 ) -> Fed
-    requires { 8 * length chunk.now + 462 ≤ length out.old }
+    requires { (8 * length chunk.now + 462 ≤ length out.old) × InTable s.pending }
     ensures goes { Goes x.now.sheet (Some s) storage.old chunk.now result.next storage.new (take result.at out.new) }
     ensures bound { result.at ≤ length out.new }
+    ensures in_table { IfSome result.next (λ running. InTable running.pending) }
 {
     let by = Lookup {
         table: *table,
@@ -105,9 +108,10 @@ pub fn feed(
     chunk: &[u8],
     out: &mut [u8],
 ) -> Fed
-    requires { 8 * length chunk.now + 462 ≤ length out.old }
+    requires { (8 * length chunk.now + 462 ≤ length out.old) × IfSome s (λ running. InTable running.pending) }
     ensures goes { Goes x.now.sheet s storage.old chunk.now result.next storage.new (take result.at out.new) }
     ensures bound { result.at ≤ length out.new }
+    ensures in_table { IfSome result.next (λ running. InTable running.pending) }
 {
     match s {
         Some(running) => feed_running(x, table, running, storage, chunk, out),
@@ -123,7 +127,7 @@ fn finish_running(
     storage: &mut [u64],
     out: &mut [u8],
 ) -> usize
-    requires { 470 ≤ length out.old }
+    requires { (470 ≤ length out.old) × InTable s.pending }
     ensures finishes { Finishes x.now.sheet (Some s) storage.old (take result out.new) }
     ensures bound { result ≤ length out.new }
 {
@@ -147,7 +151,7 @@ pub fn finish(
     storage: &mut [u64],
     out: &mut [u8],
 ) -> usize
-    requires { 470 ≤ length out.old }
+    requires { (470 ≤ length out.old) × IfSome s (λ running. InTable running.pending) }
     ensures finishes { Finishes x.now.sheet s storage.old (take result out.new) }
     ensures bound { result ≤ length out.new }
 {

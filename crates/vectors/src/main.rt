@@ -7,6 +7,7 @@
 
 ghost use Rattle.std.specs.Prelude.{◌+◌, ◌≤◌, ◌<◌, IfSome, length};
 ghost use Rattle.pairs.specs.Storage.{storage_words};
+ghost use Rattle.line_scan.specs.Scan.{InTable};
 
 use letter_table::LetterTable;
 use protocol::Started;
@@ -71,7 +72,7 @@ fn play(
     session: &[u8],
     out: &mut [u8],
 )
-    requires { 600 ≤ length out.old }
+    requires { (600 ≤ length out.old) × InTable run.now.state.pending }
 {
     let mut state = Some(run.state);
     let mut at = 0;

@@ -15,4 +15,4 @@ returns-else-n-eq0-clause-wrote c =
 
 pub returns-in_default : goal.returns-in_default
 returns-in_default c =
-    record { wrote = unmoved_write c.args.d.now c.args.out.now c.write-reply.result c.in_default.not-Moved; within = c.requires }
+    record { wrote = unmoved_write c.args.d.now c.args.out.now c.write-reply.result c.in_default.not-Moved; within = (c.requires, refl) }

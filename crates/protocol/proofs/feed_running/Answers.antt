@@ -8,7 +8,8 @@ loop-b-preserved-then-b-line_feed c = record {
   room = omega (arith, c.loop-b.invariant.room);
   way = λ sheet seen wrote o m.
       rw (seen_more seen c.args.chunk.now c.loop-b.b-index c.loop-b-test.true)
-      (byte_more sheet _ _ _ _ _ _ (c.loop-b.invariant.way sheet seen wrote o m) _ _ c.if-b-line_feed.true c.scan-pending.ensures);
+      (byte_more sheet _ _ _ _ _ _ (c.loop-b.invariant.way sheet seen wrote o m) _ _ c.if-b-line_feed.true c.scan-pending.ensures.scanned);
+  in_table = c.scan-pending.ensures.in_table;
 }
 
 pub returns-in_default-clause-goes : goal.returns-in_default-clause-goes
@@ -30,5 +31,6 @@ loop-b-preserved c = record {
       let m = c.loop-b.invariant.way sheet seen wrote o k in
       let le = c.line_end-e.ensures.ended sheet m.book m.part o m.serves (c.asked-meaning.ensures m.part m.scanned) in
       rw (seen_more seen c.args.chunk.now c.loop-b.b-index c.loop-b-test.true, wrote-more wrote _ _ le.text _ _ le.wrote)
-      (line-more sheet _ _ _ _ _ _ m _ _ _ _ _ le _ _ _ c.if-b-line_feed.false c.in-Some.is (c.empty-pending.ensures _));
+      (line-more sheet _ _ _ _ _ _ m _ _ _ _ _ le _ _ _ c.if-b-line_feed.false c.in-Some.is (c.empty-pending.ensures.scanned _));
+  in_table = c.empty-pending.ensures.in_table;
 }

@@ -13,5 +13,5 @@ returns-in-Ok-clause-begun c =
       accepts = acc;
       stage = midway_start c.args.sheet.now c.in-Ok.x _ _ acc
           (serves-prepared c.args.sheet.now c.in-Ok.x acc _ _ c.prepare_on-prepared.result c.requires.0 (c.prepare_on-prepared.ensures c.args.sheet.now acc))
-          (c.empty.ensures _);
+          (c.empty.ensures.scanned _);
     }
